@@ -28,7 +28,7 @@ tree() {
     cp -r "$top/snmp" "$top/tools" "$tree"
     cp "$top/tests/is-current" "$tree/tests"
     local part parts='gate.sh program.sh install.sh operator.sh sessions.py random_walks.py network.py attack.py heap.py
-        room.py modules.py edge.py users.py fleet.py'
+        modules.py edge.py users.py fleet.py'
     # The gate with these parts of tests/, whichever others it has.
     awk -v parts=" $(echo $parts) " '
         /^part tests\// { name = $2; sub("tests/", "", name); if (!index(parts, " " name " ")) next }
@@ -207,7 +207,7 @@ echo 'of a file' >"$tree/f.txt"
 TMPDIR="$got/t:m p" in_tree ./snmp snmpwalk --mib f.txt --table=/dev/stdin .1 <<<'of the input' >"$got/out"
 same 'an unproved run: its status' 3 $?
 same 'an unproved run: what it prints' \
-    "snmp: unproved run from the sources, one to two minutes each time; ./snmp --build proves and builds the program \
+    "snmp: unproved run from the sources, in about a minute and a half each time; ./snmp --build proves and builds the program \
 once, in half an hour to an hour
 Usage: snmp [OPTIONS]
 of the input
@@ -217,9 +217,6 @@ f.txt: bad
 --table=/dev/stdin: bad
 .1: bad" "$(cat "$got/out")"
 same 'an unproved run: of all sources' 'try snmp' "$(sed -n 's/ begins$//p' "$CALLS")"
-mkdir "$tree/crates/snmp_bare"
-in_tree ./snmp snmpget table:f.txt >"$got/out"
-same 'an unproved run: without --mib' 'try snmp_bare' "$(sed -n 's/ begins$//p' "$CALLS" | tail -n 1)"
 
 # -- the gate
 
@@ -233,13 +230,13 @@ gate() { in_tree ./.ci/run >"$got/out"; echo "$? $(tail -n "${lines:-1}" "$got/o
 part() { printf '%s\n' '#!/bin/sh' "$@" >"$tree/tests/network.py"; }
 
 tree
-same 'a gate whose parts pass' '0 20 passed, 0 failed, 0 skipped' "$(gate)"
+same 'a gate whose parts pass' '0 19 passed, 0 failed, 0 skipped' "$(gate)"
 current 'a program of a fresh clone after the gate' 0 ''
-same 'a gate that runs again' '0 20 passed, 0 failed, 0 skipped' "$(gate)"
+same 'a gate that runs again' '0 19 passed, 0 failed, 0 skipped' "$(gate)"
 tree
 built
 echo 'another' >>"$tree/crates/low/src/lib.rt"
-same 'a gate over an edit' '0 20 passed, 0 failed, 0 skipped' "$(gate)"
+same 'a gate over an edit' '0 19 passed, 0 failed, 0 skipped' "$(gate)"
 current 'a program after an edit and the gate' 0 ''
 tree
 same 'a gate during which a source is edited' \
@@ -273,7 +270,7 @@ fails 'a part that does not end' 'not done after 8 seconds' '12 passed, 1 failed
 unset PART_SECONDS
 part 'echo "not tried: zsh: no zsh here" >&2' 'echo "0 passed, 0 failed, 2 skipped"'
 same 'a part that skips all with a reason' \
-    '0  Not tried here: tests/network.py: zsh: no zsh here 19 passed, 0 failed, 2 skipped' "$(lines=4 gate)"
+    '0  Not tried here: tests/network.py: zsh: no zsh here 18 passed, 0 failed, 2 skipped' "$(lines=4 gate)"
 part 'echo "1 passed, 0 failed, 0 skipped"'
 sed -i '1s/.*/#!\/nowhere\/python3/' "$tree/tests/network.py"
 same 'a part that cannot run' 1 "$(gate | cut -d ' ' -f 1)"
@@ -295,7 +292,7 @@ echo 'another' >>"$tree/crates/low/src/lib.rt"
 none 'an rt ci that leaves programs of other sources'
 tree
 gate >"$got/last"
-same 'an rt ci that leaves programs of these sources' '0 16 passed, 0 failed, 0 skipped' "$(RT_DOES=$nothing gate)"
+same 'an rt ci that leaves programs of these sources' '0 15 passed, 0 failed, 0 skipped' "$(RT_DOES=$nothing gate)"
 tree
 printf '%s\n' '#!/bin/sh' 'echo "12 crates are as their edits were tried"; exit 1' >"$tree/tests/edits.py"
 same 'edits that are missing' '1 FAILED: tests/edits.py: edits are missing 0 passed, 1 failed, 0 skipped' \
@@ -309,7 +306,7 @@ untried() {
 untried 2 'echo "7 passed, 0 failed, 0 skipped"'
 gate >"$got/last"
 same 'edits that were not tried over what stands here are tried' 'mid low' "$(grep -x 'mid low' "$CALLS")"
-same 'edits that are tried and refused' '0 27 passed, 0 failed, 0 skipped' "$(gate)"
+same 'edits that are tried and refused' '0 26 passed, 0 failed, 0 skipped' "$(gate)"
 untried 2 'echo "6 passed, 1 failed, 0 skipped"; exit 1'
 same 'edits that are tried and proved' '1 FAILED: tests/edits.py: status 1, and 1 tests failed' \
     "$(lines=2 gate | cut -d ' ' -f -9)"

@@ -7,10 +7,9 @@ usage: heap.py [WORD..]
 Each run has its whole answer, or is refused, and what was to be changed is as it was; each block that it took is given
 back. Of a command line that is refused, what is written is whole lines from the beginning of its text, and 'Out of
 memory.' with status 1 (or that of an agent's error). Where no request was refused, the answer is the whole one, with
-the message of its own reason; so it is where one was that can't end the call: memory for rows that are gathered, to give
-room back, or where that was made once more. Of calls that ask for no memory the requests are counted, and of snmpd as it
-serves. Tests run whose titles have one of the words; without words, all. The last line is 'N passed, M failed,
-K skipped'.
+the message of its own reason; so it is where one was that can't end the call: memory for rows that are gathered, or
+where that was made once more. Of calls that ask for no memory the requests are counted, and of snmpd as it serves.
+Tests run whose titles have one of the words; without words, all. The last line is 'N passed, M failed, K skipped'.
 
 Catches, in wrong programs that prove as well: half a line where memory runs out; a beginning of the lines at status 0,
 or without a message; a line that is left out; a block that is kept; 'Out of memory.' where no request was refused; a
@@ -33,17 +32,16 @@ from lib.texts import NO_OBJECT, dotted
 
 tests = Tests("tests/heap.py")
 test = tests.test
-heap = Heap("heap")
+heap = Heap()
 
 
-def judged(words, is_whole, is_refused, keeps=False, spared=0, reads=0, between=-1):
+def judged(words, is_whole, is_refused, keeps=False, spared=0, between=-1):
     """What is wrong with the answers of a program, whose status, output and messages these are told; the second is told
     first whether one request was refused `alone`, or `later` ones too. Where requests are spared, none of the last, so
     many at least, ends it alone: until then it is refused, but for one request perhaps of those for its words. Where it
-    reads by so many requests first, those come after them, and don't end it together either. Where it makes two marks,
-    so many requests come between them."""
+    makes two marks, so many requests come between them."""
     ran = heap.run(words)
-    wrong, refusals, wholes, last_refused, last_whole, last_later = [], 0, 0, 0, 0, 0
+    wrong, refusals, wholes, last_refused, last_whole = [], 0, 0, 0, 0
     for line in ran.output.splitlines():
         how, *numbers, output, said = line.split(" ")
         times, first, last, status, kept, came = (int(number) for number in numbers)
@@ -54,8 +52,6 @@ def judged(words, is_whole, is_refused, keeps=False, spared=0, reads=0, between=
             wrong.append(f"{how}, {times} times from the {first}. request on, {kept} blocks kept: {str(answer)[:300]}")
         if how == "none" and came != between:
             wrong.append(f"{came} requests between two marks, not {between}; -1 stands for no marks")
-        if how == "later" and not whole:
-            last_later = max(last, last_later)
         if how == "alone" and whole:
             wholes, last_whole = wholes + times, max(last, last_whole)
         elif how == "alone":
@@ -63,10 +59,8 @@ def judged(words, is_whole, is_refused, keeps=False, spared=0, reads=0, between=
     if ran.status != 0 or ran.messages or refusals == 0:
         wrong.append(f"status {ran.status}, {ran.messages!r}, {refusals} runs were refused memory")
     late = last_whole - last_refused
-    if spared and (last_whole - max(last_refused, reads) < spared or wholes > late + 1):
+    if spared and (late < spared or wholes > late + 1):
         wrong.append(f"alone, whole at {wholes} requests, and {late} of these after the last at which it is refused")
-    if reads and last_later > reads:
-        wrong.append(f"refused where the {last_later}. request is, and those after it, but {reads} are for the reading")
     return wrongs(*wrong[:5])
 
 
@@ -96,12 +90,6 @@ def checked(title, check, a, b, whole, **how_many):
     refused = {"alone": [(1, "", "")], "later": [(1, "", ""), (3, "", "")]}
     return judged([programs.CHECKS, check, *files], lambda *answer: answer == (0, whole, ""),
                   lambda how, *answer: answer in refused[how], **how_many)
-
-
-def asked_in(check, a, b):
-    """How many requests a check of heap_checks makes."""
-    ran = heap.run([programs.CHECKS, check, *(heap.put(f"asked_in_{check}.{i}", it) for i, it in enumerate([a, b]))])
-    return next(int(line.split(" ")[2]) - 1 for line in ran.output.splitlines() if line.startswith("none "))
 
 
 def calls(title, check, a, b, whole, **how_many):
@@ -143,18 +131,6 @@ LONG = b"a string of 43 octets, more than in a place"
 calls("Table::put of a long value", "put_long", TABLE, ASKED, shown({**ROWS, E + (1, 5, 0): text(LONG)}))
 calls("Table::put of a long value in place of another", "put_long", IN_PLACE, ASKED,
       shown({**ROWS, E + (1, 5, 0): text(LONG)}))
-
-
-# Each page gives room back more than once as its rows are removed. The requests for that come after those by which the
-# table is read.
-@test("Table::remove, with each request for memory refused")
-def removing():
-    full = {E + (1, i, 0): integer(i) for i in range(1, 301)}
-    table = "".join(f"{dotted(name)}|2|{name[-2]}\n" for name in full).encode()
-    asked = message(BULK, 1, [(E, NULL)], 0, 10)
-    stay = {name: value for name, value in full.items() if name[-2] in (64, 128, 192, 256, 300)}
-    reply = served(stay, read(asked)).decode(errors="replace")
-    return checked("Table::remove", "remove", table, asked, reply, spared=10, reads=asked_in("table", table, asked))
 
 
 GIVEN = "".join(f"{dotted(name)}\n{name[-2]}\n" for name in ROWS)
@@ -212,6 +188,10 @@ for title, request in {
         "answer to no message": NO_MESSAGE}.items():
     free_calls(title, "free_answer", FREE_TABLE, request, "" if request == NO_MESSAGE else
                replied(FREE, read(request), 1472).decode(errors="replace"))
+# Of three pages one loses all of its rows, and each other all but one.
+IN_BULK = message(BULK, 1, [(E, NULL)], 0, 10)
+free_calls("Table::remove", "free_remove", "".join(f"{dotted(E)}.1.{i}.0|2|{i}\n" for i in range(1, 301)).encode(),
+           IN_BULK, served({E + (1, i, 0): integer(i) for i in (150, 300)}, read(IN_BULK)).decode(errors="replace"))
 free_calls("run_walk by GetNext over a link with memory reserved", "free_walk", TABLE, f"{dotted(E)}.1".encode(), GIVEN)
 free_calls("run_walk by GetBulk over a link with memory reserved", "free_bulk_walk", TABLE, f"{dotted(E)}.1".encode(),
            GIVEN)
@@ -239,7 +219,7 @@ for hint, kind in {b"2d-1d-1d,1d:1d:1d.1d,1a1d:1d": "of octets", b"*1x:" * 200: 
 # Requests of each kind, of none, and ones that have no reply; long ones too. The turns that are left bring nothing.
 @test("snmpd asks for no memory as it serves")
 def serving_is_free():
-    counting, wrong = Heap("heap"), []
+    counting, wrong = Heap(), []
     counting.make("-DCOUNTS")
     names = [R, *AGENT_ROWS, E + (10,)]
     dropped = [b"", NO_MESSAGE, message(GET, 1, [(name, NULL) for name in names], community=b"other")]

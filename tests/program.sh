@@ -1,6 +1,6 @@
 #!/usr/bin/env bash
 # Runs the built program on a table of words, and compares what it wrote to its output and to its error
-# output, and its status, with what must come. Words without --mib are run by snmp_bare too.
+# output, and its status, with what must come.
 #
 #   tests/program.sh [WORD..]     runs the tests whose titles, most of which are the words of a command line,
 #                                 contain one of the words; without words, all
@@ -8,10 +8,9 @@
 # The last line is 'N passed, M failed, K skipped'.
 # shellcheck disable=SC2086  # words are split on purpose
 . "$(dirname "${BASH_SOURCE[0]}")/lib/tests.sh"
-are_current snmp snmp_bare
+are_current snmp
 cd "$top/tests/data" || exit 1
 program=$top/crates/snmp/out/snmp
-bare=$top/crates/snmp_bare/out/snmp_bare
 
 # Texts are whole but for their last newline, which must come where the text isn't empty. Where a text
 # ends in ..., it need only begin as it does before that.
@@ -34,26 +33,19 @@ holds() {
 # expect STATUS OUTPUT MESSAGES WORD..; with `target` or `errors` before it, output or messages go there, and
 # with `limit` the program may take so many kibibytes of memory, and with `stack` of stack.
 expect() {
-    writes "$program" "$@"
-    case " ${*:4}" in *' --mib'*) ;; *) writes "$bare" "$@" ;; esac
-}
-
-# writes PROGRAM STATUS OUTPUT MESSAGES WORD..: the program does, but for its own name.
-writes() {
-    local run=$1 status=$2 output=$3 messages=$4 title ended wrote said
-    shift 4
-    title="${run##*/} $*"
+    local status=$1 output=$2 messages=$3 title="snmp ${*:4}" ended wrote said
+    shift 3
     chosen "$title" || return 0
     : >"$got/out"
     : >"$got/err"
     (
         [ -z "${limit:-}" ] || ulimit -v "$limit"
         [ -z "${stack:-}" ] || ulimit -s "$stack"
-        exec timeout 60 "$run" "$@" >"${target:-$got/out}" 2>"${errors:-$got/err}" </dev/null
+        exec timeout 60 "$program" "$@" >"${target:-$got/out}" 2>"${errors:-$got/err}" </dev/null
     )
     ended=$?
-    wrote=$(sed 's/snmp_bare/snmp/g' "$got/out"; echo .)
-    said=$(sed 's/snmp_bare/snmp/g' "$got/err"; echo .)
+    wrote=$(cat "$got/out"; echo .)
+    said=$(cat "$got/err"; echo .)
     if [ $ended = "$status" ] && matches "$output" "${wrote%.}" && matches "$messages" "${said%.}"; then
         count "$title" ''
     else
@@ -618,7 +610,8 @@ refuses 'Unknown letter: '$'\xC3' snmpwalk -Cé table:three.tab .1
 for word in '' : h: h:0 h:65536 h:1:2 a:b:1 h:+1 udp:h:+1 h:x :1 udp: udp::1 table:; do
     refuses "Bad agent address: $word" snmpwalk -On "$word" .1
 done
-for word in '' 161 127.0.0.1 127.0.0.1: 127.0.0.1:0 127.0.0.1:65536 :161 udp:127.0.0.1:161 h:+1 h:1:2 table:t.tab; do
+for word in '' 161 127.0.0.1 127.0.0.1: 127.0.0.1:0 127.0.0.1:65536 :161 udp:161 table:161 udp:127.0.0.1:161 \
+    h:+1 h:1:2 table:t.tab; do
     refuses "Bad agent address: $word" snmpd --table three.tab --listen "$word" --turns 0
 done
 refuses 'The link failed.' snmpwalk a..b .1.3

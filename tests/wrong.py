@@ -140,12 +140,12 @@ def library(name, *words):
     return path
 
 
-def wrong_program(name, built=programs.BUILT):
-    path = f"{own}/{name}-{os.path.basename(built)}"
+def wrong_program(name):
+    path = f"{own}/{name}-snmp"
     with open(path, "w", encoding="ascii") as file:
         # Such a library may stand between them already.
         file.write(f'#!/bin/sh\nLD_PRELOAD="{library(name)}${{LD_PRELOAD:+:$LD_PRELOAD}}" '
-                   f'exec "{os.path.realpath(built)}" "$@"\n')
+                   f'exec "{os.path.realpath(programs.BUILT)}" "$@"\n')
     os.chmod(path, 0o755)
     return path
 
@@ -168,7 +168,7 @@ def use_heap(name):
 
 
 def use_in_shell(name):
-    """They run in a folder that has what the checkout has, and in the place of its programs these wrong ones."""
+    """They run in a folder that has what the checkout has, and in the place of its program this wrong one."""
     top = f"{own}/checkout"
     shutil.rmtree(top, ignore_errors=True)
     hidden = shutil.ignore_patterns(".*", "crates", "modules", "__pycache__")
@@ -178,12 +178,11 @@ def use_in_shell(name):
         os.makedirs(f"{top}/crates/{crate}")
         if os.path.isdir(f"{TOP}/crates/{crate}/src"):
             os.symlink(f"{TOP}/crates/{crate}/src", f"{top}/crates/{crate}/src")
-    for crate in "snmp", "snmp_bare":
-        os.makedirs(f"{top}/crates/{crate}/out")
-        path = f"crates/{crate}/out/{crate}"
-        shutil.copy(wrong_program(name, f"{TOP}/{path}"), f"{top}/{path}")
-        hashed = programs.ran([f"{top}/tests/is-current", "--sources", f"{top}/{path}"]).output.strip()
-        programs.ran([f"{top}/tests/is-current", "--built", f"{top}/{path}", hashed])
+    built = f"{top}/crates/snmp/out/snmp"
+    os.makedirs(os.path.dirname(built))
+    shutil.copy(wrong_program(name), built)
+    hashed = programs.ran([f"{top}/tests/is-current", "--sources", built]).output.strip()
+    programs.ran([f"{top}/tests/is-current", "--built", built, hashed])
 
 
 def by_shell(script, word):
@@ -285,8 +284,7 @@ def main(names):
     if unknown:
         print(f"tests/wrong.py: no way is named {unknown[0]}; there are {' '.join(all_ways())}", file=sys.stderr)
         return 2
-    bare = os.path.join(TOP, "crates", "snmp_bare", "out", "snmp_bare")
-    if not programs.are_current("tests/wrong.py", programs.BUILT, programs.CHECKS, bare):
+    if not programs.are_current("tests/wrong.py", programs.BUILT, programs.CHECKS):
         return 1
     counts, before = runner.Counts(), hash_of_tests()
     if lacks("cc"):

@@ -10,7 +10,7 @@
     server     the program's own snmpd
     relays     a network with faults between a walker and an agent
     mutations  datagrams made from good ones, and what the program may do with them
-    heaps      programs over a heap that refuses memory, or tells what is held of it
+    heaps      programs over a heap that refuses memory
     commands   which commands this machine has
     runner     which tests are run, their counts, and what wasn't tried
 

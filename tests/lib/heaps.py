@@ -1,4 +1,4 @@
-"""Programs over a heap of tests/heap.c or tests/room.c, which stands between them and the C library."""
+"""Programs over the heap of tests/heap.c, which stands between them and the C library."""
 import os
 import subprocess
 import tempfile
@@ -7,15 +7,15 @@ from lib import programs
 
 
 class Heap:
-    """A folder in which programs run over a heap of tests/, and their files are."""
+    """A folder in which programs run over the heap, and their files are."""
 
-    def __init__(self, name):
-        self.name, self.folder = name, tempfile.TemporaryDirectory()
+    def __init__(self):
+        self.folder = tempfile.TemporaryDirectory()
 
     def make(self, *words):
         """Builds the heap. What is there already is replaced at once."""
         with tempfile.NamedTemporaryFile(dir=self.folder.name, delete=False) as file:
-            words = ["cc", "-O2", "-shared", "-fPIC", *words, "-o", file.name, f"{programs.TESTS}/{self.name}.c"]
+            words = ["cc", "-O2", "-shared", "-fPIC", *words, "-o", file.name, f"{programs.TESTS}/heap.c"]
             subprocess.run(words, check=True, timeout=programs.PATIENCE)
         os.replace(file.name, f"{self.folder.name}/heap.so")
 

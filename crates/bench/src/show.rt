@@ -1,8 +1,7 @@
 //! Lines, as a function that a C program can call and that `bench/lines.sh` measures.
 
 use smi_show::{Letters, NameForm, line};
-use smi_tree_tests::Known;
-use smi_tree_tests::names::Sample;
+use smi_tree::Tree;
 use snmp_oid::Oid;
 use snmp_wire::ValueRef;
 use std::alloc::Global;
@@ -18,7 +17,9 @@ pub extern "C" fn line_octets(
     times: u64,
 ) -> usize {
     let mut out = Vec::new(alloc);
-    let tree = Known::new(Sample::new(&[]));
+    let Ok((tree, _warnings)) = Tree::load(alloc, Vec::new(alloc)) else {
+        return 0;
+    };
     let mut letters = Letters::new();
     if numeric == 1 {
         letters.names = NameForm::Numeric;

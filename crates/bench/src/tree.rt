@@ -1,11 +1,12 @@
 //! The tree of names as functions that a C program can call: what `bench/tree.sh` counts.
 
-use smi_show::{Letters, Near, line_near};
+use smi_show::{Letters, LineWriter};
 use smi_text::parse_modules;
 use smi_tree::{NameHash, Tree};
 use snmp_oid::parse_numeric;
 use snmp_wire::ValueRef;
 use std::alloc::Global;
+use std::hash::RandomState;
 use std::io;
 use std::random::RandomSource;
 
@@ -30,7 +31,7 @@ fn tree_by(alloc: Global, hash: NameHash, text: &[u8]) -> Option<Tree> {
     let Ok(modules) = parse_modules(alloc, text) else {
         return None;
     };
-    match Tree::load(alloc, hash, modules) {
+    match Tree::load_with_key(alloc, hash, modules) {
         Ok((tree, _warnings)) => Some(tree),
         Err(_) => None,
     }
@@ -49,7 +50,11 @@ pub extern "C" fn tree_nodes_in(alloc: Global, text: &[u8]) -> usize {
 /// The same, with names hashed by a key whose octets are all `seed`.
 #[unsafe(no_mangle)]
 pub extern "C" fn tree_nodes_keyed(alloc: Global, text: &[u8], seed: u8) -> usize {
-    match tree_by(alloc, NameHash::new(&Seed(seed)), text) {
+    match tree_by(
+        alloc,
+        NameHash::of_key(RandomState::new(&Seed(seed)).ok()),
+        text,
+    ) {
         Some(tree) => tree.len(),
         None => usize::MAX,
     }
@@ -83,7 +88,7 @@ pub extern "C" fn tree_identifiers_in(alloc: Global, text: &[u8], times: usize) 
     };
     let mut count: usize = 0;
     for _i in 0..times {
-        if tree.deepest(&oid).is_some() {
+        if tree.deepest(&oid).0.is_some() {
             count = count.saturating_add(1);
         }
     }
@@ -120,10 +125,10 @@ pub extern "C" fn tree_lines_in(alloc: Global, text: &[u8], times: usize) -> usi
     let mut out = Vec::new(alloc);
     let letters = Letters::new();
     let value = ValueRef::Integer(1);
-    let mut near = Near::new();
+    let mut writer = LineWriter::new(&tree);
     for _i in 0..times {
         out.clear();
-        if line_near(&tree, &letters, &name, &value, &mut near, &mut out).is_err() {
+        if writer.line(&letters, &name, &value, &mut out).is_err() {
             return usize::MAX;
         }
     }

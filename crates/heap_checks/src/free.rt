@@ -41,6 +41,26 @@ pub fn answered(
     Ok(())
 }
 
+/// `Table::remove` of the rows 1.3.6.1.4.1.32473.1.1.0 to 1.299.0, but for 1.150.0: so some rows of
+/// a page, and all of another. The reply to a request then.
+pub fn removed(
+    alloc: Global,
+    text: &[u8],
+    request: &[u8],
+    room: &mut Room<'_>,
+) -> Result<(), Fault> {
+    let mut table = table_of(alloc, text)?;
+    let _begun = mark(alloc)?;
+    'rows: for number in 1..300 {
+        if number != 150 && !table.remove(&instance(number)?) {
+            return Err(Fault::Wrong);
+        }
+    }
+    let _ended = mark(alloc)?;
+    reply(&table, request, room);
+    Ok(())
+}
+
 /// `run_walk` over a link for which memory is reserved.
 pub fn walked(
     alloc: Global,
@@ -127,9 +147,8 @@ fn append_look_ups(tree: &Tree, id: NodeId, room: &mut Room<'_>) {
         }
     }
     append_node(tree, tree.find_any(node.label), room);
-    if let Some(deepest) = tree.deepest(node.oid) {
-        append_node(tree, Some(deepest.place), room);
-    }
+    let (deepest, _rest) = tree.deepest(node.oid);
+    append_node(tree, deepest, room);
     let mut children = tree.children(node.oid);
     append_node(tree, children.next(), room);
     if tree.syntax_of(id).is_some() {

@@ -5,7 +5,6 @@
 //! whole answer, for which it takes none, with status 0; or nothing, with status 1, where memory
 //! was refused and it has seen that what was to be changed is as it was. Status 2: a wrong answer.
 //! Status 3: memory was refused, and again where what was refused was done once more.
-//! `tests/room.py` runs some over a heap that tells how much of it they hold.
 #![tactic(auto)]
 
 mod agents;
@@ -96,9 +95,6 @@ fn check_by(
         "double" => agents::double(alloc, first, room),
         "put" => agents::put(alloc, first, b"sextet", second, room),
         "put_long" => agents::put(alloc, first, LONG, second, room),
-        "half" => agents::removed(alloc, first, second, 2, room),
-        "sparse" => agents::removed(alloc, first, second, 64, room),
-        "remove" => agents::remove(alloc, first, second, room),
         "walk" => walks::walk(alloc, first, second, Method::Next, room),
         "bulk_walk" => walks::walk(alloc, first, second, Method::Bulk(10), room),
         "reserved" => walks::reserved(alloc, first, second, room),
@@ -121,6 +117,7 @@ fn free_by(
 ) -> Result<(), Fault> {
     match check {
         "free_answer" => free::answered(alloc, first, second, room),
+        "free_remove" => free::removed(alloc, first, second, room),
         "free_walk" => free::walked(alloc, first, second, Method::Next, room),
         "free_bulk_walk" => free::walked(alloc, first, second, Method::Bulk(10), room),
         "free_get" => free::got(alloc, first, room),

@@ -3,7 +3,7 @@
 use crate::Fault;
 use crate::room::Room;
 use smi_text::{Module, ParseError, parse_modules};
-use smi_tree::{NameHash, Tree};
+use smi_tree::Tree;
 use std::alloc::Global;
 
 /// The modules of a text.
@@ -18,7 +18,7 @@ fn modules_of(alloc: Global, text: &[u8]) -> Result<Vec<Module>, Fault> {
 /// The tree of a text's modules.
 pub fn tree_of(alloc: Global, text: &[u8]) -> Result<Tree, Fault> {
     let modules = modules_of(alloc, text)?;
-    match Tree::load(alloc, NameHash::Fixed, modules) {
+    match Tree::load(alloc, modules) {
         Ok((tree, _)) => Ok(tree),
         Err(_) => Err(Fault::Refused),
     }

@@ -7,7 +7,7 @@ use Rattle.std.proofs.lemmas.List.{take-append-le, get_or_past}
 use Rattle.std.proofs.lemmas.List.Elements.{All-push, All-nil, All-contains, Contains-push, Contains-push_cases, Contains-append_left}
 use Rattle.smi_names.specs.{chains.Chain.HasEnd, chains.Chain.ends, chains.Chain.leads_on, declared.chains.order.Mark.Mark}
 use Rattle.smi_names.specs.chains.Order.{next_at, ComeAfterNext}
-use Rattle.smi_names.specs.private.chains.Search.{Keeps, Leads, IsSettled, LeadsToSettled, mark_at}
+use Rattle.smi_names.specs.private.Search.{Keeps, Leads, IsSettled, LeadsToSettled, mark_at}
 use Rattle.smi_names.specs.declared.chains.order.Mark.TheVariants as M
 
 abbrev pub is_new : Mark → Bool

@@ -5,10 +5,10 @@ use Rattle.std.proofs.Common.{MatchOption, Option, Some, None, refl, sym, ◌∙
 use Rattle.std.proofs.lemmas.Option.{slice_get-map, slice_get_past, slice_get_within, get_or_from_slice_get}
 use Rattle.std.specs.{List.slice_get, List.find, List.position_from, Option.option_and_then, Option.option_map, Borrow.Bor}
 use Rattle.smi_names.specs.{chains.Chain.nowhere, chains.Resolution.ComesTo, meaning.Names.IsSourced, meaning.Directory.place_by}
-use Rattle.smi_names.specs.{meaning.Directory.is_entry_of, meaning.Known.content_named, meaning.Resolved.IsDirectory, meaning.Resolved.known_names}
+use Rattle.smi_names.specs.{meaning.Directory.is_entry_of, meaning.Scopes.content_named, meaning.Resolved.IsDirectory, meaning.Resolved.known_names}
 use Rattle.smi_names.specs.{meaning.Parents.AreResolved, declared.meaning.entry.Entry.Entry, declared.meaning.directory.Directory.Directory}
-use Rattle.smi_names.specs.declared.chains.resolution.Resolution.{Resolution}
-use Rattle.smi_names.specs.declared.chains.resolution.Resolution.TheVariants as R
+use Rattle.smi_names.specs.declared.chains.shared.Resolution.{Resolution}
+use Rattle.smi_names.specs.declared.chains.shared.Resolution.TheVariants as R
 use Rattle.smi_text.specs.{trees.Mark.same_text, declared.trees.tree.Module.Module}
 use Rattle.smi_names.specs.meaning.Meaning.{QualifiedName, Decision, decision, origin, origin_by, origin_in, module_named}
 use Rattle.smi_names.specs.meaning.Scopes.{NamePlaces, Content, content_of, place_in, known, decided_as, IsDecided}

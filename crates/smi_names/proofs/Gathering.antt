@@ -4,8 +4,8 @@ use Rattle.std.proofs.Common.{◌≡◌, ℕ, zero, suc, false, is_some, List, [
 use Rattle.std.proofs.Common.{arith, append_assoc, Result, Ok, Err, OnOk}
 use Rattle.std.specs.{List.slice_get, declared.alloc.AllocError.AllocError}
 use Rattle.smi_names.specs.{chains.Resolution.ComesTo, meaning.Meaning.origin, meaning.Meaning.module_named}
-use Rattle.smi_names.specs.{declared.nodes.source.Source.Source, declared.nodes.gather.Gathered.Gathered, declared.nodes.warning.Warning.Warning}
-use Rattle.smi_names.specs.declared.chains.resolution.Resolution.{Resolution}
+use Rattle.smi_names.specs.{declared.nodes.gather.Source.Source, declared.nodes.gather.Gathered.Gathered, declared.nodes.warning.Warning.Warning}
+use Rattle.smi_names.specs.declared.chains.shared.Resolution.{Resolution}
 use Rattle.smi_text.specs.declared.trees.tree.Module.{Module}
 use Rattle.smi_text.specs.{declared.trees.tree.Def.Def, declared.trees.tree.Part.Part, trees.Lookup.identifier_value_of}
 use Rattle.smi_names.proofs.Knowing.{same_itself}

@@ -6,7 +6,7 @@ use Rattle.std.specs.{List.slice_get, Option.option_and_then, Option.option_map}
 use Rattle.smi_text.specs.{declared.trees.tree.Module.Module, declared.trees.tree.Def.Def, declared.trees.tree.Import.Import}
 use Rattle.smi_names.specs.{chains.Chain.HasEnd, chains.Chain.ends, chains.Chain.leads_on, chains.Order.next_at, chains.Order.at_place}
 use Rattle.smi_names.specs.{meaning.Scopes.Content, meaning.Scopes.content_of, meaning.Parents.parent_of, meaning.Resolved.IsDirectory}
-use Rattle.smi_names.specs.{meaning.Resolved.known_names, declared.meaning.entry.Entry.Entry, meaning.Known.KnownNames, meaning.Known.content_named}
+use Rattle.smi_names.specs.{meaning.Resolved.known_names, declared.meaning.entry.Entry.Entry, meaning.Scopes.KnownNames, meaning.Scopes.content_named}
 use Rattle.smi_names.specs.meaning.Meaning.{QualifiedName, Decision, defined, imported, root, module_named}
 use Rattle.smi_names.specs.meaning.Directory.{place_by, next_place, KeepsImports}
 use Rattle.smi_names.specs.declared.meaning.directory.Directory.{Directory}

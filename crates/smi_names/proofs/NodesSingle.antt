@@ -2,7 +2,7 @@
 use Rattle.std.proofs.{lemmas.Grind.common_steps, lemmas.List.length_push}
 use Rattle.std.proofs.Common.{arith, length, ◌≡◌, List, Option, refl, ap}
 use Rattle.smi_names.specs.{chains.Resolution.ComesTo, meaning.Meaning.QualifiedName, meaning.Meaning.origin, declared.nodes.warning.Warning.Warning}
-use Rattle.smi_names.specs.declared.chains.resolution.Resolution.{Resolution}
+use Rattle.smi_names.specs.declared.chains.shared.Resolution.{Resolution}
 use Rattle.smi_text.specs.{declared.trees.tree.Module.Module, declared.trees.tree.Def.Def, declared.trees.tree.Part.Part}
 use Rattle.smi_names.specs.nodes.Nodes.{Node, GivesNodesBy, Gathers, none, more, Brings, Loads, none_yet, then_module}
 

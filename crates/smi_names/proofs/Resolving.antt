@@ -6,11 +6,11 @@ use Rattle.std.specs.{List.slice_get, Option.option_and_then}
 use Rattle.smi_text.specs.declared.trees.tree.Module.{Module}
 use Rattle.smi_names.specs.chains.Chain.{Origin, numbers, after, nowhere, next_of, HasEnd, ends, leads_on, HasIdentifier, by_itself, after_another}
 use Rattle.smi_names.specs.chains.Chain.{here, further}
-use Rattle.smi_names.specs.{chains.Order.next_at, chains.Resolution.ComesTo, declared.chains.resolution.Resolution.Resolution, meaning.Scopes.Content}
-use Rattle.smi_names.specs.{meaning.Scopes.qualified, meaning.Known.KnownNames, meaning.Known.content_named, meaning.Along.next_by}
+use Rattle.smi_names.specs.{chains.Order.next_at, chains.Resolution.ComesTo, declared.chains.shared.Resolution.Resolution, meaning.Scopes.Content}
+use Rattle.smi_names.specs.{meaning.Scopes.qualified, meaning.Scopes.KnownNames, meaning.Scopes.content_named, meaning.Along.next_by}
 use Rattle.smi_names.specs.{meaning.Along.next_name, meaning.Along.AreNext}
-use Rattle.smi_names.specs.chains.Resolving.{lengthened, followed_by, resolution_at, far_at, resolution_by}
-use Rattle.smi_names.specs.declared.chains.resolution.Resolution.TheVariants as R
+use Rattle.smi_names.specs.chains.Resolution.{lengthened, followed_by, resolution_at, far_at, resolution_by}
+use Rattle.smi_names.specs.declared.chains.shared.Resolution.TheVariants as R
 use Rattle.smi_names.specs.meaning.Meaning.{QualifiedName, decision, origin, origin_by, origin_in, module_named}
 use Rattle.smi_names.specs.meaning.Parents.{parent_of, origin_here, AreResolved}
 use Rattle.smi_names.proofs.{Equating.is_decided, Equating.undecided, Leading.leads_to, Leading.has_end}

@@ -2,9 +2,9 @@
 use Rattle.std.proofs.{lemmas.Grind.common_steps, lemmas.List.append-nil, lemmas.List.get_or_append_left, lemmas.List.map-set}
 use Rattle.std.proofs.Common.{◌≡◌, ℕ, zero, suc, ◌<◌, ◌≤◌, nat_le, List, [], ◌∷◌, ◌++◌, length, set, replicate, refl, arith, length-append}
 use Rattle.std.proofs.lemmas.List.Elements.{All-head, All-tail, All-set, All-weaker}
-use Rattle.smi_names.specs.{chains.Resolving.followed_by, chains.Resolving.resolution_at, declared.chains.resolution.Resolution.Resolution}
-use Rattle.smi_names.specs.chains.Shared.{shared, AreWithin, HasReasons, GrowsTo}
-use Rattle.smi_names.specs.declared.chains.resolution.Resolution.TheVariants as R
+use Rattle.smi_names.specs.{chains.Resolution.followed_by, chains.Resolution.resolution_at, declared.chains.shared.Resolution.Resolution}
+use Rattle.smi_names.specs.chains.Resolution.{shared, AreWithin, HasReasons, GrowsTo}
+use Rattle.smi_names.specs.declared.chains.shared.Resolution.TheVariants as R
 
 -- with no numbers after it an identifier is the same
 pub followed_by_none : (o : List ℕ) → length o ≤ 128 → followed_by (R.Numbers o) [] ≡ R.Numbers o

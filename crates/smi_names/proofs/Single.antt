@@ -1,7 +1,7 @@
 -- A thing resolves in one way: its chain has no end, or ends at numbers or nowhere, and never two of these.
 use Rattle.std.proofs.{lemmas.Grind.common_steps, Common.◌≡◌, Common.ℕ, Common.◌<◌, Common.◌≤◌, Common.List, Common.length, Common.ap, Common.arith}
 use Rattle.smi_names.specs.chains.Chain.{Origin, next_of, HasEnd, ends, leads_on, HasIdentifier, by_itself, after_another, EndsNowhere, here, further}
-use Rattle.smi_names.specs.{chains.Resolution.ComesTo, declared.chains.resolution.Resolution.Resolution}
+use Rattle.smi_names.specs.{chains.Resolution.ComesTo, declared.chains.shared.Resolution.Resolution}
 
 -- a thing has one identifier at most
 pub Means-one : {A : Type 0} (origin : A → Origin A) {a : A} {o : List ℕ} → HasIdentifier origin a o → (p : List ℕ) → HasIdentifier origin a p → o ≡ p

@@ -4,6 +4,5 @@ pub mod Scopes
 pub mod Names
 pub mod Directory
 pub mod Resolved
-pub mod Known
 pub mod Along
 pub mod Parents

@@ -1,1 +1,1 @@
-pub mod chains
+pub mod Search

@@ -5,9 +5,8 @@
 //! has a place, a number.
 
 mod order;
-mod resolution;
 mod shared;
 
 pub use order::ordered;
-pub use resolution::Resolution;
+pub use shared::Resolution;
 pub(crate) use shared::{CYCLE, Shared, UNRESOLVED, appended, led, reasons};

@@ -1,11 +1,9 @@
 //! How names are hashed.
-ghost use Rattle.std.specs.Prelude.{◌≡◌, Option, MatchOption};
-ghost use Rattle.std.specs.declared.hash.RandomState.{RandomState};
+ghost use Rattle.std.specs.Prelude.{◌≡◌, MatchOption};
 ghost use Rattle.smi_names.specs.Hash.{hasher_by};
 ghost use Rattle.smi_names.specs.declared.hash.NameHash.TheVariants as by;
 
 use std::hash::{BuildHasher, DefaultHasher, RandomState};
-use std::random::RandomSource;
 
 /// How the maps of names hash them: by SipHash-1-3, with a key from the system or with a fixed one.
 ///
@@ -19,35 +17,12 @@ pub enum NameHash {
     Fixed,
 }
 
-/// A source of keys: each source of random octets is one, as the system is.
-pub trait KeySource {
-    /// Which key it may give, or none.
-    ghost gives: { Self → Option RandomState → Type 0 };
-
-    /// A key; None where the source fails.
-    fn key(&self) -> Option<RandomState>
-        ensures { gives self.now result };
-}
-
-/// Of random octets nothing is known, so no clause says which key they make.
-impl<R: RandomSource> KeySource for R {
-    ghost gives = { λ _ _. Unit {0} };
-
-    fn key(&self) -> Option<RandomState> {
-        match RandomState::new(self) {
-            Ok(key) => Some(key),
-            Err(_) => None,
-        }
-    }
-}
-
 impl NameHash {
-    /// With a key from the source, or with the fixed one where it gives none.
-    pub fn new<S: KeySource>(source: &S) -> NameHash
-        ensures { (key : Option RandomState) × S.gives source.now key
-            × MatchOption key (result ≡ by.Fixed) (λ key. result ≡ by.Keyed key) }
+    /// Hashes by this key, or by the fixed key if it is None.
+    pub fn of_key(key: Option<RandomState>) -> NameHash
+        ensures { MatchOption key (result ≡ by.Fixed) (λ key. result ≡ by.Keyed key) }
     {
-        match source.key() {
+        match key {
             Some(key) => NameHash::Keyed(key),
             None => NameHash::Fixed,
         }

@@ -18,15 +18,19 @@
 
 mod chains;
 mod hash;
+mod laws;
 mod meaning;
 mod name;
 mod nodes;
+mod places;
 
-pub use chains::{Resolution, ordered};
-pub use hash::{KeySource, NameHash};
-pub use meaning::{
-    Decider, Entries, Entry, Leads, Meaning, Names, TypeBase, one_identifier, one_resolution,
-    root_arc, root_label,
-};
+pub use chains::Resolution;
+pub use hash::NameHash;
+pub use meaning::{Decider, Entries, Entry, Leads, Meaning, Names, TypeBase, root_arc, root_label};
 pub use name::{NameBuf, NameRef};
-pub use nodes::{Gathered, Source, Warning, gather_nodes, one_loading};
+pub use nodes::{Gathered, Source, Warning, gather_nodes};
+pub use places::insert_if_absent;
+
+// Only for proofs and tests.
+pub use chains::ordered;
+pub use laws::{one_identifier, one_loading, one_resolution};

@@ -5,11 +5,7 @@
 
 mod gather;
 mod imports;
-mod laws;
-mod source;
 mod warning;
 
-pub use gather::{Gathered, gather_nodes};
-pub use laws::one_loading;
-pub use source::Source;
+pub use gather::{Gathered, Source, gather_nodes};
 pub use warning::Warning;

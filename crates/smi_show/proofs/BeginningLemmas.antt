@@ -2,7 +2,8 @@
 use Rattle.std.proofs.Common.{arith, ◌≡◌, ℕ, List, [], ◌∷◌, ◌++◌, refl}
 use Rattle.std.proofs.{lemmas.Grind.common_steps, lemmas.List.append-nil, lemmas.List.map-append, lemmas.List.Concat.flat_map-append}
 use Rattle.std.specs.List.{flat_map}
-use Rattle.smi_show.specs.name.Beginnings.{beginnings, last_number}
+use Rattle.smi_show.specs.name.Beginnings.{beginnings}
+use Rattle.smi_tree.specs.Nodes.{last_number}
 
 last_is : (o : List ℕ) (n : ℕ) → last_number (o ++ n ∷ []) ≡ n
 last_is [] n = refl

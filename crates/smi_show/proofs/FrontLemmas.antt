@@ -3,18 +3,19 @@ use Rattle.std.proofs.Common.{◌≡◌, ℕ, List, [], ◌∷◌, ◌++◌, Mat
 use Rattle.std.proofs.lemmas.List.{append-nil}
 use Rattle.snmp_oid.specs.Numeric.{IsNumeral, IsPartRead, dot}
 use Rattle.smi_show.specs.declared.name.error.NameError.{NameError}
-use Rattle.smi_show.specs.{name.Cutting.name_parts, private.name.Left.parts_left, name.Naming.Naming, name.Word.Word}
+use Rattle.smi_show.specs.{name.Cutting.name_parts, private.name.Left.parts_left, name.Word.Word}
 use Rattle.smi_show.specs.name.Meaning.{and_then, fitting, further_meaning, parts_meaning, word_meaning}
+use Rattle.smi_tree.specs.{Naming.oid_of_child, Tree.Contents}
 use Rattle.smi_show.proofs.{PlainLemmas.plain_digits, ShownLemmas.IsWhole, ShownLemmas.cuts, ShownLemmas.plain_is_whole, WordLemmas.digits_word}
 
 -- a number in front of further parts
-pub number_next : (naming : Naming) (look_up : List ℕ → Option (List ℕ)) (o text part : List ℕ) (n : ℕ) (after : Option (List ℕ)) → IsNumeral part n
+pub number_next : (tree : Contents) (look_up : List ℕ → Option (List ℕ)) (o text part : List ℕ) (n : ℕ) (after : Option (List ℕ)) → IsNumeral part n
     → MatchOption after (text ≡ part) (λ rest. text ≡ part ++ dot ∷ rest)
-    → parts_meaning naming look_up o (name_parts text)
-    ≡ and_then (fitting (o ++ n ∷ [])) (λ p. further_meaning naming p (parts_left after))
-number_next naming look_up o text part n after numeral is =
-    ap (parts_meaning naming look_up o) (number_parts after is)
-    ∙ ap (λ (w : Result Word NameError). and_then (and_then w (word_meaning look_up o)) (λ p. further_meaning naming p (parts_left after)))
+    → parts_meaning tree look_up o (name_parts text)
+    ≡ and_then (fitting (o ++ n ∷ [])) (λ p. further_meaning tree p (parts_left after))
+number_next tree look_up o text part n after numeral is =
+    ap (parts_meaning tree look_up o) (number_parts after is)
+    ∙ ap (λ (w : Result Word NameError). and_then (and_then w (word_meaning look_up o)) (λ p. further_meaning tree p (parts_left after)))
     (digits_word part n numeral)
   where
     whole : IsWhole part
@@ -25,7 +26,7 @@ number_next naming look_up o text part n after numeral is =
     number_parts None is = ap name_parts (is ∙ sym (append-nil part)) ∙ cuts part [] whole ∙ ap (λ (t : List ℕ). t ∷ []) (append-nil part)
     number_parts (Some rest) is = ap name_parts is ∙ cuts part (dot ∷ rest) whole ∙ ap (λ (t : List ℕ). t ∷ name_parts rest) (append-nil part)
 
-pub number_further : (naming : Naming) (o text : List ℕ) (n : ℕ) (after : Option (List ℕ)) → IsPartRead text (Some n) after
-    → further_meaning naming o (name_parts text)
-    ≡ and_then (fitting (o ++ n ∷ [])) (λ p. further_meaning naming p (parts_left after))
-number_further naming o text n after h = number_next naming (naming.child o) o text h.part n after h.read h.parts
+pub number_further : (tree : Contents) (o text : List ℕ) (n : ℕ) (after : Option (List ℕ)) → IsPartRead text (Some n) after
+    → further_meaning tree o (name_parts text)
+    ≡ and_then (fitting (o ++ n ∷ [])) (λ p. further_meaning tree p (parts_left after))
+number_further tree o text n after h = number_next tree (oid_of_child tree o) o text h.part n after h.read h.parts

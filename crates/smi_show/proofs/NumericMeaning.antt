@@ -5,9 +5,10 @@ use Rattle.std.proofs.Common.{◌∙◌, ap, subst, append_assoc, arith, length-
 use Rattle.std.specs.{Char.is_ascii_digit, Str.all_ascii_digits}
 use Rattle.snmp_oid.specs.Numeric.{IsDotted, IsNumericName}
 use Rattle.smi_show.specs.declared.name.error.NameError.{NameError}
-use Rattle.smi_show.specs.{name.Cutting.module_after, name.Cutting.name_parts, name.Meant.anywhere, name.Naming.Naming}
+use Rattle.smi_show.specs.{name.Cutting.module_after, name.Cutting.name_parts, name.Meant.anywhere}
 use Rattle.smi_show.specs.name.Meaning.{and_then, meaning_in, fitting, further_meaning, meaning, parts_meaning, plain_meaning, scoped_meaning}
 use Rattle.smi_show.proofs.{FrontLemmas.number_next, PlainLemmas.apart, PlainLemmas.plain_digits, Readers.before_module}
+use Rattle.smi_tree.specs.{Naming.oid_of_child, Naming.oid_anywhere, Naming.oid_of_root, Tree.Contents}
 use Rattle.smi_show.proofs.ShownLemmas.{dot_module, plain_is_whole, scopes}
 
 -- numbers that fit
@@ -18,25 +19,25 @@ pub shorter : (front rest : List ℕ) → length (front ++ rest) ≤ 128 → len
 shorter front rest h = omega (arith, length-append front rest)
 
 -- a text of more than a dot is read by its module and parts
-pub scoped : (naming : Naming) (text : List ℕ) → text ≢ [] → text ≢ 46 ∷ [] → meaning naming text ≡ scoped_meaning naming text (module_after None text)
-scoped naming [] some more = absurd (some refl)
-scoped naming (octet ∷ []) some more = rw (ne_eqb octet 46 (λ e. more (ap (λ (n : ℕ). n ∷ []) e))) refl
-scoped naming (octet ∷ next ∷ rest) some more = refl
+pub scoped : (tree : Contents) (text : List ℕ) → text ≢ [] → text ≢ 46 ∷ [] → meaning tree text ≡ scoped_meaning tree text (module_after None text)
+scoped tree [] some more = absurd (some refl)
+scoped tree (octet ∷ []) some more = rw (ne_eqb octet 46 (λ e. more (ap (λ (n : ℕ). n ∷ []) e))) refl
+scoped tree (octet ∷ next ∷ rest) some more = refl
 
 -- parts that are numbers
-dotted_parts : (naming : Naming) (look_up : List ℕ → Option (List ℕ)) (so_far text o : List ℕ) → IsDotted text o → length (so_far ++ o) ≤ 128
-    → parts_meaning naming look_up so_far (name_parts text) ≡ Ok (so_far ++ o)
-dotted_parts naming look_up so_far text [] h low = absurd h
-dotted_parts naming look_up so_far text (n ∷ []) h low =
-    number_next naming look_up so_far text text n None h refl
-    ∙ ap (λ (r : Result (List ℕ) NameError). and_then r (λ p. further_meaning naming p [])) (fits (so_far ++ n ∷ []) low)
-dotted_parts naming look_up so_far text (n ∷ m ∷ more) (first, rest, is, numeral, dotted) low =
+dotted_parts : (tree : Contents) (look_up : List ℕ → Option (List ℕ)) (so_far text o : List ℕ) → IsDotted text o → length (so_far ++ o) ≤ 128
+    → parts_meaning tree look_up so_far (name_parts text) ≡ Ok (so_far ++ o)
+dotted_parts tree look_up so_far text [] h low = absurd h
+dotted_parts tree look_up so_far text (n ∷ []) h low =
+    number_next tree look_up so_far text text n None h refl
+    ∙ ap (λ (r : Result (List ℕ) NameError). and_then r (λ p. further_meaning tree p [])) (fits (so_far ++ n ∷ []) low)
+dotted_parts tree look_up so_far text (n ∷ m ∷ more) (first, rest, is, numeral, dotted) low =
     let next : List ℕ = so_far ++ n ∷ [] in
     let grouped : next ++ (m ∷ more) ≡ so_far ++ (n ∷ m ∷ more) = append_assoc so_far (n ∷ []) (m ∷ more) in
     let low_all : length (next ++ (m ∷ more)) ≤ 128 = subst (λ (t : List ℕ). length t ≤ 128) (sym grouped) low in
-    number_next naming look_up so_far text first n (Some rest) numeral is
-    ∙ ap (λ (r : Result (List ℕ) NameError). and_then r (λ p. further_meaning naming p (name_parts rest))) (fits next (shorter next (m ∷ more) low_all))
-    ∙ dotted_parts naming (naming.child next) next rest (m ∷ more) dotted low_all
+    number_next tree look_up so_far text first n (Some rest) numeral is
+    ∙ ap (λ (r : Result (List ℕ) NameError). and_then r (λ p. further_meaning tree p (name_parts rest))) (fits next (shorter next (m ∷ more) low_all))
+    ∙ dotted_parts tree (oid_of_child tree next) next rest (m ∷ more) dotted low_all
     ∙ ap (λ (t : List ℕ). Ok t) grouped
 
 -- there is no module before it
@@ -62,24 +63,24 @@ dotted_some text (n ∷ []) h same = h.some same
 dotted_some text (n ∷ m ∷ more) ([], rest, is, numeral, dotted) same = numeral.some refl
 dotted_some text (n ∷ m ∷ more) ((other ∷ first), rest, is, numeral, dotted) same = let wrong : ⊥ = cc in wrong
 
-dotted_plain : (naming : Naming) (text o : List ℕ) → IsDotted text o → plain_meaning naming text ≡ meaning_in naming anywhere (name_parts text)
-dotted_plain naming [] o h = refl
-dotted_plain naming (octet ∷ more) o h = rw (begins_with_digit octet more o h) refl
+dotted_plain : (tree : Contents) (text o : List ℕ) → IsDotted text o → plain_meaning tree text ≡ meaning_in tree anywhere (name_parts text)
+dotted_plain tree [] o h = refl
+dotted_plain tree (octet ∷ more) o h = rw (begins_with_digit octet more o h) refl
 
 no_dot_alone : (text o : List ℕ) → IsDotted text o → text ≢ 46 ∷ []
 no_dot_alone text o h same = grind (arith, common_steps, begins_with_digit)
 
-pub numeric_meaning : (naming : Naming) (text o : List ℕ) → IsNumericName text o → length o ≤ 128 → meaning naming text ≡ Ok o
-numeric_meaning naming text o (inl h) low = ap (meaning naming) h.0 ∙ ap (λ (t : List ℕ). Ok t) (sym h.1)
-numeric_meaning naming text o (inr (inl h)) low =
-    scoped naming text (dotted_some text o h) (no_dot_alone text o h)
-    ∙ ap (scoped_meaning naming text) (dotted_module text o h)
-    ∙ dotted_plain naming text o h
-    ∙ dotted_parts naming naming.anywhere [] text o h low
-numeric_meaning naming text o (inr (inr (rest, is, h))) low =
+pub numeric_meaning : (tree : Contents) (text o : List ℕ) → IsNumericName text o → length o ≤ 128 → meaning tree text ≡ Ok o
+numeric_meaning tree text o (inl h) low = ap (meaning tree) h.0 ∙ ap (λ (t : List ℕ). Ok t) (sym h.1)
+numeric_meaning tree text o (inr (inl h)) low =
+    scoped tree text (dotted_some text o h) (no_dot_alone text o h)
+    ∙ ap (scoped_meaning tree text) (dotted_module text o h)
+    ∙ dotted_plain tree text o h
+    ∙ dotted_parts tree (oid_anywhere tree) [] text o h low
+numeric_meaning tree text o (inr (inr (rest, is, h))) low =
     let some : 46 ∷ rest ≢ [] = λ same. (let wrong : ⊥ = cc in wrong) in
     let more : 46 ∷ rest ≢ 46 ∷ [] = λ same. dotted_some rest o h (let e : rest ≡ [] = cc in e) in
-    ap (meaning naming) is
-    ∙ scoped naming (46 ∷ rest) some more
-    ∙ ap (scoped_meaning naming (46 ∷ rest)) (dot_module rest (dotted_module rest o h))
-    ∙ dotted_parts naming naming.among_roots [] rest o h low
+    ap (meaning tree) is
+    ∙ scoped tree (46 ∷ rest) some more
+    ∙ ap (scoped_meaning tree (46 ∷ rest)) (dot_module rest (dotted_module rest o h))
+    ∙ dotted_parts tree oid_of_root [] rest o h low

@@ -1,9 +1,9 @@
 -- A text's parts and its module are what the relations of Cut say, and there are no others.
 use Rattle.std.proofs.{lemmas.Grind.common_steps, lemmas.List.drop_at, lemmas.List.take_at}
-use Rattle.std.proofs.Common.{◌≡◌, ℕ, ◌≤◌, suc, true, false, nat_eq, List, [], ◌∷◌, ◌++◌, take, drop, length, Option, Some, None, refl, sym, ◌∙◌, ap}
-use Rattle.std.proofs.Common.{subst, arith}
+use Rattle.std.proofs.Common.{◌≡◌, ℕ, ◌+◌, ◌<◌, ◌≤◌, ◌⊎◌, inl, inr, suc, true, false, nat_eq, List, [], ◌∷◌, ◌++◌, take, drop, length, Option, Some, None, refl, sym, ◌∙◌, ap}
+use Rattle.std.proofs.Common.{subst, arith, length-append}
 use Rattle.std.proofs.lemmas.Bool.{and_parts, both_ways, cond_both, eqb-true}
-use Rattle.snmp_io.specs.Quotes.{open_after}
+use Rattle.snmp_io.specs.Quotes.{HasNoneOutside, IsClosed, IsCut, open_after}
 use Rattle.snmp_io.specs.QuoteLaws.{cut_once, is_closed, none_open, none_outside, quote_after}
 use Rattle.smi_show.specs.name.Cut.{AreParts, HasNoModule, IsModuleCut}
 use Rattle.smi_show.specs.name.Cutting.{is_double_colon, module_after, name_parts, parts_after, with_prefix}
@@ -88,6 +88,19 @@ same_parts text (part ∷ next ∷ more) (other ∷ second ∷ others) (rest, cu
 pub only_parts : (text : List ℕ) (parts : List (List ℕ)) → AreParts text parts → parts ≡ name_parts text
 only_parts text parts h = same_parts text parts (name_parts text) h (are_parts text)
 
+-- a part and those after its dot; and a text of one part
+parts_by : (text part rest : List ℕ) (parts : List (List ℕ)) → IsCut 46 text part rest → AreParts rest parts → AreParts text (part ∷ parts)
+parts_by text part rest [] cut h = absurd h
+parts_by text part rest (next ∷ more) cut h = (rest, cut, h)
+
+pub part_before : (text part rest : List ℕ) → IsCut 46 text part rest → (part ∷ name_parts rest ≡ name_parts text) × (length rest < length text)
+part_before text part rest cut =
+    let long : length text ≡ length part + suc (length rest) = ap length cut.parts ∙ length-append part (46 ∷ rest) in
+    (only_parts text (part ∷ name_parts rest) (parts_by text part rest (name_parts rest) cut (are_parts rest)), omega (arith, long))
+
+pub one_part : (text : List ℕ) → HasNoneOutside 46 text → text ∷ [] ≡ name_parts text
+one_part text none = only_parts text (text ∷ []) (none, refl)
+
 -- ---- the module
 
 -- what is found after this quote
@@ -148,3 +161,37 @@ one_module text home rest h = grind (arith, common_steps, found_from, none_open,
 
 pub no_module : (text : List ℕ) → HasNoModule text → module_after None text ≡ None
 no_module text none = grind (arith, common_steps, found_from, is_closed)
+
+-- the first colon outside quotes
+
+pub no_colon_outside : (text : List ℕ) → HasNoneOutside 58 text → None ≡ module_after None text
+no_colon_outside text none = sym (no_module text (λ before after e closed. none before (58 ∷ after) e closed))
+
+-- what stands before one octet is as long as what stands before another, or has that octet in it
+abbrev IsBeforeOrIn : ℕ → (front before : List ℕ) → Type 0
+IsBeforeOrIn c front before = (length front ≤ length before) ⊎ ((more : List ℕ) × (front ≡ before ++ c ∷ more))
+
+one_longer : (c o p : ℕ) (front before : List ℕ) → o ≡ p → IsBeforeOrIn c front before → IsBeforeOrIn c (o ∷ front) (p ∷ before)
+one_longer c o p front before is (inl low) = inl (omega (arith, low))
+one_longer c o p front before is (inr (more, e)) = inr (more, λ i. is i ∷ e i)
+
+before_or_in : (c : ℕ) (front before rest after : List ℕ) → front ++ rest ≡ before ++ c ∷ after → IsBeforeOrIn c front before
+before_or_in c [] before rest after e = inl (omega arith)
+before_or_in c (o ∷ front) [] rest after e = inr (front, let is : o ≡ c = cc in λ i. is i ∷ front)
+before_or_in c (o ∷ front) (p ∷ before) rest after e =
+    let is : o ≡ p = cc in
+    let more : front ++ rest ≡ before ++ c ∷ after = cc in
+    one_longer c o p front before is (before_or_in c front before rest after more)
+
+module_first : (home before : List ℕ) → HasNoneOutside 58 home → IsClosed before
+    → IsBeforeOrIn 58 home before → length home ≤ length before
+module_first home before none closed (inl low) = low
+module_first home before none closed (inr (more, is)) = absurd (none before more is closed)
+
+pub module_before : (text home rest : List ℕ) → IsCut 58 text home (58 ∷ rest) → Some (home, rest) ≡ module_after None text
+module_before text home rest cut = sym (one_module text home rest (record {
+  parts = cut.parts;
+  outside = cut.outside;
+  first = λ before after e closed.
+      module_first home before cut.first closed (before_or_in 58 home before (58 ∷ 58 ∷ rest) (58 ∷ after) (sym cut.parts ∙ e));
+}))

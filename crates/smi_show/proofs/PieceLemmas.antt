@@ -5,9 +5,9 @@ use Rattle.std.proofs.{lemmas.Grind.common_steps, lemmas.Grind.flat_map-append, 
 use Rattle.std.proofs.{lemmas.Bool.and_parts, Math.Seq.take-append_seam, Math.Seq.drop-append_seam}
 use Rattle.std.specs.List.{list_all, flat_map}
 use Rattle.std.proofs.lemmas.List.Elements.{All-nil, All-cons, All-append, All-map, All-take, All-drop}
-use Rattle.smi_show.specs.{declared.index.part.Extent.Extent, declared.index.part.IndexPart.IndexPart}
-use Rattle.smi_show.specs.declared.index.part.Extent.TheVariants.{Fixed, Counted, Implied}
-use Rattle.smi_show.specs.declared.index.part.IndexPart.TheVariants.{Number, Text}
+use Rattle.smi_tree.specs.{declared.columns.index_part.Extent.Extent, declared.columns.index_part.IndexPart.IndexPart}
+use Rattle.smi_tree.specs.declared.columns.index_part.Extent.TheVariants.{Fixed, Counted, Implied}
+use Rattle.smi_tree.specs.declared.columns.index_part.IndexPart.TheVariants.{Number, Text}
 use Rattle.smi_show.specs.index.Index.{IsInExtent, ReadsValue, ReadValues, extent_of}
 use Rattle.smi_show.specs.private.index.Reading.{front_of, values_of, instance_pieces}
 use Rattle.smi_show.specs.index.Pieces.{Piece, plain_number, is_quotable, is_shown_text, piece_numbers, IsPiece, is_text, dotted_text, shown_pieces}

@@ -2,7 +2,9 @@
 use Rattle.std.proofs.Common.{arith, ◌≡◌, ℕ, true, false, ◌++◌, List, [], ◌∷◌, Option, Some, None, option_map, unwrap_or, refl, ap, ◌∙◌}
 use Rattle.std.proofs.{lemmas.Grind.common_steps, lemmas.Bool.and_parts, lemmas.Bool.or_from, lemmas.Bool.or_parts, lemmas.List.map-append}
 use Rattle.std.specs.List.{list_all}
-use Rattle.smi_show.specs.{declared.index.part.IndexPart.IndexPart, declared.index.part.IndexPart.TheVariants.Text, index.Index.ReadValues}
+use Rattle.smi_tree.specs.declared.columns.index_part.IndexPart.TheVariants.{Text}
+use Rattle.smi_show.specs.index.Index.{ReadValues}
+use Rattle.smi_tree.specs.declared.columns.index_part.IndexPart.{IndexPart}
 use Rattle.smi_show.specs.index.Pieces.{Piece, plain_number, as_numbers, index_pieces, is_plain, is_text, is_text_among, value_numbers}
 use Rattle.smi_show.specs.private.index.Reading.{has_text, instance_pieces, values_of}
 use Rattle.smi_show.proofs.{ReadingLemmas.all_found, PieceLemmas.read_whole}

@@ -8,36 +8,38 @@ use Rattle.snmp_oid.specs.{Identifier.IsIdentifier, Numeric.IsNumericName, Numer
 use Rattle.smi_text.specs.trees.Word.{is_word}
 use Rattle.smi_show.specs.index.Pieces.{Piece, piece_numbers, IsPiece, shown_piece, shown_pieces}
 use Rattle.smi_show.specs.{private.index.Reading.instance_pieces, declared.name.error.NameError.NameError, name.Cutting.name_parts}
-use Rattle.smi_show.specs.{name.Cutting.module_after, name.Naming.Naming, name.Naming.Standing, name.Naming.IsSound, name.Naming.LabelLeadsTo}
+use Rattle.smi_show.specs.{name.Cutting.module_after}
+use Rattle.smi_tree.specs.Tree.{Contents}
+use Rattle.smi_tree.specs.Naming.{Standing, IsSound, LabelLeadsTo, nearest_node, oid_of_child}
 use Rattle.smi_show.specs.{name.Word.Word, name.Meant.Scope, name.Meant.in_module, name.Meant.anywhere, name.Meant.found_in, name.Name.qualified}
 use Rattle.smi_show.specs.{name.Name.ReadsBack, private.name.Shown.standing_text, private.name.Shown.name_text}
-use Rattle.smi_value.specs.{declared.letters.letters.NameForm.NameForm, declared.letters.letters.NameForm.TheVariants.ModuleLabel}
+use Rattle.smi_value.specs.{declared.letters.NameForm.NameForm, declared.letters.NameForm.TheVariants.ModuleLabel}
 use Rattle.smi_show.specs.name.Meaning.{and_then, meaning_in, further_meaning, meaning, part_meaning, plain_meaning, scoped_meaning, word_meaning}
 use Rattle.smi_show.proofs.{NumericMeaning.fits, NumericMeaning.numeric_meaning, NumericMeaning.scoped, NumericMeaning.shorter, PieceLemmas.IsNumber}
 use Rattle.smi_show.proofs.{PieceLemmas.each, PieceLemmas.whole, PlainLemmas.plain_word, PlainLemmas.plain_word_begins, ShownLemmas.joined_module}
 use Rattle.smi_show.proofs.{ShownLemmas.joined_parts, ShownLemmas.plain_is_whole, ShownLemmas.scopes, WordLemmas.piece_word, WordLemmas.label_word}
 
 -- pieces after what stands so far
-further_pieces : (naming : Naming) (so_far : List ℕ) (pieces : List Piece) → All IsPiece pieces → length (so_far ++ flat_map piece_numbers pieces) ≤ 128
-    → further_meaning naming so_far (map shown_piece pieces) ≡ Ok (so_far ++ flat_map piece_numbers pieces)
-further_pieces naming so_far [] all low = ap (λ (t : List ℕ). Ok t) (sym (append-nil so_far))
-further_pieces naming so_far (piece ∷ pieces) all low =
+further_pieces : (tree : Contents) (so_far : List ℕ) (pieces : List Piece) → All IsPiece pieces → length (so_far ++ flat_map piece_numbers pieces) ≤ 128
+    → further_meaning tree so_far (map shown_piece pieces) ≡ Ok (so_far ++ flat_map piece_numbers pieces)
+further_pieces tree so_far [] all low = ap (λ (t : List ℕ). Ok t) (sym (append-nil so_far))
+further_pieces tree so_far (piece ∷ pieces) all low =
     let next : List ℕ = so_far ++ piece_numbers piece in
     let later : List ℕ = flat_map piece_numbers pieces in
     let grouped : next ++ later ≡ so_far ++ flat_map piece_numbers (piece ∷ pieces) = append_assoc so_far (piece_numbers piece) later in
     let low_here : length (next ++ later) ≤ 128 = subst (λ (t : List ℕ). length t ≤ 128) (sym grouped) low in
-    let here : part_meaning (naming.child so_far) so_far (shown_piece piece) ≡ Ok next
-    = ap (λ (w : Result Word NameError). and_then w (word_meaning (naming.child so_far) so_far)) (piece_word piece (All-head IsPiece piece pieces all))
+    let here : part_meaning (oid_of_child tree so_far) so_far (shown_piece piece) ≡ Ok next
+    = ap (λ (w : Result Word NameError). and_then w (word_meaning (oid_of_child tree so_far) so_far)) (piece_word piece (All-head IsPiece piece pieces all))
     ∙ fits next (shorter next later low_here) in
-    ap (λ (r : Result (List ℕ) NameError). and_then r (λ o. further_meaning naming o (map shown_piece pieces))) here
-    ∙ further_pieces naming next pieces (All-tail IsPiece piece pieces all) low_here
+    ap (λ (r : Result (List ℕ) NameError). and_then r (λ o. further_meaning tree o (map shown_piece pieces))) here
+    ∙ further_pieces tree next pieces (All-tail IsPiece piece pieces all) low_here
     ∙ ap (λ (t : List ℕ). Ok t) grouped
 
 -- a label, and pieces after it
-label_and_pieces : (naming : Naming) (scope : Scope) (label front : List ℕ) (pieces : List Piece) → is_word label ≡ true
-    → found_in naming scope label ≡ Some front → All IsPiece pieces → length (front ++ flat_map piece_numbers pieces) ≤ 128
-    → meaning_in naming scope (name_parts (label ++ shown_pieces pieces)) ≡ Ok (front ++ flat_map piece_numbers pieces)
-label_and_pieces naming scope label front pieces word found all low =
+label_and_pieces : (tree : Contents) (scope : Scope) (label front : List ℕ) (pieces : List Piece) → is_word label ≡ true
+    → found_in tree scope label ≡ Some front → All IsPiece pieces → length (front ++ flat_map piece_numbers pieces) ≤ 128
+    → meaning_in tree scope (name_parts (label ++ shown_pieces pieces)) ≡ Ok (front ++ flat_map piece_numbers pieces)
+label_and_pieces tree scope label front pieces word found all low =
     grind (arith, common_steps, label_word, joined_parts, plain_is_whole, plain_word, further_pieces)
 
 -- a text that begins with a word is more than a dot
@@ -50,38 +52,38 @@ begins_more [] rest h same = let wrong : ⊥ = cc in absurd wrong
 begins_more (octet ∷ more) rest h same = grind (arith, common_steps, plain_word_begins)
 
 -- without a module
-plain_label : (naming : Naming) (label rest : List ℕ) → is_word label ≡ true
-    → plain_meaning naming (label ++ rest) ≡ meaning_in naming anywhere (name_parts (label ++ rest))
-plain_label naming [] rest h = let wrong : ⊥ = cc in absurd wrong
-plain_label naming (octet ∷ more) rest h = rw ((plain_word_begins octet more h).dot) refl
+plain_label : (tree : Contents) (label rest : List ℕ) → is_word label ≡ true
+    → plain_meaning tree (label ++ rest) ≡ meaning_in tree anywhere (name_parts (label ++ rest))
+plain_label tree [] rest h = let wrong : ⊥ = cc in absurd wrong
+plain_label tree (octet ∷ more) rest h = rw ((plain_word_begins octet more h).dot) refl
 
 -- a label, with its module or alone as a root's, and what follows it
-qualified_back : (naming : Naming) (home : Option (List ℕ)) (label front : List ℕ) (pieces : List Piece) → is_word label ≡ true
-    → LabelLeadsTo naming home label front → All IsPiece pieces → length (front ++ flat_map piece_numbers pieces) ≤ 128
-    → meaning naming (qualified home label ++ shown_pieces pieces) ≡ Ok (front ++ flat_map piece_numbers pieces)
-qualified_back naming None label front pieces word found all low =
+qualified_back : (tree : Contents) (home : Option (List ℕ)) (label front : List ℕ) (pieces : List Piece) → is_word label ≡ true
+    → LabelLeadsTo tree home label front → All IsPiece pieces → length (front ++ flat_map piece_numbers pieces) ≤ 128
+    → meaning tree (qualified home label ++ shown_pieces pieces) ≡ Ok (front ++ flat_map piece_numbers pieces)
+qualified_back tree None label front pieces word found all low =
     let rest = shown_pieces pieces in
-    scoped naming (label ++ rest) (begins_some label rest word) (begins_more label rest word)
-    ∙ ap (scoped_meaning naming (label ++ rest)) (joined_module label pieces (plain_is_whole label (plain_word label word)) all)
-    ∙ plain_label naming label rest word
-    ∙ label_and_pieces naming anywhere label front pieces word found all low
-qualified_back naming (Some home) label front pieces word (home_word, loaded, found) all low =
+    scoped tree (label ++ rest) (begins_some label rest word) (begins_more label rest word)
+    ∙ ap (scoped_meaning tree (label ++ rest)) (joined_module label pieces (plain_is_whole label (plain_word label word)) all)
+    ∙ plain_label tree label rest word
+    ∙ label_and_pieces tree anywhere label front pieces word found all low
+qualified_back tree (Some home) label front pieces word (home_word, loaded, found) all low =
     let rest = label ++ shown_pieces pieces in
     let text = home ++ 58 ∷ 58 ∷ rest in
     let grouped : ((home ++ 58 ∷ 58 ∷ []) ++ label) ++ shown_pieces pieces ≡ text
     = append_assoc (home ++ 58 ∷ 58 ∷ []) label (shown_pieces pieces) ∙ append_assoc home (58 ∷ 58 ∷ []) rest in
     let cut : module_after None text ≡ Some (home, rest)
     = scopes home (58 ∷ 58 ∷ rest) (plain_is_whole home (plain_word home home_word)) ∙ ap (λ (t : List ℕ). Some (t, rest)) (append-nil home) in
-    ap (meaning naming) grouped
-    ∙ scoped naming text (begins_some home (58 ∷ 58 ∷ rest) home_word) (begins_more home (58 ∷ 58 ∷ rest) home_word)
-    ∙ ap (scoped_meaning naming text) cut
+    ap (meaning tree) grouped
+    ∙ scoped tree text (begins_some home (58 ∷ 58 ∷ rest) home_word) (begins_more home (58 ∷ 58 ∷ rest) home_word)
+    ∙ ap (scoped_meaning tree text) cut
     ∙ rw loaded refl
-    ∙ label_and_pieces naming (in_module home) label front pieces word found all low
+    ∙ label_and_pieces tree (in_module home) label front pieces word found all low
 
-module _ (written : (o : List ℕ) → IsIdentifier o → IsNumericName (numeric_text o) o) (naming : Naming) (numeric_index : Bool) (o : List ℕ) where
-  deepest_back : IsSound naming → IsIdentifier o → (standing : Option Standing) → naming.deepest o ≡ standing
-      → meaning naming (standing_text naming ModuleLabel numeric_index o standing) ≡ Ok o
-  deepest_back sound h None is = numeric_meaning naming (numeric_text o) o (written o h) h.short
+module _ (written : (o : List ℕ) → IsIdentifier o → IsNumericName (numeric_text o) o) (tree : Contents) (numeric_index : Bool) (o : List ℕ) where
+  deepest_back : IsSound tree → IsIdentifier o → (standing : Option Standing) → nearest_node tree o ≡ standing
+      → meaning tree (standing_text tree ModuleLabel numeric_index o standing) ≡ Ok o
+  deepest_back sound h None is = numeric_meaning tree (numeric_text o) o (written o h) h.short
   deepest_back sound h (Some node) is =
       let index = cond numeric_index None node.index in
       let rest : List ℕ = drop node.depth o in
@@ -89,10 +91,10 @@ module _ (written : (o : List ℕ) → IsIdentifier o → IsNumericName (numeric
       let front : List ℕ = take node.depth o in
       let same : front ++ flat_map piece_numbers pieces ≡ o = ap (λ (t : List ℕ). front ++ t) (whole index rest) ∙ take-append-drop node.depth o in
       let low : length (front ++ flat_map piece_numbers pieces) ≤ 128 = subst (λ (t : List ℕ). length t ≤ 128) (sym same) h.short in
-      qualified_back naming node.home node.label front pieces (sound.words o node is) (sound.leads o node is)
+      qualified_back tree node.home node.label front pieces (sound.words o node is) (sound.leads o node is)
       (each index rest (All-drop IsNumber node.depth o h.numbers)) low
       ∙ ap (λ (t : List ℕ). Ok t) same
 
-  pub name_back : (form : NameForm) → IsSound naming → ReadsBack form → IsIdentifier o → meaning naming (name_text naming form numeric_index o) ≡ Ok o
-  name_back form sound (inl is) h = rw is (numeric_meaning naming (numeric_text o) o (written o h) h.short)
-  name_back form sound (inr is) h = rw is (deepest_back sound h (naming.deepest o) refl)
+  pub name_back : (form : NameForm) → IsSound tree → ReadsBack form → IsIdentifier o → meaning tree (name_text tree form numeric_index o) ≡ Ok o
+  name_back form sound (inl is) h = rw is (numeric_meaning tree (numeric_text o) o (written o h) h.short)
+  name_back form sound (inr is) h = rw is (deepest_back sound h (nearest_node tree o) refl)

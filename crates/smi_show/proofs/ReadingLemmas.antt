@@ -4,8 +4,8 @@ use Rattle.std.proofs.{lemmas.Bool.false_from_ne_true, lemmas.List.take-append-d
 use Rattle.std.proofs.Common.{◌≡◌, ◌≢◌, ℕ, Bool, true, false, cond, List, [], ◌∷◌, ◌++◌, length, Option, Some, None, option_map, option_and_then}
 use Rattle.std.proofs.Common.{is_some, refl, sym, ◌∙◌, ◌↔◌, IsTrue, ap, subst, arith, length-append}
 use Rattle.std.specs.Bool.{OnTrue}
-use Rattle.smi_show.specs.{declared.index.part.Extent.Extent, declared.index.part.IndexPart.IndexPart}
-use Rattle.smi_show.specs.declared.index.part.Extent.TheVariants.{Fixed, Counted, Implied}
+use Rattle.smi_tree.specs.{declared.columns.index_part.Extent.Extent, declared.columns.index_part.IndexPart.IndexPart}
+use Rattle.smi_tree.specs.declared.columns.index_part.Extent.TheVariants.{Fixed, Counted, Implied}
 use Rattle.smi_show.specs.index.Index.{AreOctetNumbers, IsInExtent, LeavesIn, extent_of, is_of_octets, ReadsValue, ReadValues}
 use Rattle.smi_show.specs.private.index.Reading.{front_and_rest, counted, remaining, of_octets, in_extent, front_of, values_of}
 

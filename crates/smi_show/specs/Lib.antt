@@ -1,5 +1,4 @@
 pub mod Line
-pub mod Found
 pub mod index
 pub mod name
 pub mod details

@@ -1,8 +1,6 @@
 pub mod Cut
 pub mod Cutting
-pub mod Naming
 pub mod Beginnings
-pub mod Standing
 pub mod Word
 pub mod Meaning
 pub mod Name

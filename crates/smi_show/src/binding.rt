@@ -1,15 +1,16 @@
 //! The value of a binding, and its line.
-ghost use Rattle.std.specs.Prelude.{◌≡◌, ℕ, List, ◌++◌, codes, Option, OnOk, OnErr, option_map};
+ghost use Rattle.std.specs.Prelude.{◌≡◌, ℕ, List, ◌++◌, OnOk, OnErr, option_map};
 ghost use Rattle.std.specs.Option.{option_copied};
-ghost use Rattle.snmp_io.specs.draft.Draft.{Adds};
+ghost use Rattle.snmp_io.specs.Draft.{Adds};
 ghost use Rattle.snmp_wire.specs.ber.Value.{Datum, datum};
-ghost use Rattle.smi_value.specs.{Value.ShowsValue, Syntax.ObjectSyntax};
-ghost use Rattle.smi_value.specs.declared.letters.letters.Letters.{Letters};
-ghost use Rattle.smi_show.specs.{name.Naming.Naming, name.Standing.standing_of, Found.IsFound};
+ghost use Rattle.smi_value.specs.Value.{ShowsValue};
+ghost use Rattle.smi_value.specs.declared.letters.Letters.{Letters};
+ghost use Rattle.smi_tree.specs.{Found.IsFound, Tree.Contents};
+ghost use Rattle.smi_tree.specs.Naming.{nearest_node, nearest_syntax, standing_of};
 ghost use Rattle.smi_show.specs.Line.{IsLine, IsValueText, front_text, names_by, separator};
 
-use crate::name::{Node, name_by_node, name_text, numeric};
-use crate::{Found, Near, ShowTree};
+use crate::name::{name_by_node, name_text, numeric};
+use smi_tree::{Found, Near, NearestNode, Tree};
 use smi_value::{
     Letters, NameForm, TypeForm, ValueSyntax, append_identifier_word, append_value,
     one_value_by_names,
@@ -21,60 +22,39 @@ use std::alloc::AllocError;
 
 /// Appends the text of the value of an instance: its type, a colon, a blank and the value, as the
 /// letters and the syntax of the object say. If memory runs out, `out` is unchanged.
-pub fn value_text<T: ShowTree>(
-    tree: &T,
+pub fn value_text(
+    tree: &Tree,
     letters: &Letters,
     name: &Oid,
     value: &ValueRef<'_>,
     out: &mut Vec<u8>,
 ) -> Result<(), AllocError>
-    ensures ok { let syntax = T.syntax_at tree.now name.now in
-        OnOk result ((text : List ℕ)
-        × IsValueText (T.naming tree.now) letters.now syntax (datum value.now) text
+    ensures ok { OnOk result ((text : List ℕ)
+        × IsValueText tree.now letters.now name.now (datum value.now) text
         × (out.new.items ≡ out.old.items ++ text)) }
     ensures unchanged_on_error { OnErr result (out.new.items ≡ out.old.items) }
 {
     let mut draft = Draft::after(out);
-    let syntax = tree.syntax(name);
+    let syntax = tree.nearest_syntax(name);
     append_shown(tree, letters, syntax.as_ref(), value, &mut draft);
     draft.finish(out)
 }
 
 /// Appends the line of a binding: name, ` = `, value and a newline, as the letters say. If memory
 /// runs out, `out` is unchanged.
-pub fn line<T: ShowTree>(
-    tree: &T,
+pub fn line(
+    tree: &Tree,
     letters: &Letters,
     name: &Oid,
     value: &ValueRef<'_>,
     out: &mut Vec<u8>,
 ) -> Result<(), AllocError>
-    ensures ok { let syntax = T.syntax_at tree.now name.now in
-        OnOk result ((text : List ℕ)
-        × IsLine (T.naming tree.now) letters.now syntax name.now (datum value.now) text
+    ensures ok { OnOk result ((text : List ℕ)
+        × IsLine tree.now letters.now name.now (datum value.now) text
         × (out.new.items ≡ out.old.items ++ text)) }
     ensures unchanged_on_error { OnErr result (out.new.items ≡ out.old.items) }
 {
-    line_near(tree, letters, name, value, &mut Near::new(), out)
-}
-
-/// Does what [`line`] does, for one binding after the other: the tree begins its search at the node
-/// of the last one.
-pub fn line_near<T: ShowTree>(
-    tree: &T,
-    letters: &Letters,
-    name: &Oid,
-    value: &ValueRef<'_>,
-    near: &mut Near,
-    out: &mut Vec<u8>,
-) -> Result<(), AllocError>
-    ensures ok { let syntax = T.syntax_at tree.now name.now in
-        OnOk result ((text : List ℕ)
-        × IsLine (T.naming tree.now) letters.now syntax name.now (datum value.now) text
-        × (out.new.items ≡ out.old.items ++ text)) }
-    ensures unchanged_on_error { OnErr result (out.new.items ≡ out.old.items) }
-{
-    let found = tree.found_for(name, near);
+    let found = tree.found_for(name, &mut Near::new());
     let mut draft = Draft::after(out);
     append_line(tree, letters, name, &found, value, &mut draft);
     draft.finish(out)
@@ -84,10 +64,9 @@ pub fn line_near<T: ShowTree>(
 ///
 /// A law: the call does nothing, and its caller may use what it ensures.
 pub fn one_value()
-    ensures { (naming : Naming) (letters : Letters) (syntax : Option ObjectSyntax)
-        (value : Datum) (text other : List ℕ)
-        → IsValueText naming letters syntax value text
-        → IsValueText naming letters syntax value other → text ≡ other }
+    ensures { (tree : Contents) (letters : Letters) (name : List ℕ) (value : Datum)
+        (text other : List ℕ) → IsValueText tree letters name value text
+        → IsValueText tree letters name value other → text ≡ other }
 {
     one_value_by_names();
 }
@@ -96,26 +75,25 @@ pub fn one_value()
 ///
 /// A law: the call does nothing, and its caller may use what it ensures.
 pub fn one_line()
-    ensures { (naming : Naming) (letters : Letters) (syntax : Option ObjectSyntax)
-        (name : List ℕ) (value : Datum) (text other : List ℕ)
-        → IsLine naming letters syntax name value text
-        → IsLine naming letters syntax name value other → text ≡ other }
+    ensures { (tree : Contents) (letters : Letters) (name : List ℕ) (value : Datum)
+        (text other : List ℕ) → IsLine tree letters name value text
+        → IsLine tree letters name value other → text ≡ other }
 {
     one_value();
 }
 
 /// Appends the line of a binding, by what the tree found for its name.
-pub(crate) fn append_line<T: ShowTree>(
-    tree: &T,
+pub(crate) fn append_line(
+    tree: &Tree,
     letters: &Letters,
     name: &Oid,
     found: &Found<'_>,
     value: &ValueRef<'_>,
     draft: &mut Draft,
 )
-    requires { IsFound (T.naming tree.now) (T.syntax_at tree.now) name.now found.now }
-    ensures { let syntax = T.syntax_at tree.now name.now in (text : List ℕ)
-        × IsLine (T.naming tree.now) letters.now syntax name.now (datum value.now) text
+    requires { IsFound tree.now name.now found.now }
+    ensures { (text : List ℕ)
+        × IsLine tree.now letters.now name.now (datum value.now) text
         × Adds draft.old text draft.new }
 {
     append_parts(tree, letters, name, found, value, draft);
@@ -123,18 +101,18 @@ pub(crate) fn append_line<T: ShowTree>(
 }
 
 /// Appends the name and the value.
-fn append_parts<T: ShowTree>(
-    tree: &T,
+fn append_parts(
+    tree: &Tree,
     letters: &Letters,
     name: &Oid,
     found: &Found<'_>,
     value: &ValueRef<'_>,
     draft: &mut Draft,
 )
-    requires { IsFound (T.naming tree.now) (T.syntax_at tree.now) name.now found.now }
-    ensures { let names = names_by (T.naming tree.now) letters.now in
+    requires { IsFound tree.now name.now found.now }
+    ensures { let names = names_by tree.now letters.now in
         let front = front_text letters.now (names name.now) in (text : List ℕ)
-        × ShowsValue names letters.now (T.syntax_at tree.now name.now) (datum value.now) text
+        × ShowsValue names letters.now (nearest_syntax tree.now name.now) (datum value.now) text
         × Adds draft.old (front ++ text) draft.new }
 {
     append_front(tree, letters, name, found.node, draft);
@@ -142,15 +120,15 @@ fn append_parts<T: ShowTree>(
 }
 
 /// Appends the name and what stands between it and the value, unless only the value is shown.
-fn append_front<T: ShowTree>(
-    tree: &T,
+fn append_front(
+    tree: &Tree,
     letters: &Letters,
     name: &Oid,
-    node: Option<Node<'_>>,
+    node: Option<NearestNode<'_>>,
     draft: &mut Draft,
 )
-    requires { option_map standing_of node ≡ (T.naming tree.now).deepest name.now }
-    ensures { let shown = names_by (T.naming tree.now) letters.now name.now in
+    requires { option_map standing_of node ≡ nearest_node tree.now name.now }
+    ensures { let shown = names_by tree.now letters.now name.now in
         Adds draft.old (front_text letters.now shown) draft.new }
 {
     if !letters.value_alone {
@@ -160,15 +138,15 @@ fn append_front<T: ShowTree>(
 }
 
 /// Appends the name, in numbers or by its node.
-fn append_name<T: ShowTree>(
-    tree: &T,
+fn append_name(
+    tree: &Tree,
     letters: &Letters,
     name: &Oid,
-    node: Option<Node<'_>>,
+    node: Option<NearestNode<'_>>,
     draft: &mut Draft,
 )
-    requires { option_map standing_of node ≡ (T.naming tree.now).deepest name.now }
-    ensures { Adds draft.old (names_by (T.naming tree.now) letters.now name.now) draft.new }
+    requires { option_map standing_of node ≡ nearest_node tree.now name.now }
+    ensures { Adds draft.old (names_by tree.now letters.now name.now) draft.new }
 {
     if letters.names == NameForm::Numeric {
         numeric(name, draft);
@@ -195,14 +173,14 @@ fn append_separator(types: TypeForm, draft: &mut Draft)
 }
 
 /// Appends the value.
-fn append_shown<T: ShowTree>(
-    tree: &T,
+fn append_shown(
+    tree: &Tree,
     letters: &Letters,
     syntax: Option<&ValueSyntax<'_>>,
     value: &ValueRef<'_>,
     draft: &mut Draft,
 )
-    ensures { let names = names_by (T.naming tree.now) letters.now in (text : List ℕ)
+    ensures { let names = names_by tree.now letters.now in (text : List ℕ)
         × ShowsValue names letters.now (option_copied syntax.entry) (datum value.now) text
         × Adds draft.old text draft.new }
 {

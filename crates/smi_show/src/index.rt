@@ -2,11 +2,38 @@
 //! and their text.
 //!
 //! Names as text build on this module; a tree of modules says which parts an index has.
+ghost use Rattle.std.specs.Prelude.{◌≡◌, ℕ, ◌↔◌, List, IsTrue};
+ghost use Rattle.smi_show.specs.{index.Index.ReadValues};
+ghost use Rattle.smi_tree.specs.declared.columns.index_part.IndexPart.{IndexPart};
 
-mod index;
 mod part;
 mod shown;
 
-pub use index::{one_list, reads};
-pub use part::{Extent, IndexPart, one_part_reading, read_part};
+pub use part::{one_part_reading, read_part};
 pub use shown::{index_text, is_quotable, numbers_text, pieces_stand_for_numbers};
+use smi_tree::IndexPart;
+
+/// Whether the whole list of numbers is the encodings of the parts of an index, one after the other
+/// (RFC 2578, section 7.7).
+pub fn reads(parts: &[IndexPart], numbers: &[u32]) -> bool
+    ensures { IsTrue result
+        ↔ ((values : List (List ℕ)) × ReadValues parts.now numbers.now values) }
+{
+    let mut left = numbers;
+    'parts: for part in parts {
+        match read_part(*part, left) {
+            Some((_, rest)) => left = rest,
+            None => return false,
+        }
+    }
+    left.is_empty()
+}
+
+/// Numbers are the encodings of at most one list of values.
+///
+/// A law: the call does nothing, and its caller may use what it ensures.
+#[inline]
+pub fn one_list()
+    ensures { (parts : List IndexPart) (numbers : List ℕ) (values others : List (List ℕ))
+        → ReadValues parts numbers values → ReadValues parts numbers others → values ≡ others }
+{}

@@ -1,4 +1,5 @@
-//! Names, values, lines and details as text, appended to a `Vec<u8>`, over any tree of nodes.
+//! Names, values, lines and details as text, appended to a `Vec<u8>`, by a tree of loaded modules;
+//! and the identifier that a name means.
 //!
 //! This is what the tools print of names and bindings. Each call appends its whole text, or leaves
 //! the `Vec<u8>` unchanged if memory runs out.
@@ -10,7 +11,7 @@
 //! ```
 //! let text = b"A-MIB DEFINITIONS ::= BEGIN a OBJECT IDENTIFIER ::= { iso 5 } END";
 //! let modules = parse_modules(alloc, text)?;
-//! let (tree, _warnings) = Tree::load(alloc, NameHash::Fixed, modules)?;
+//! let (tree, _warnings) = Tree::load(alloc, modules)?;
 //! let name = resolve(&tree, b"A-MIB::a.1.0")?;
 //! let mut text = Vec::new(alloc);
 //! line(&tree, &Letters::new(), &name, &ValueRef::Integer(7), &mut text)?;
@@ -23,17 +24,18 @@ mod details;
 mod index;
 mod name;
 mod text;
-mod tree;
 mod writer;
 
-pub use crate::details::DetailTree;
-pub use crate::index::{Extent, IndexPart};
-pub use crate::name::{
-    NameError, NameTree, Node, meanings_are_computed, numbers_are_read, one_meaning, resolve,
-    resolve_front, resolve_front_into, resolve_into,
-};
-pub use binding::{line, line_near, one_line, one_value, value_text};
-pub use smi_value::{Letters, NameForm};
-pub use text::{detail, name_text, one_detail, one_name};
-pub use tree::{Found, Near, ShowTree};
+pub use crate::name::{NameError, resolve, resolve_front_into, resolve_into};
+pub use smi_value::{Hint, HintValue, Letters, NameForm, StringForm, TypeForm, write_hint};
+pub use text::{detail, name_text};
 pub use writer::LineWriter;
+
+// One line, value or front by itself, which no tool asks for.
+pub use crate::name::resolve_front;
+pub use binding::{line, value_text};
+
+// Laws: the calls do nothing, and a proof may use what they ensure.
+pub use crate::name::{meanings_are_computed, numbers_are_read, one_meaning};
+pub use binding::{one_line, one_value};
+pub use text::{one_detail, one_name};

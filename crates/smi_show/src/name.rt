@@ -1,22 +1,140 @@
-//! Names of managed objects: the identifier that a name means, and the name of an identifier, over
-//! any tree of nodes.
+//! Names of managed objects: the name of an identifier as text, and the identifier that a name
+//! means.
 //!
 //! Depends on the index of rows; the tree of loaded modules says which nodes there are.
+ghost use Rattle.std.specs.Prelude.{◌≡◌, ◌≤◌, ◌++◌, [], length, option_map, codes};
+ghost use Rattle.std.specs.Prelude.{Some, None};
+ghost use Rattle.std.specs.Option.{option_copied};
+ghost use Rattle.snmp_oid.specs.Numeric.{numeric_text};
+ghost use Rattle.snmp_io.specs.Draft.{Adds};
+ghost use Rattle.smi_tree.specs.Naming.{standing_of, nearest_node};
+ghost use Rattle.smi_show.specs.name.Name.{arc_text, node_text, path_text, qualified};
+ghost use Rattle.smi_show.specs.private.name.Shown.{instance_text, name_text, standing_text};
 
 mod cut;
 mod error;
 mod laws;
 mod meaning;
-mod name;
 mod part;
 mod piece;
-mod scope;
-mod tree;
-mod word;
 
+use crate::index::{index_text, numbers_text};
 pub use error::NameError;
 pub use laws::{meanings_are_computed, numbers_are_read, one_meaning};
 pub use meaning::{resolve, resolve_front, resolve_front_into, resolve_into};
-pub use name::{name_by_node, name_text, numeric};
-pub use smi_value::NameForm;
-pub use tree::{NameTree, Node};
+use smi_tree::{Near, NearestNode, Tree};
+use smi_value::NameForm;
+use snmp_io::Draft;
+use snmp_oid::Oid;
+
+/// Appends the name of an identifier.
+///
+/// With `numeric_index`, the letter `b`, the numbers after a column are shown as numbers.
+pub fn name_text(tree: &Tree, form: NameForm, numeric_index: bool, oid: &Oid, draft: &mut Draft)
+    ensures { Adds draft.old (name_text tree.now form numeric_index oid.now) draft.new }
+{
+    if form == NameForm::Numeric {
+        numeric(oid, draft);
+    } else {
+        name_by_node(tree, form, numeric_index, oid, tree.nearest(oid), draft);
+    }
+}
+
+/// Appends the name of an identifier by `node`, its deepest node, and what follows that; in numbers
+/// if there is no node.
+pub fn name_by_node(
+    tree: &Tree,
+    form: NameForm,
+    numeric_index: bool,
+    oid: &Oid,
+    node: Option<NearestNode<'_>>,
+    draft: &mut Draft,
+)
+    requires { option_map standing_of node ≡ nearest_node tree.now oid.now }
+    ensures { let standing = nearest_node tree.now oid.now in
+        let text = standing_text tree.now form numeric_index oid.now standing in
+        Adds draft.old text draft.new }
+{
+    tree.is_sound();
+    match node {
+        None => numeric(oid, draft),
+        Some(node) => {
+            node_text(tree, form, oid, node, draft);
+            instance_text(numeric_index, oid, node, draft);
+        }
+    }
+}
+
+/// Appends each number after a dot; a dot alone if there are no numbers.
+pub fn numeric(oid: &Oid, draft: &mut Draft)
+    ensures { Adds draft.old (numeric_text oid.now) draft.new }
+{
+    match oid.as_slice() {
+        [] => draft.octet(b'.'),
+        numbers => numbers_text(numbers, draft),
+    }
+}
+
+/// The deepest node in a form.
+fn node_text(tree: &Tree, form: NameForm, oid: &Oid, node: NearestNode<'_>, draft: &mut Draft)
+    requires { node.depth ≤ length oid.now }
+    ensures { let text = node_text tree.now form oid.now (standing_of node.entry) in
+        Adds draft.old text draft.new }
+{
+    match form {
+        NameForm::Numeric => {}
+        NameForm::Full => path(tree, &oid.as_slice()[..node.depth], draft),
+        NameForm::Label => draft.octets(node.label),
+        NameForm::ModuleLabel => qualified(node, draft),
+    }
+}
+
+/// The label with its module before it, a root's alone.
+fn qualified(node: NearestNode<'_>, draft: &mut Draft)
+    ensures { let text = qualified (option_copied node.entry.home) node.entry.label.now in
+        Adds draft.old text draft.new }
+{
+    if let Some(home) = node.home {
+        draft.octets(home);
+        draft.octets(b"::");
+    }
+    draft.octets(node.label);
+}
+
+/// For each number the label of the node there, or the number, after a dot.
+fn path(tree: &Tree, numbers: &[u32], draft: &mut Draft)
+    requires { length numbers.now ≤ 128 }
+    ensures { Adds draft.old (path_text tree.now numbers.now) draft.new }
+{
+    let mut here = Oid::new();
+    let mut near = Near::new();
+    'numbers: for number in numbers {
+        here.push_with_room(*number);
+        arc(tree, &here, *number, &mut near, draft);
+    }
+}
+
+/// The label of the node that stands for an identifier, or its last number, after a dot.
+fn arc(tree: &Tree, here: &Oid, number: u32, near: &mut Near, draft: &mut Draft)
+    ensures { let standing = nearest_node tree.now here.now in
+        Adds draft.old (codes "." ++ arc_text standing here.now number) draft.new }
+{
+    draft.octet(b'.');
+    match tree.nearest_from(here, near) {
+        Some(node) if node.depth == here.len() => draft.octets(node.label),
+        _ => draft.number(u64::from(number)),
+    }
+}
+
+/// The numbers after a node, by its index unless they are to be shown as numbers.
+fn instance_text(numeric_index: bool, oid: &Oid, node: NearestNode<'_>, draft: &mut Draft)
+    requires { node.depth ≤ length oid.now }
+    ensures { let text = instance_text numeric_index oid.now (standing_of node.entry) in
+        Adds draft.old text draft.new }
+{
+    let rest = &oid.as_slice()[node.depth..];
+    match node.index {
+        Some(parts) if !numeric_index => index_text(parts, rest, draft),
+        _ => numbers_text(rest, draft),
+    }
+}

@@ -2,10 +2,11 @@
 ghost use Rattle.std.specs.Prelude.{◌≡◌, ℕ, List, ◌++◌, ◌↔◌, OnOk, OnErr, IsTrue, MatchOption};
 ghost use Rattle.snmp_oid.specs.Identifier.{IsBelow};
 ghost use Rattle.snmp_wire.specs.ber.Value.{datum};
-ghost use Rattle.smi_show.specs.{Found.IsFound, Found.IsFoundBelow, Line.IsLine};
+ghost use Rattle.smi_show.specs.Line.{IsLine};
+ghost use Rattle.smi_tree.specs.Found.{IsFound, IsFoundBelow};
 
 use crate::binding::append_line;
-use crate::{Found, Near, ShowTree};
+use smi_tree::{Found, Near, Tree};
 use smi_value::Letters;
 use snmp_io::Draft;
 use snmp_oid::Oid;
@@ -18,27 +19,27 @@ use std::marker::Model;
 /// It keeps what the tree found for the name of the last line, where that is found for other names
 /// too: lines of one column follow one another. A contract sees its tree.
 #[derive(Drop)]
-pub struct LineWriter<'t, T: ShowTree> {
-    tree: &'t T,
+pub struct LineWriter<'t> {
+    tree: &'t Tree,
     near: Near,
     // What was found for the last name.
     found: Found<'t>,
 }
 
-impl<'t, T: ShowTree> Model for LineWriter<'t, T> {
-    ghost use Rattle.smi_show.specs.Found.{IsFoundBelow};
+impl<'t> Model for LineWriter<'t> {
+    ghost use Rattle.smi_tree.specs.{Found.IsFoundBelow, Tree.Contents};
 
-    ghost Value = { T };
+    ghost Value = { Contents };
 
     ghost view = { λ w. w.tree.now };
 
     // What it keeps was found by its tree for each name below one identifier.
-    ghost invariant = { λ w. IsFoundBelow (T.naming w.tree.now) (T.syntax_at w.tree.now) w.found };
+    ghost invariant = { λ w. IsFoundBelow w.tree.now w.found };
 }
 
-impl<'t, T: ShowTree> LineWriter<'t, T> {
+impl<'t> LineWriter<'t> {
     /// For lines by this tree.
-    pub fn new(tree: &'t T) -> LineWriter<'t, T>
+    pub fn new(tree: &'t Tree) -> LineWriter<'t>
         ensures { result ≡ tree.now }
     {
         LineWriter {
@@ -62,9 +63,8 @@ impl<'t, T: ShowTree> LineWriter<'t, T> {
         out: &mut Vec<u8>,
     ) -> Result<(), AllocError>
         ensures same { self.new ≡ self.old }
-        ensures ok { let syntax = T.syntax_at self.old name.now in
-            OnOk result ((text : List ℕ)
-            × IsLine (T.naming self.old) letters.now syntax name.now (datum value.now) text
+        ensures ok { OnOk result ((text : List ℕ)
+            × IsLine self.old letters.now name.now (datum value.now) text
             × (out.new.items ≡ out.old.items ++ text)) }
         ensures unchanged_on_error { OnErr result (out.new.items ≡ out.old.items) }
     {
@@ -76,10 +76,10 @@ impl<'t, T: ShowTree> LineWriter<'t, T> {
 }
 
 /// Finds a name, unless what was found for the last name holds for it too.
-fn find<'t, T: ShowTree>(tree: &'t T, name: &Oid, near: &mut Near, found: &mut Found<'t>)
-    requires { IsFoundBelow (T.naming tree.now) (T.syntax_at tree.now) found.old }
-    ensures found { IsFound (T.naming tree.now) (T.syntax_at tree.now) name.now found.new }
-    ensures below { IsFoundBelow (T.naming tree.now) (T.syntax_at tree.now) found.new }
+fn find<'t>(tree: &'t Tree, name: &Oid, near: &mut Near, found: &mut Found<'t>)
+    requires { IsFoundBelow tree.now found.old }
+    ensures found { IsFound tree.now name.now found.new }
+    ensures below { IsFoundBelow tree.now found.new }
 {
     if is_known(found, name) {
         return;

@@ -7,7 +7,7 @@ use Rattle.std.proofs.lemmas.Bool.{and_parts, eqb-true, not-true}
 use Rattle.smi_text.specs.declared.lexer.token.TokenKind.{TokenKind}
 use Rattle.smi_text.specs.declared.lexer.token.TokenKind.TheVariants as K
 use Rattle.smi_text.specs.{declared.trees.tree.TokenText.TokenText, trees.Mark.same_kind, private.Grammar.depth_after, private.Grammar.is_outside}
-use Rattle.smi_text.specs.trees.Fronts.{opening_braces, closing_braces, fronts, has_balanced_braces}
+use Rattle.smi_text.specs.trees.Braces.{opening_braces, closing_braces, fronts, has_balanced_braces}
 use Rattle.smi_text.proofs.Marks.{same_kind-eq}
 use Rattle.smi_text.specs.trees.Braces.{IsBalanced, none, other, nested}
 

@@ -7,7 +7,7 @@ use Rattle.std.proofs.{lemmas.List.Folds.list_any-append, lemmas.List.Folds.list
 use Rattle.std.specs.{List.flat_map, List.list_any, BTreeSet.BTreeSet}
 use Rattle.smi_text.specs.{lexer.Token.Lexeme, lexer.Token.Item, lexer.Token.tokens_of, Text.HasNoDoubles, Text.HasSecond, trees.Lookup.labels}
 use Rattle.smi_text.specs.{trees.Lookup.are_distinct, declared.trees.tree.Def.Def, declared.trees.names.Name.Name}
-use Rattle.smi_text.specs.{declared.trees.tree.DefKind.DefKind, declared.trees.tree.Module.Module, private.Names.has, declared.stop.Stop.Stop}
+use Rattle.smi_text.specs.{declared.trees.tree.DefKind.DefKind, declared.trees.tree.Module.Module, private.Names.has, declared.error.Stop.Stop}
 use Rattle.smi_text.specs.{declared.error.ParseError.ParseError, declared.modules.Head.Head}
 use Rattle.smi_text.specs.trees.Mark.{Mark, MarksToken, spelled, on_line, same_text}
 use Rattle.smi_text.specs.private.Format.{StandsAhead, Ahead, begins, many, with_front, shaped, pair, before, lower}

@@ -4,7 +4,7 @@ use Rattle.std.proofs.{lemmas.Grind.common_steps, lemmas.Bool.and_from, lemmas.B
 use Rattle.std.specs.Prelude.{drop, IfOk, IfErr}
 use Rattle.smi_text.specs.{declared.lexer.token.TokenKind.TokenKind, lexer.Lexeme.IsLexeme, lexer.Token.Lexeme, lexer.Token.Item}
 use Rattle.smi_text.specs.{trees.Mark.sign_text, trees.Mark.same_text, declared.trees.names.Name.Name, private.Kinds.is_sign_kind}
-use Rattle.smi_text.specs.{declared.stop.Stop.Stop, declared.stop.Stop.TheVariants.Memory, private.Returned.ReturnsReading}
+use Rattle.smi_text.specs.{declared.error.Stop.Stop, declared.error.Stop.TheVariants.Memory, private.Returned.ReturnsReading}
 use Rattle.smi_text.specs.{private.Returned.is_memory, private.Format.Ahead, private.Format.name_of, private.Format.name_where, private.Format.token}
 use Rattle.smi_text.proofs.{Marks.same_kind-same, Marks.same_text-same, NameLaws.name_of-octets}
 

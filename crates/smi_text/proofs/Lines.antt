@@ -2,7 +2,7 @@
 use Rattle.std.proofs.Common.{arith, ◌≡◌, ℕ, Bool, true, false, List, [], ◌∷◌, ◌++◌, Option, if◌then◌else◌, refl, ◌∙◌, ap}
 use Rattle.std.proofs.{lemmas.Grind.common_steps, lemmas.List.map-append, lemmas.List.Folds.flat_map-map, lemmas.Simd.map-map}
 use Rattle.std.specs.{Prelude.map, Prelude.option_map, List.flat_map}
-use Rattle.smi_text.specs.{lexer.Token.Lexeme, trees.Fronts.has_balanced_braces, trees.Lines.plain, trees.Lines.unlined}
+use Rattle.smi_text.specs.{lexer.Token.Lexeme, trees.Braces.has_balanced_braces, trees.Lines.plain, trees.Lines.unlined}
 use Rattle.smi_text.specs.{declared.trees.names.Name.Name, declared.trees.tree.Module.Module, declared.trees.tree.TokenText.TokenText}
 use Rattle.smi_text.specs.{declared.trees.tree.DefKind.DefKind, declared.trees.tree.Part.Part, declared.trees.tree.Index.Index}
 use Rattle.smi_text.specs.{declared.trees.tree.Syntax.Syntax, declared.trees.tree.Base.Base, declared.trees.tree.Refinement.Refinement}

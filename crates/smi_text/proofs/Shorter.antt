@@ -1,7 +1,7 @@
 -- Productions of which there may be several in a row take a token at least.
 use Rattle.std.proofs.Common.{◌≡◌, ◌<◌, false, List, Result, Ok, Err, length, refl}
 use Rattle.std.specs.Prelude.{OnOk}
-use Rattle.smi_text.specs.{lexer.Token.Item, declared.stop.Stop.Stop, trees.Mark.Mark, private.Format.Format, private.Format.lower}
+use Rattle.smi_text.specs.{lexer.Token.Item, declared.error.Stop.Stop, trees.Mark.Mark, private.Format.Format, private.Format.lower}
 use Rattle.smi_text.specs.private.Returned.{ReturnsReading}
 use Rattle.smi_text.specs.private.Grammar as g
 use Rattle.smi_text.proofs.{Productions.all, Lawful.Lawful, Many.reading-shorter, Laws.lower-law, RawLaws.before_assign-law, RawLaws.before_end-law}

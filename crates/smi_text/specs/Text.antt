@@ -7,7 +7,7 @@ use Rattle.smi_text.specs.{declared.trees.tree.Module.Module, declared.trees.tre
 use Rattle.smi_text.specs.{declared.trees.tree.Import.Import, declared.trees.tree.Def.Def}
 use Rattle.smi_text.specs.{trees.Mark.Stands, trees.Mark.same_text, trees.Lookup.labels}
 use Rattle.smi_text.specs.{trees.Lookup.are_distinct, declared.trees.names.Name.Name}
-use Rattle.smi_text.specs.declared.lexer.error.LexError.{LexError}
+use Rattle.smi_text.specs.declared.lexer.token.LexError.{LexError}
 use Rattle.smi_text.specs.declared.error.ParseError.TheVariants as E
 use Rattle.smi_text.specs.trees.Spelling.{spelling, of_head, of_def}
 

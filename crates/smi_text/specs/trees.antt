@@ -3,7 +3,6 @@ pub mod Octets
 pub mod Mark
 pub mod Reserved
 pub mod Number
-pub mod Fronts
 pub mod Spelling
 pub mod Lines
 pub mod Braces

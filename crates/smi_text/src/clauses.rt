@@ -8,9 +8,9 @@ ghost use Rattle.smi_text.specs.private.Grammar as grammar;
 ghost use Rattle.smi_text.specs.declared.lexer.token.TokenKind.TheVariants as kinds;
 ghost use Rattle.smi_text.specs.private.Returned.{ReturnsReading};
 
+use crate::error::Stop;
 use crate::lexer::TokenKind;
 use crate::parser::{AfterComma, Parser, Production, keep};
-use crate::stop::Stop;
 use crate::trees::{Index, IndexParts, Items, Name, Revision, Status, TokenText};
 
 /// A name in lower case.

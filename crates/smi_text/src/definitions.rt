@@ -8,9 +8,9 @@ ghost use Rattle.smi_text.specs.private.Grammar as grammar;
 ghost use Rattle.smi_text.specs.private.Returned.{ReturnsReading};
 
 use crate::clauses::{BeforeAssign, BeforeEnd, OneRevision};
+use crate::error::Stop;
 use crate::lexer::TokenKind;
 use crate::parser::{AfterComma, Parser};
-use crate::stop::Stop;
 use crate::syntax::OneField;
 use crate::trees::{
     Def, DefKind, Field, Group, Items, ModuleIdentity, Name, NotificationType, ObjectIdentity,

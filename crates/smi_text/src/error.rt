@@ -1,7 +1,6 @@
-//! Why a module text is refused.
+//! Why a module text is refused, and why a step of the parser stops.
 
 use crate::lexer::LexError;
-use crate::stop::Stop;
 use thiserror::Error;
 
 /// Why a text is refused as a whole. Lines count from 1.
@@ -19,6 +18,17 @@ pub enum ParseError {
     DoubleName { line: usize },
     /// An allocation was refused.
     #[error("out of memory")]
+    Memory,
+}
+
+/// What ends the reading of a text.
+#[derive(Clone, Copy, Debug)]
+pub(crate) enum Stop {
+    /// The text can't continue with the token ahead, or can't end here, in this line.
+    Syntax { line: usize },
+    /// The text breaks off in the lexer, with this fault.
+    Lex(LexError),
+    /// An allocation was refused.
     Memory,
 }
 

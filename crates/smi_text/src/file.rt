@@ -6,7 +6,7 @@ ghost use Rattle.std.specs.Prelude.{map, true, false, Some, ◌↔◌, ◌||◌,
 ghost use Rattle.smi_text.specs.{lexer.Token.Lexeme, trees.Mark.Stands, trees.Mark.same_text};
 ghost use Rattle.smi_text.specs.{private.Names.has, trees.Spelling.spelling, trees.Lines.plain};
 ghost use Rattle.smi_text.specs.{trees.Lines.unlined, trees.Braces.IsBalanced};
-ghost use Rattle.smi_text.specs.{trees.Fronts.has_balanced_braces, private.Grammar.definition};
+ghost use Rattle.smi_text.specs.{trees.Braces.has_balanced_braces, private.Grammar.definition};
 ghost use Rattle.smi_text.specs.private.Returned.{ReadsDefinitions, ReadsModule, ReadsModules};
 ghost use Rattle.smi_text.specs.private.Returned.{AppendsDefinition, NewDefinitionFault};
 ghost use Rattle.smi_text.specs.private.Returned.{DefinitionsFault, ModuleFault, ModulesFault};

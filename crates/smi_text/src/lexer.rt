@@ -2,12 +2,10 @@
 //! parser reads its tokens.
 
 mod class;
-mod error;
 mod lanes;
 mod lexer;
 mod scan;
 mod token;
 
-pub use error::LexError;
 pub use lexer::{Lexer, one_token_list};
-pub use token::{Span, Token, TokenKind};
+pub use token::{LexError, Span, Token, TokenKind};

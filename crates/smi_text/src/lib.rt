@@ -26,11 +26,10 @@ mod lexer;
 mod modules;
 mod names;
 mod parser;
-mod stop;
 mod syntax;
 mod trees;
 
-pub use crate::lexer::{LexError, Lexer, Span, Token, TokenKind, one_token_list};
+pub use crate::lexer::{LexError, Lexer, Span, Token, TokenKind};
 pub use crate::trees::{
     Base, Def, DefKind, Field, Group, Import, Index, IndexParts, Items, Module, ModuleIdentity,
     Name, NamedNumber, NotificationType, ObjectIdentity, ObjectType, Part, Range, RawDefinition,
@@ -38,4 +37,8 @@ pub use crate::trees::{
     TypeAssignment, arc, bound, is_arc, is_bound, is_macro, is_number, is_reserved, number,
 };
 pub use error::ParseError;
-pub use file::{balanced_braces, one_module_list, one_module_list_without_lines, parse_modules};
+pub use file::parse_modules;
+
+// For proofs alone.
+pub use crate::lexer::one_token_list;
+pub use file::{balanced_braces, one_module_list, one_module_list_without_lines};

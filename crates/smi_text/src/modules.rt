@@ -9,9 +9,9 @@ ghost use Rattle.smi_text.specs.declared.lexer.token.TokenKind.TheVariants as ki
 ghost use Rattle.smi_text.specs.trees.Number as number;
 ghost use Rattle.smi_text.specs.private.Returned.{ReturnsReading};
 
+use crate::error::Stop;
 use crate::lexer::TokenKind;
 use crate::parser::{AfterComma, Parser, Production};
-use crate::stop::Stop;
 use crate::syntax::HeadingPart;
 use crate::trees::{Import, Items, Name, Part, TokenText, is_macro, is_reserved};
 

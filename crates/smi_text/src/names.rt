@@ -3,7 +3,7 @@
 ghost use Rattle.std.specs.Prelude.{◌≡◌, ℕ, List, ◌||◌, not, IfOk, IfErr};
 ghost use Rattle.smi_text.specs.{trees.Mark.same_text, private.Names.has, private.Names.last_eight};
 
-use crate::stop::Stop;
+use crate::error::Stop;
 use std::collections::BTreeSet;
 
 /// A name, behind its last eight octets as one number. Most names of a module begin alike and end

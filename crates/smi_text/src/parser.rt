@@ -13,9 +13,9 @@ ghost use Rattle.smi_text.specs.private.Returned.{ReturnsReading, is_memory};
 ghost use Rattle.smi_text.specs.private.Grammar as grammar;
 ghost use Rattle.smi_text.specs.declared.lexer.token.TokenKind.TheVariants as kinds;
 
+use crate::error::Stop;
 use crate::lexer::{LexError, Lexer, Token, TokenKind};
 use crate::names::Key;
-use crate::stop::Stop;
 use crate::trees::{Items, Name, Text, TokenText, is_reserved};
 use std::alloc::Global;
 use std::collections::BTreeSet;

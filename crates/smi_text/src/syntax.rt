@@ -7,9 +7,9 @@ ghost use Rattle.smi_text.specs.private.Format as format;
 ghost use Rattle.smi_text.specs.private.Grammar as grammar;
 ghost use Rattle.smi_text.specs.{trees.Number.is_number, private.Returned.ReturnsReading};
 
+use crate::error::Stop;
 use crate::lexer::TokenKind;
 use crate::parser::{AfterBar, AfterComma, Parser, Production};
-use crate::stop::Stop;
 use crate::trees::{
     Base, Field, Items, Name, NamedNumber, Part, Range, Refinement, SimpleType, Syntax, Text,
     TokenText, is_arc, is_bound, is_number,

@@ -3,7 +3,6 @@
 //! above read them.
 
 mod items;
-mod lookup;
 mod names;
 mod numbers;
 mod reserved;

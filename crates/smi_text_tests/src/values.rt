@@ -1,7 +1,7 @@
 //! What a module defines and imports, and the values of its numbers and strings.
 
 use crate::reading::parts_of;
-use smi_text::{Module, TokenKind, arc, bound, number, parse_modules};
+use smi_text::{Items, Module, Text, TokenKind, arc, bound, number, parse_modules};
 use std::process::Abort;
 use std::test::Fail;
 
@@ -139,4 +139,16 @@ fn ends_of_ranges(rt: HostRuntime) {
     for (kind, text, expected) in rows {
         assert_eq!(rt; bound(kind, text), expected);
     }
+}
+
+#[test]
+fn lists_and_texts_return_as_vectors(rt: HostRuntime) -> Result<(), Fail> {
+    let alloc = rt.alloc();
+    let numbers = Items::new(vec![in alloc; 7, 8]?).into_vec();
+    assert_eq!(rt; numbers.as_slice(), [7, 8].as_slice());
+    for octets in [b"".as_slice(), b"sysDescr", b"aNameOfMoreThan24OctetsInAll"] {
+        let text = Text::copied(alloc, octets)?;
+        assert_eq!(rt; text.into_vec(alloc)?.as_slice(), octets);
+    }
+    Ok(())
 }

@@ -3,8 +3,8 @@ use Rattle.std.proofs.lemmas.Grind.{common_steps}
 use Rattle.std.proofs.Common.{◌≡◌, ℕ, ◌+◌, Bool, List, [], ◌∷◌, length, Some, is_some, refl, arith}
 use Rattle.std.specs.List.{slice_get, position_from, find}
 use Rattle.smi_text.specs.declared.trees.tree.Module.{Module}
-use Rattle.smi_names.specs.{nodes.Nodes.Node, nodes.Gathered.node_from, nodes.Gathered.nodes_of, declared.nodes.source.Source.Source}
-use Rattle.smi_names.specs.declared.nodes.source.Source.TheVariants as S
+use Rattle.smi_names.specs.{nodes.Nodes.Node, nodes.Gathered.node_from, nodes.Gathered.nodes_of, declared.nodes.gather.Source.Source}
+use Rattle.smi_names.specs.declared.nodes.gather.Source.TheVariants as S
 use Rattle.smi_tree.specs.Nodes.{has_label, is_of, place_anywhere, place_in_module, oids_of}
 use Rattle.smi_tree.specs.{branches.Standing.oid_at, Places.home_from, Places.label_from, Places.definition_from, Places.label_in}
 use Rattle.smi_tree.specs.Places as places

@@ -6,7 +6,7 @@ use Rattle.std.proofs.lemmas.Map.Keys.{sorted_tail, below_from_sorted}
 use Rattle.smi_tree.specs.branches.Standing.{place_of, oid_at, AreChildren}
 use Rattle.smi_names.specs.{meaning.Meaning.or_else, nodes.Nodes.Node}
 use Rattle.smi_tree.specs.Nodes.{IsOfLowest, nothing, lowest, IsFirstChild, is_labelled, of_lowest, highest, child_at, child_of, oids_of}
-use Rattle.smi_show.specs.name.Beginnings.{last_number}
+use Rattle.smi_tree.specs.Nodes.{last_number}
 use Rattle.smi_tree.proofs.{PlacesLemmas.place_found, First.none_if}
 
 -- what the first of numbers gives that gives anything

@@ -1,9 +1,9 @@
 -- A column has one index.
 use Rattle.std.proofs.{lemmas.Grind.common_steps, lemmas.List.ext_get_or, lemmas.Option.slice_get_within}
 use Rattle.std.proofs.Common.{◌≡◌, ℕ, Bool, List, Option, Some, None, refl, sym, ap, ◌∙◌, arith}
-use Rattle.smi_show.specs.{declared.index.part.Extent.Extent, declared.index.part.IndexPart.IndexPart}
-use Rattle.smi_show.specs.declared.index.part.Extent.TheVariants.{Fixed, Counted, Implied}
-use Rattle.smi_show.specs.declared.index.part.IndexPart.TheVariants as P
+use Rattle.smi_tree.specs.{declared.columns.index_part.Extent.Extent, declared.columns.index_part.IndexPart.IndexPart}
+use Rattle.smi_tree.specs.declared.columns.index_part.Extent.TheVariants.{Fixed, Counted, Implied}
+use Rattle.smi_tree.specs.declared.columns.index_part.IndexPart.TheVariants as P
 use Rattle.smi_text.specs.{declared.trees.tree.Module.Module, declared.trees.tree.Def.Def, declared.trees.tree.Range.Range}
 use Rattle.smi_text.specs.{declared.trees.tree.IndexParts.IndexParts, declared.trees.tree.TokenText.TokenText}
 use Rattle.smi_tree.specs.types.Types.{HasSyntax, origin_of_object}

@@ -3,7 +3,7 @@ use Rattle.std.proofs.{lemmas.Grind.common_steps, lemmas.List.same_from_push, le
 use Rattle.std.proofs.lemmas.Option.{get_or_from_slice_get}
 use Rattle.std.proofs.Common.{◌≡◌, ℕ, List, Option, Some, None, refl, sym, ◌∙◌, arith}
 use Rattle.std.specs.{List.slice_get, Option.option_and_then}
-use Rattle.smi_show.specs.declared.index.part.IndexPart.{IndexPart}
+use Rattle.smi_tree.specs.declared.columns.index_part.IndexPart.{IndexPart}
 use Rattle.smi_text.specs.{declared.trees.tree.Module.Module, declared.trees.tree.Def.Def, declared.trees.tree.Index.Index}
 use Rattle.smi_text.specs.declared.trees.tree.Index.TheVariants.{Own, Augments}
 use Rattle.smi_names.specs.nodes.Nodes.{Node}

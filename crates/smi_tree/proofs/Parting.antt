@@ -2,8 +2,8 @@
 use Rattle.std.proofs.Common.{arith, ◌≡◌, ℕ, Bool, List, MatchOption, Option, Some, None, refl}
 use Rattle.std.proofs.lemmas.Grind.{common_steps}
 use Rattle.smi_names.specs.{chains.Resolution.ComesTo, meaning.Meaning.QualifiedName, meaning.Meaning.origin}
-use Rattle.smi_names.specs.declared.chains.resolution.Resolution.TheVariants as R
-use Rattle.smi_show.specs.declared.index.part.IndexPart.{IndexPart}
+use Rattle.smi_names.specs.declared.chains.shared.Resolution.TheVariants as R
+use Rattle.smi_tree.specs.declared.columns.index_part.IndexPart.{IndexPart}
 use Rattle.smi_text.specs.{declared.trees.tree.Module.Module, declared.trees.tree.Def.Def}
 use Rattle.smi_tree.specs.{types.Chain.TypeOrigin, columns.Parts.IsPartOf, columns.Index.IsIndexPart, columns.Kept.HasNoPart}
 use Rattle.smi_tree.specs.types.Types.{Facts, HasSyntax, HasNoSyntax, object_origin, origin_of_object}

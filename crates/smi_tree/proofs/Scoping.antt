@@ -6,10 +6,11 @@ use Rattle.std.proofs.lemmas.Option.{slice_get-get_or, slice_get_within}
 use Rattle.std.specs.{List.slice_get, List.position_from, Option.option_and_then}
 use Rattle.indexmap.specs.IndexMap.{get}
 use Rattle.smi_text.specs.{trees.Mark.same_text, declared.trees.tree.Module.Module}
-use Rattle.smi_names.specs.{meaning.Meaning.or_else, meaning.Names.module_place, declared.nodes.source.Source.Source}
-use Rattle.smi_names.specs.declared.nodes.source.Source.TheVariants as S
+use Rattle.smi_names.specs.meaning.Scopes.{NamePlaces, place_in}
+use Rattle.smi_names.specs.{meaning.Meaning.or_else, meaning.Names.module_place, declared.nodes.gather.Source.Source}
+use Rattle.smi_names.specs.declared.nodes.gather.Source.TheVariants as S
 use Rattle.smi_tree.specs.Nodes.{is_named}
-use Rattle.smi_tree.specs.Places.{Places, Others, kept_place, home_from, label_from, has_label, is_of, same_key, key_of, AreOthers}
+use Rattle.smi_tree.specs.Places.{Others, home_from, label_from, has_label, is_of, same_key, key_of, AreOthers}
 use Rattle.smi_tree.proofs.{First.IsFirst, First.first, First.none_first, First.more, First.of_front, Listing.same, Listing.same_itself}
 
 -- the first place of a name is that of a thing of this name
@@ -30,8 +31,8 @@ abbrev pub fits : Option (ℕ × ℕ) → ℕ × ℕ → Bool
 fits None other = false
 fits (Some key) other = same_key key other
 
-module _ (ms : List Module) (homes : Places) (ss : List Source) (old new : Others) (k f : ℕ) (d : Source)
-    (placed : (x : List ℕ) → kept_place homes x ≡ module_place ms x) (inside : k < length ss) where
+module _ (ms : List Module) (homes : NamePlaces) (ss : List Source) (old new : Others) (k f : ℕ) (d : Source)
+    (placed : (x : List ℕ) → place_in homes x ≡ module_place ms x) (inside : k < length ss) where
   -- one source more, by its key
   pub others-more : position_from (has_label ms (label_from ms (get_or ss k d))) 0 ss ≡ Some f
       → ((y : ℕ × ℕ) → get same_key new y ≡ or_else (get same_key old y) (cond (fits (key_of ms homes (get_or ss k d) f k) y) (Some k) None))
@@ -54,7 +55,7 @@ module _ (ms : List Module) (homes : Places) (ss : List Source) (old new : Other
       named_by m (Some h) e = rw (← places_decide (λ (n : Module). n.name.octets) ms m.name.octets home h p e place) refl
 
       by : (v : Bool) → (f == k) ≡ v → (m : Option Module) → home_from ms s ≡ m
-          → fits (cond v None (option_and_then (λ m. option_map (λ h. (h, f)) (kept_place homes m.name.octets)) m)) (p, g) ≡ (is_named home m && (f == g))
+          → fits (cond v None (option_and_then (λ m. option_map (λ h. (h, f)) (place_in homes m.name.octets)) m)) (p, g) ≡ (is_named home m && (f == g))
       by true e m h = rw (← h) (itself (eqb-true f k e))
       by false e None h = refl
       by false e (Some m) h = rw (placed m.name.octets) (named_by m (module_place ms m.name.octets) refl)
@@ -63,9 +64,9 @@ module _ (ms : List Module) (homes : Places) (ss : List Source) (old new : Other
       key = rw (← places_decide (label_from ms) ss (label_from ms s) x f g labelled begins) (by (f == k) refl (home_from ms s) refl)
 
 -- the label's first source is known
-pub first_is : (ms : List Module) (labels : Places) (ss : List Source) (k f : ℕ) (d : Source) → k < length ss
-    → ((x : List ℕ) → kept_place labels x ≡ position_from (has_label ms x) 0 (take k ss))
-    → f ≡ unwrap_or (kept_place labels (label_from ms (get_or ss k d))) k → position_from (has_label ms (label_from ms (get_or ss k d))) 0 ss ≡ Some f
+pub first_is : (ms : List Module) (labels : NamePlaces) (ss : List Source) (k f : ℕ) (d : Source) → k < length ss
+    → ((x : List ℕ) → place_in labels x ≡ position_from (has_label ms x) 0 (take k ss))
+    → f ≡ unwrap_or (place_in labels (label_from ms (get_or ss k d))) k → position_from (has_label ms (label_from ms (get_or ss k d))) 0 ss ≡ Some f
 first_is ms labels ss k f d inside are is = let x = label_from ms (get_or ss k d) in
     grind (arith, common_steps, of_front (has_label ms x) ss (k + 1) f, more (has_label ms x) ss k d inside, same_itself x, are x)
 

@@ -5,11 +5,12 @@ use Rattle.std.proofs.Common.{sym, ap, subst, ◌∙◌, arith}
 use Rattle.std.specs.{Prelude.slice_index_or, List.slice_get, Option.option_and_then}
 use Rattle.smi_text.specs.{trees.Mark.same_text, trees.Word.is_word, declared.trees.tree.Module.Module}
 use Rattle.smi_names.specs.{meaning.Meaning.Means, meaning.Meaning.QualifiedName, declared.nodes.warning.Warning.Warning}
-use Rattle.smi_tree.specs.{branches.Standing.place_of, Standing.Longest, Standing.longest_up_to, Standing.longest, Tree.Contents}
-use Rattle.smi_show.specs.name.Naming.{Naming, Standing, LabelLeadsTo, IsSound}
-use Rattle.smi_names.specs.nodes.Nodes.{Node, node_of_root, roots, Loads}
+use Rattle.smi_tree.specs.{branches.Standing.place_of, Tree.Contents}
+use Rattle.smi_tree.specs.Standing.{Longest, longest_up_to, longest}
+use Rattle.smi_tree.specs.Naming.{Standing, LabelLeadsTo, IsSound, home_name, standing_from, standing_of_longest, oid_of, oid_anywhere, oid_in_module}
+use Rattle.smi_tree.specs.Naming.{is_module_loaded, nearest_node}
 use Rattle.smi_tree.specs.Nodes.{oids_of, is_of, place_in_module, place_anywhere}
-use Rattle.smi_tree.specs.Naming.{home_name, standing_from, standing_of_longest, oid_of, naming_of}
+use Rattle.smi_names.specs.nodes.Nodes.{Node, node_of_root, roots, Loads}
 use Rattle.smi_tree.proofs.{First.first, First.passing, Listing.same, Listing.same_itself, Lists.get_within, PlacesLemmas.place_found}
 use Rattle.smi_tree.proofs.Soundness.{IsOfModule, root-or-module}
 
@@ -105,7 +106,8 @@ in-its-module ms ns ws law l k n there f =
 
 leads-by : (t : Contents) (ns : List Node) (ws : List Warning) → OneMeaning → t.nodes ≡ roots ++ ns → Loads t.modules t.modules ns ws → (k : ℕ) (n : Node)
     → slice_get (roots ++ ns) k ≡ Some n → ((j : ℕ) × (slice_get roots j ≡ Some n)) ⊎ IsOfModule t.modules n
-    → LabelLeadsTo (naming_of t) (home_name n.home) n.label n.oid
+    → LabelLeadsTo t (home_name n.home) n.label n.oid
+unfolding oid_anywhere oid_in_module is_module_loaded
 leads-by t ns ws law nodes l k n there (inl r) = rw (root-home r.0 n r.1, nodes) (root-leads ns r.0 n r.1)
 leads-by t ns ws law nodes l k n there (inr f) = grind (arith, common_steps, in-its-module)
 
@@ -113,24 +115,25 @@ word-by : (t : Contents) (n : Node) → ((j : ℕ) × (slice_get roots j ≡ Som
 word-by t n (inl r) = root-word r.0 n r.1
 word-by t n (inr f) = rw f.is f.definition.label.lexical
 
-leads-alike : (naming : Naming) (h i : Option (List ℕ)) (x y o p : List ℕ) → h ≡ i → x ≡ y → o ≡ p → LabelLeadsTo naming h x o → LabelLeadsTo naming i y p
-leads-alike naming h i x y o p e f g leads = rw (sym e, sym f, sym g) leads
+leads-alike : (tree : Contents) (h i : Option (List ℕ)) (x y o p : List ℕ) → h ≡ i → x ≡ y → o ≡ p → LabelLeadsTo tree h x o → LabelLeadsTo tree i y p
+leads-alike tree h i x y o p e f g leads = rw (sym e, sym f, sym g) leads
 
 -- the names are sound if each node's label is a word that leads to it
 pub sound-from : (t : Contents)
-    → ((k : ℕ) (n : Node) → slice_get t.nodes k ≡ Some n → (is_word n.label ≡ true) × LabelLeadsTo (naming_of t) (home_name n.home) n.label n.oid)
-    → IsSound (naming_of t)
+    → ((k : ℕ) (n : Node) → slice_get t.nodes k ≡ Some n → (is_word n.label ≡ true) × LabelLeadsTo t (home_name n.home) n.label n.oid)
+    → IsSound t
+unfolding nearest_node
 sound-from t each = record {
   within = λ o node e. (stands t o node e).depth;
   words = λ o node e. let s = stands t o node e in rw s.label (each s.place s.n s.there).0;
   leads = λ o node e.
       let s = stands t o node e in
-      leads-alike (naming_of t) (home_name s.n.home) node.home s.n.label node.label s.n.oid (take node.depth o) (sym s.home) (sym s.label) s.oid
+      leads-alike t (home_name s.n.home) node.home s.n.label node.label s.n.oid (take node.depth o) (sym s.home) (sym s.label) s.oid
       (each s.place s.n s.there).1;
 }
 
 pub sound-by : (t : Contents) (ns : List Node) (ws : List Warning) → OneMeaning → t.nodes ≡ roots ++ ns → Loads t.modules t.modules ns ws
-    → IsSound (naming_of t)
+    → IsSound t
 sound-by t ns ws law nodes l = sound-from t (λ k n e.
     let there = subst (λ (ns : List Node). slice_get ns k ≡ Some n) nodes e in
     let r = root-or-module t.modules ns ws k n l there in

@@ -3,14 +3,14 @@ use Rattle.std.proofs.{lemmas.Grind.common_steps, lemmas.List.length-map, lemmas
 use Rattle.std.proofs.Common.{◌≡◌, ℕ, zero, suc, List, ◌∷◌, Option, Some, None, slice_index_or, length, refl, sym, ◌∙◌, arith}
 use Rattle.std.specs.List.{slice_get}
 use Rattle.smi_text.specs.declared.trees.tree.Module.{Module}
-use Rattle.smi_names.specs.{nodes.Nodes.Node, declared.nodes.gather.Gathered.Gathered, declared.nodes.source.Source.Source}
+use Rattle.smi_names.specs.{nodes.Nodes.Node, declared.nodes.gather.Gathered.Gathered, declared.nodes.gather.Source.Source}
 use Rattle.smi_names.specs.nodes.Gathered.{node_from, nodes_of, AreGathered}
 use Rattle.smi_names.specs.nodes.Gathered as gathered
-use Rattle.smi_names.specs.declared.nodes.source.Source.TheVariants as S
+use Rattle.smi_names.specs.declared.nodes.gather.Source.TheVariants as S
 use Rattle.smi_tree.specs.{types.Chain.no_type, types.Types.object_in, types.Types.object_origin, types.Kept.AreTypesOf}
-use Rattle.smi_tree.specs.{declared.types.types.Types.Types, columns.Index.AreIndexesOf, Tree.IsTree, Kept.contents}
+use Rattle.smi_tree.specs.{declared.types.Types.Types, columns.Index.AreIndexesOf, Tree.IsTree, Kept.contents}
 use Rattle.smi_tree.specs.Shown.{IsSyntaxOf, AreSyntaxesOf, syntax_from, syntaxes_from}
-use Rattle.smi_show.specs.declared.index.part.IndexPart.{IndexPart}
+use Rattle.smi_tree.specs.declared.columns.index_part.IndexPart.{IndexPart}
 use Rattle.smi_tree.proofs.{Bridging.parts, Bridging.length-nodes, Following.no_syntax, Following.past_get}
 
 same_object : (ms : List Module) (i k : ℕ) → object_in (slice_get ms i) (gathered.def_of_module (slice_get ms i) k) ≡ object_origin ms i k

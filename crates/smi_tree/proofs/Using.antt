@@ -7,8 +7,8 @@ use Rattle.smi_tree.specs.{branches.Standing.place_of, branches.Standing.oid_at,
 use Rattle.smi_text.specs.{declared.trees.tree.Module.Module, declared.trees.tree.Def.Def, declared.trees.tree.Index.TheVariants.Own}
 use Rattle.smi_text.specs.{declared.trees.tree.Index.TheVariants.Augments, declared.trees.tree.IndexParts.IndexParts, declared.trees.names.Name.Name}
 use Rattle.smi_names.specs.{nodes.Nodes.Node, nodes.Nodes.node_of, nodes.Gathered.node_from, nodes.Gathered.nodes_of}
-use Rattle.smi_names.specs.declared.nodes.source.Source.{Source}
-use Rattle.smi_names.specs.declared.nodes.source.Source.TheVariants as S
+use Rattle.smi_names.specs.declared.nodes.gather.Source.{Source}
+use Rattle.smi_names.specs.declared.nodes.gather.Source.TheVariants as S
 use Rattle.smi_tree.specs.columns.Index.{IsObjectType, IsColumnOf, StandsAt, clause_of}
 use Rattle.smi_tree.specs.private.columns.Named.{IsFoundAt, IsUndefined}
 use Rattle.smi_tree.specs.columns.Kept.{UsesAt, UsesNone, HasNoRow, HasRowOrNone}

@@ -1,5 +1,5 @@
 -- The tree of no modules (RFC 2578, section 3.5).
-use Rattle.std.specs.Prelude.{◌≡◌, ℕ, ◌<◌, List, [], ◌∷◌, None}
+use Rattle.std.specs.Prelude.{[], ◌∷◌, None}
 use Rattle.smi_names.specs.nodes.Nodes.{roots}
 use Rattle.smi_tree.specs.Tree.{Contents}
 
@@ -11,9 +11,3 @@ bare = record {
   syntaxes = None ∷ (None ∷ (None ∷ []));
   indexes = None ∷ (None ∷ (None ∷ []));
 }
-
--- ---- for private functions
-
--- the root of the first number of o
-abbrev pub IsRootOf : List ℕ → List ℕ → Type 0
-IsRootOf o root = (n : ℕ) × (rest : List ℕ) × (n < 3) × (root ≡ n ∷ []) × (o ≡ n ∷ rest)

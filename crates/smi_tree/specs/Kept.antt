@@ -3,12 +3,13 @@ use Rattle.std.specs.Prelude.{◌≡◌, ℕ, List, length, Option}
 use Rattle.std.specs.List.{position_from}
 use Rattle.smi_text.specs.declared.trees.tree.Module.{Module}
 use Rattle.smi_names.specs.{meaning.Names.module_place, nodes.Gathered.nodes_of}
-use Rattle.smi_names.specs.declared.nodes.source.Source.{Source}
+use Rattle.smi_names.specs.meaning.Scopes.{NamePlaces, place_in}
+use Rattle.smi_names.specs.declared.nodes.gather.Source.{Source}
 use Rattle.smi_names.specs.declared.nodes.warning.Warning.{Warning}
-use Rattle.smi_tree.specs.declared.types.types.Types.{Types}
-use Rattle.smi_show.specs.declared.index.part.IndexPart.{IndexPart}
-use Rattle.smi_tree.specs.{Shown.syntaxes_from, Tree.Contents, Tree.IsTree}
-use Rattle.smi_tree.specs.Places.{Places, Others, kept_place, has_label, AreOthers}
+use Rattle.smi_tree.specs.declared.types.Types.{Types}
+use Rattle.smi_tree.specs.{declared.columns.index_part.IndexPart.IndexPart, Shown.syntaxes_from}
+use Rattle.smi_tree.specs.Tree.{Contents, IsTree}
+use Rattle.smi_tree.specs.Places.{Others, has_label, AreOthers}
 
 abbrev pub contents : List Module → List Source → List (List ℕ) → Types
     → List (Option (List IndexPart)) → Contents
@@ -21,11 +22,11 @@ contents ms ss os types indexes = record {
 
 -- what a tree keeps is the tree of its modules, and the places by which it finds names
 pub record IsTreeKept (ms : List Module) (ss : List Source) (os : List (List ℕ)) (types : Types)
-    (indexes : List (Option (List IndexPart))) (of_homes of_labels : Places)
+    (indexes : List (Option (List IndexPart))) (of_homes of_labels : NamePlaces)
     (of_others : Others) : Type 0 where
   pub long : length ss ≡ length os
   pub warnings : List Warning
   pub tree : IsTree ms (contents ms ss os types indexes) warnings
-  pub homes : (x : List ℕ) → kept_place of_homes x ≡ module_place ms x
-  pub labels : (x : List ℕ) → kept_place of_labels x ≡ position_from (has_label ms x) 0 ss
+  pub homes : (x : List ℕ) → place_in of_homes x ≡ module_place ms x
+  pub labels : (x : List ℕ) → place_in of_labels x ≡ position_from (has_label ms x) 0 ss
   pub others : AreOthers ms ss of_others ss

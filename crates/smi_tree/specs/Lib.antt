@@ -1,3 +1,4 @@
+use Rattle.smi_tree.specs.{Tree.Contents}
 pub mod Nodes
 pub mod Places
 pub mod Standing
@@ -6,6 +7,7 @@ pub mod Tree
 pub mod Bare
 pub mod Kept
 pub mod Naming
+pub mod Found
 pub mod branches
 pub mod types
 pub mod columns

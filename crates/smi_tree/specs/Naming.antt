@@ -1,14 +1,36 @@
--- The names of a tree's nodes, as words are read and identifiers are shown by them.
-use Rattle.std.specs.Prelude.{ℕ, List, Option, None, is_some, option_map, slice_index_or}
-use Rattle.std.specs.{List.slice_get, Option.option_and_then}
-use Rattle.smi_show.specs.declared.index.part.IndexPart.{IndexPart}
+-- The names of a tree's nodes, as words are read and identifiers are shown by them: found by module
+-- and label, by identifier, or as a child.
+use Rattle.std.specs.Prelude.{◌≡◌, ℕ, ◌≤◌, Bool, true, List, length, take, Option, Some, None}
+use Rattle.std.specs.Prelude.{is_some, option_map, slice_index_or}
+use Rattle.std.specs.{List.slice_get, Option.option_and_then, Option.option_copied}
+use Rattle.smi_text.specs.trees.Word.{is_word}
 use Rattle.smi_text.specs.{declared.trees.tree.Module.Module, declared.trees.tree.Def.Def}
 use Rattle.smi_names.specs.{meaning.Meaning.module_named, nodes.Nodes.Node, nodes.Nodes.roots}
-use Rattle.smi_show.specs.name.Naming.{Naming, Standing}
 use Rattle.smi_value.specs.Syntax.{ObjectSyntax}
+use Rattle.smi_tree.specs.declared.columns.index_part.IndexPart.{IndexPart}
+use Rattle.smi_tree.specs.declared.nearest.NearestNode.{NearestNode}
 use Rattle.smi_tree.specs.{Shown.shown_at, Tree.Contents}
 use Rattle.smi_tree.specs.Nodes.{oids_of, place_in_module, place_anywhere, child_of}
 use Rattle.smi_tree.specs.Standing.{Longest, longest, definition_at}
+
+-- a node: its module, None for a built-in root; its label; how many numbers its identifier has; the
+-- parts of the index that reads the numbers after it, None if it isn't a column with such an index
+pub record Standing : Type 0 where
+  pub home : Option (List ℕ)
+  pub label : List ℕ
+  pub depth : ℕ
+  pub index : Option (List IndexPart)
+
+-- a node that a look-up returned, as definitions see it
+abbrev pub standing_of : NearestNode → Standing
+standing_of node = record {
+  home = option_copied node.home;
+  label = node.label.now;
+  depth = node.depth;
+  index = option_copied node.index;
+}
+
+-- ---- of a tree
 
 abbrev pub home_name : Option Module → Option (List ℕ)
 home_name m = option_map (λ m. m.name.octets) m
@@ -27,22 +49,52 @@ standing_of_longest t l =
 abbrev pub oid_of : List Node → Option ℕ → Option (List ℕ)
 oid_of nodes place = option_and_then (slice_get (oids_of nodes)) place
 
--- the definition of the node that stands for the longest beginning
-abbrev pub nearest_definition : Contents → List ℕ → Option Def
-nearest_definition t o = definition_at t.nodes o
+-- whether a module of this name is loaded
+unfoldable pub is_module_loaded : Contents → List ℕ → Bool
+is_module_loaded tree home = is_some (module_named tree.modules home)
 
--- the syntax of the node that stands for the longest beginning, as values are shown by it
-abbrev pub nearest_syntax : Contents → List ℕ → Option ObjectSyntax
-nearest_syntax t o =
-    option_and_then (λ l. shown_at t.nodes t.syntaxes l.place) (longest t.nodes o)
+-- the identifier of the first node of a label in a module
+unfoldable pub oid_in_module : Contents → List ℕ → List ℕ → Option (List ℕ)
+oid_in_module tree home label = oid_of tree.nodes (place_in_module tree.nodes home label)
 
--- what names, words and details are read and shown by
-abbrev pub naming_of : Contents → Naming
-naming_of t = record {
-  is_loaded = λ home. is_some (module_named t.modules home);
-  in_module = λ home label. oid_of t.nodes (place_in_module t.nodes home label);
-  anywhere = λ label. oid_of t.nodes (place_anywhere t.nodes label);
-  among_roots = λ label. oid_of roots (place_anywhere roots label);
-  child = λ o label. oid_of t.nodes (child_of t.nodes o label);
-  deepest = λ o. option_and_then (standing_of_longest t) (longest t.nodes o);
-}
+-- the identifier of the first node of a label, the roots before all others
+unfoldable pub oid_anywhere : Contents → List ℕ → Option (List ℕ)
+oid_anywhere tree label = oid_of tree.nodes (place_anywhere tree.nodes label)
+
+-- the identifier of the root of a label
+unfoldable pub oid_of_root : List ℕ → Option (List ℕ)
+oid_of_root label = oid_of roots (place_anywhere roots label)
+
+-- the identifier of the first child of an identifier with a label
+unfoldable pub oid_of_child : Contents → List ℕ → List ℕ → Option (List ℕ)
+oid_of_child tree o label = oid_of tree.nodes (child_of tree.nodes o label)
+
+-- the node that stands for the longest beginning of an identifier
+unfoldable pub nearest_node : Contents → List ℕ → Option Standing
+nearest_node tree o = option_and_then (standing_of_longest tree) (longest tree.nodes o)
+
+-- its definition
+unfoldable pub nearest_definition : Contents → List ℕ → Option Def
+nearest_definition tree o = definition_at tree.nodes o
+
+-- its syntax, as values are shown by it
+unfoldable pub nearest_syntax : Contents → List ℕ → Option ObjectSyntax
+nearest_syntax tree o =
+    option_and_then (λ l. shown_at tree.nodes tree.syntaxes l.place) (longest tree.nodes o)
+
+-- a node's label leads to its identifier: in its module, which is loaded, or, for a root, by the
+-- label alone
+abbrev pub LabelLeadsTo : Contents → Option (List ℕ) → List ℕ → List ℕ → Type 0
+LabelLeadsTo tree None label o = oid_anywhere tree label ≡ Some o
+LabelLeadsTo tree (Some home) label o =
+    (is_word home ≡ true) × (is_module_loaded tree home ≡ true)
+    × (oid_in_module tree home label ≡ Some o)
+
+-- labels are words, and lead to the nodes that they are shown for
+pub record IsSound (tree : Contents) : Type 0 where
+  pub within : (o : List ℕ) (node : Standing) → nearest_node tree o ≡ Some node
+      → node.depth ≤ length o
+  pub words : (o : List ℕ) (node : Standing) → nearest_node tree o ≡ Some node
+      → is_word node.label ≡ true
+  pub leads : (o : List ℕ) (node : Standing) → nearest_node tree o ≡ Some node
+      → LabelLeadsTo tree node.home node.label (take node.depth o)

@@ -5,7 +5,6 @@ use Rattle.std.specs.List.{slice_get, position_from}
 use Rattle.smi_text.specs.{trees.Mark.same_text, declared.trees.tree.Module.Module}
 use Rattle.smi_tree.specs.branches.Standing.{place_of}
 use Rattle.smi_names.specs.{meaning.Meaning.or_else, nodes.Nodes.Node}
-use Rattle.smi_show.specs.name.Beginnings.{last_number}
 
 -- the node is of this label
 abbrev pub has_label : List ℕ → Node → Bool
@@ -48,6 +47,12 @@ pub data IsOfLowest (f : ℕ → Option ℕ) : Option ℕ → Type 0 where
 unfoldable pub of_lowest : (ℕ → Option ℕ) → ℕ → Option ℕ
 of_lowest f zero = None
 of_lowest f (suc n) = or_else (of_lowest f n) (f n)
+
+-- the last number of an identifier
+abbrev pub last_number : List ℕ → ℕ
+last_number [] = 0
+last_number (n ∷ []) = n
+last_number (n ∷ next ∷ more) = last_number (next ∷ more)
 
 -- the highest last number of identifiers
 abbrev pub highest : List (List ℕ) → ℕ

@@ -1,14 +1,15 @@
 -- Sources of nodes found by their names, and maps from names to places.
 use Rattle.std.specs.Prelude.{◌≡◌, ℕ, ◌==◌, ◌&&◌, Bool, false, List, [], if◌then◌else◌, Option}
 use Rattle.std.specs.Prelude.{Some, None, option_map}
-use Rattle.std.specs.{Option.option_and_then, List.slice_get, List.position_from, Str.bytes_eq}
+use Rattle.std.specs.{Option.option_and_then, List.slice_get, List.position_from}
 use Rattle.indexmap.specs.IndexMap.{IndexMap, get}
 use Rattle.smi_text.specs.{trees.Mark.same_text, declared.trees.tree.Def.Def}
 use Rattle.smi_text.specs.declared.trees.tree.Module.{Module}
 use Rattle.smi_names.specs.{meaning.Meaning.root_label, meaning.Names.module_place}
+use Rattle.smi_names.specs.meaning.Scopes.{NamePlaces, place_in}
 use Rattle.smi_names.specs.{nodes.Gathered.def_of_module, declared.hash.NameHash.NameHash}
-use Rattle.smi_names.specs.declared.nodes.source.Source.{Source}
-use Rattle.smi_names.specs.declared.nodes.source.Source.TheVariants as S
+use Rattle.smi_names.specs.declared.nodes.gather.Source.{Source}
+use Rattle.smi_names.specs.declared.nodes.gather.Source.TheVariants as S
 use Rattle.smi_tree.specs.Nodes.{is_named}
 
 abbrev pub home_from : List Module → Source → Option Module
@@ -26,14 +27,6 @@ label_from ms (S.Definition i k) = label_in (def_of_module (slice_get ms i) k)
 -- the source is of this label
 abbrev pub has_label : List Module → List ℕ → Source → Bool
 has_label ms x s = same_text (label_from ms s) x
-
--- names with their places
-abbrev pub Places : Type 0
-Places = IndexMap (List ℕ) ℕ NameHash
-
--- the place of a name in a map
-abbrev pub kept_place : Places → List ℕ → Option ℕ
-kept_place places x = get bytes_eq places x
 
 -- the source is of this label, in the module of this name
 abbrev pub is_of : List Module → List ℕ → List ℕ → Source → Bool
@@ -62,7 +55,7 @@ definition_from ms (S.Root n) = None
 definition_from ms (S.Definition i k) = def_of_module (slice_get ms i) k
 
 -- the key of a source: none if it is the first one of its label, or of no module
-abbrev pub key_of : List Module → Places → Source → ℕ → ℕ → Option (ℕ × ℕ)
+abbrev pub key_of : List Module → NamePlaces → Source → ℕ → ℕ → Option (ℕ × ℕ)
 key_of ms homes s first place = if first == place then None else
-    option_and_then (λ m. option_map (λ p. (p, first)) (kept_place homes m.name.octets))
+    option_and_then (λ m. option_map (λ p. (p, first)) (place_in homes m.name.octets))
     (home_from ms s)

@@ -5,10 +5,10 @@ use Rattle.std.specs.Prelude.{None, map, option_map, slice_index_or}
 use Rattle.std.specs.{List.slice_get, Option.option_and_then}
 use Rattle.smi_text.specs.{declared.trees.tree.Module.Module, declared.trees.tree.DefKind.DefKind}
 use Rattle.smi_text.specs.declared.trees.tree.DefKind.TheVariants as D
-use Rattle.smi_names.specs.{nodes.Nodes.Node, declared.nodes.source.Source.Source}
-use Rattle.smi_names.specs.declared.nodes.source.Source.TheVariants as S
+use Rattle.smi_names.specs.{nodes.Nodes.Node, declared.nodes.gather.Source.Source}
+use Rattle.smi_names.specs.declared.nodes.gather.Source.TheVariants as S
 use Rattle.smi_tree.specs.{types.Types.Facts, types.Types.object_in, types.Kept.kept_syntax}
-use Rattle.smi_tree.specs.{types.Kept.IsSyntax, declared.types.types.Types.Types}
+use Rattle.smi_tree.specs.{types.Kept.IsSyntax, declared.types.Types.Types}
 use Rattle.smi_names.specs.declared.meaning.base.TypeBase.{TypeBase}
 use Rattle.smi_names.specs.declared.meaning.base.TypeBase.TheVariants as T
 use Rattle.smi_value.specs.{Syntax.ObjectSyntax, declared.base.ValueBase.ValueBase}

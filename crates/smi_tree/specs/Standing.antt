@@ -11,10 +11,6 @@ pub record Longest : Type 0 where
   pub place : ℕ
   pub depth : ℕ
 
--- what the code returns of the longest beginning: the place of its node, and its length
-abbrev pub longest_of : Deepest → Longest
-longest_of d = record { place = d.place; depth = d.depth }
-
 abbrev pub at_depth : ℕ → Option ℕ → Option Longest
 at_depth depth None = None
 at_depth depth (Some place) = Some (record { place = place; depth = depth })
@@ -30,8 +26,19 @@ longest_up_to oids o (suc j) =
 abbrev pub longest : List Node → List ℕ → Option Longest
 longest nodes o = longest_up_to (oids_of nodes) o (length o)
 
+-- how many numbers the beginning has: none where no node stands for one
+abbrev pub depth_of : Option Longest → ℕ
+depth_of None = 0
+depth_of (Some l) = l.depth
+
 -- the definition of the node that stands for the longest beginning
 abbrev pub definition_at : List Node → List ℕ → Option Def
 definition_at nodes o =
     option_and_then (λ l. option_and_then (λ n. n.definition) (slice_get nodes l.place))
     (longest nodes o)
+
+-- ---- for private functions
+
+-- what the code returns of the longest beginning: the place of its node, and its length
+abbrev pub longest_of : Deepest → Longest
+longest_of d = record { place = d.place; depth = d.depth }

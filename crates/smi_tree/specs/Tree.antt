@@ -4,7 +4,7 @@ use Rattle.smi_text.specs.declared.trees.tree.Module.{Module}
 use Rattle.smi_names.specs.nodes.Nodes.{Node, roots, Loads}
 use Rattle.smi_names.specs.declared.nodes.warning.Warning.{Warning}
 use Rattle.smi_tree.specs.{types.Types.Facts, columns.Index.AreIndexesOf, Shown.AreSyntaxesOf}
-use Rattle.smi_show.specs.declared.index.part.IndexPart.{IndexPart}
+use Rattle.smi_tree.specs.declared.columns.index_part.IndexPart.{IndexPart}
 use Rattle.smi_tree.specs.declared.node.Node.{Node as Seen}
 
 -- the modules that were passed, and the nodes in order of loading, each with the syntax of its

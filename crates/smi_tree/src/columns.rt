@@ -4,9 +4,11 @@
 //! Depends on the nodes of modules and on the types of their objects. The tree of names keeps the
 //! index of each node beside the node.
 
+mod index_part;
 mod indexes;
 mod objects;
 mod part;
 mod rows;
 
+pub use index_part::{Extent, IndexPart};
 pub use indexes::Indexes;

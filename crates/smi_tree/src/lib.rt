@@ -11,7 +11,7 @@
 //! let text = b"A-MIB DEFINITIONS ::= BEGIN IMPORTS b FROM B-MIB;\n\
 //!     a OBJECT IDENTIFIER ::= { iso 5 } END";
 //! let modules = parse_modules(alloc, text)?;
-//! let (tree, warnings) = Tree::load(alloc, NameHash::Fixed, modules)?;
+//! let (tree, warnings) = Tree::load(alloc, modules)?;
 //! assert!(rt; warnings.len() == 1);
 //! let node = tree.find(b"A-MIB", b"a").expect(rt, "a node");
 //! assert!(rt; *tree.node(node).oid == parse_numeric(b"1.5")?);
@@ -21,22 +21,26 @@
 
 mod branches;
 mod columns;
-mod detail;
 mod laws;
-mod naming;
+mod nearest;
 mod node;
 mod places;
-mod roots;
-mod show;
 mod shown;
 mod tree;
 mod types;
 
-pub use crate::branches::{Children, Deepest, Identifiers};
-pub use crate::columns::Indexes;
-pub use crate::types::{TypeSyntax, Types};
-pub use laws::{bare_tree, look_ups, one_deepest, one_tree};
+pub use crate::branches::Children;
+pub use crate::columns::{Extent, IndexPart};
+pub use crate::types::TypeSyntax;
+pub use nearest::{Found, Near, NearestNode};
 pub use node::Node;
-pub use roots::Roots;
-pub use smi_names::{KeySource, NameHash, TypeBase, Warning};
+pub use smi_names::{NameHash, TypeBase, Warning};
 pub use tree::{NodeId, Tree};
+
+// The parts of a tree by themselves, for tests.
+pub use crate::branches::{Deepest, Identifiers};
+pub use crate::columns::Indexes;
+pub use crate::types::Types;
+
+// Laws: the calls do nothing, and a proof may use what they ensure.
+pub use laws::{bare_tree, look_ups, one_deepest, one_tree};

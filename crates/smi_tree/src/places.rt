@@ -1,20 +1,18 @@
 //! Nodes by their names: maps from names to places.
 //!
 //! Names come from files that others wrote, so the maps hash them by a key that those don't know.
-ghost use Rattle.std.specs.Prelude.{◌≡◌, ◌==◌, ℕ, List, Some, None, IfOk, OnOk, if◌then◌else◌};
-ghost use Rattle.std.specs.Prelude.{unwrap_or};
+ghost use Rattle.std.specs.Prelude.{◌≡◌, List, ℕ, IfOk};
 ghost use Rattle.std.specs.List.{position_from};
-ghost use Rattle.indexmap.specs.IndexMap.{get, hasher_of};
-ghost use Rattle.smi_names.specs.{meaning.Meaning.or_else, meaning.Names.module_place};
+ghost use Rattle.indexmap.specs.IndexMap.{hasher_of};
+ghost use Rattle.smi_names.specs.{meaning.Names.module_place, meaning.Scopes.place_in};
 ghost use Rattle.smi_tree.specs.Places as places;
-ghost use Rattle.smi_tree.specs.Places.{kept_place, AreOthers};
+ghost use Rattle.smi_tree.specs.Places.{AreOthers};
 
 use crate::node::{home, label};
 use indexmap::IndexMap;
-use smi_names::{NameBuf, NameHash, NameRef, Source};
+use smi_names::{NameBuf, NameHash, NameRef, Source, insert_if_absent};
 use smi_text::Module;
 use std::alloc::{AllocError, Global};
-use std::hash::Hash;
 
 /// Names, each with its place.
 pub(crate) type Places = IndexMap<NameBuf, usize, NameHash>;
@@ -32,23 +30,9 @@ pub(crate) struct LabelPlaces {
     pub(crate) others: Others,
 }
 
-/// Gives a key this place unless it has one, and returns its place.
-fn put_first<K: Eq + Hash + Drop>(
-    places: &mut IndexMap<K, usize, NameHash>,
-    key: K,
-    place: usize,
-) -> Result<usize, AllocError>
-    ensures put { OnOk result ((x : K) → get K.eq places.new x
-        ≡ or_else (get K.eq places.old x) (if K.eq key x then Some place else None)) }
-    ensures returned { IfOk result (λ p. p ≡ unwrap_or (get K.eq places.old key) place) }
-    ensures hashed { OnOk result (hasher_of places.new ≡ hasher_of places.old) }
-{
-    Ok(*places.entry(key)?.or_insert(place))
-}
-
 /// The place of a name.
 pub(crate) fn find(places: &Places, name: &[u8]) -> Option<usize>
-    ensures { result ≡ kept_place places.now name.now }
+    ensures { result ≡ place_in places.now name.now }
 {
     places.get(&NameRef::new(name)).copied()
 }
@@ -56,12 +40,12 @@ pub(crate) fn find(places: &Places, name: &[u8]) -> Option<usize>
 /// The place of each module, by its name: the first of those that have it.
 pub(crate) fn homes(alloc: Global, hash: NameHash, modules: &[Module]) -> Result<Places, AllocError>
     ensures placed { IfOk result (λ homes. (x : List ℕ)
-        → kept_place homes x ≡ module_place modules.now x) }
+        → place_in homes x ≡ module_place modules.now x) }
     ensures hashed { IfOk result (λ homes. hasher_of homes ≡ hash) }
 {
     let mut homes = IndexMap::with_hasher(alloc, hash);
     'modules: for (i, module) in modules.iter().enumerate() {
-        put_first(&mut homes, NameBuf::new(alloc, module.name.as_bytes())?, i)?;
+        insert_if_absent(&mut homes, NameBuf::new(alloc, module.name.as_bytes())?, i)?;
     }
     Ok(homes)
 }
@@ -91,8 +75,8 @@ pub(crate) fn labels(
     homes: &Places,
     sources: &[Source],
 ) -> Result<LabelPlaces, AllocError>
-    requires { (x : List ℕ) → kept_place homes.now x ≡ module_place modules.now x }
-    ensures labels { IfOk result (λ made. (x : List ℕ) → kept_place made.labels x
+    requires { (x : List ℕ) → place_in homes.now x ≡ module_place modules.now x }
+    ensures labels { IfOk result (λ made. (x : List ℕ) → place_in made.labels x
         ≡ position_from (places.has_label modules.now x) 0 sources.now) }
     ensures others { IfOk result
         (λ made. AreOthers modules.now sources.now made.others sources.now) }
@@ -103,9 +87,9 @@ pub(crate) fn labels(
     let mut others = IndexMap::with_hasher(alloc, hash);
     'sources: for (k, source) in sources.iter().enumerate() {
         let label = NameBuf::new(alloc, label(modules, *source))?;
-        let first = put_first(&mut labels, label, k)?;
+        let first = insert_if_absent(&mut labels, label, k)?;
         if let Some(key) = key_of(modules, homes, *source, first, k) {
-            put_first(&mut others, key, k)?;
+            insert_if_absent(&mut others, key, k)?;
         }
     }
     Ok(LabelPlaces { labels, others })

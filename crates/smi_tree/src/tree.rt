@@ -1,26 +1,30 @@
 //! The tree of names, and what it is asked for.
-ghost use Rattle.std.specs.Prelude.{◌≡◌, ◌<◌, ℕ, List, length, Some, None, IfOk, MatchOption};
-ghost use Rattle.std.specs.Prelude.{IfSome, ◌+◌, is_some, option_map, slice_index_or};
+ghost use Rattle.std.specs.Prelude.{◌≡◌, ◌<◌, ℕ, List, length, drop, Some, None, IfOk};
+ghost use Rattle.std.specs.Prelude.{MatchOption, IfSome, option_map, slice_index_or};
 ghost use Rattle.std.specs.{Option.option_and_then, Option.option_copied, List.slice_get};
+ghost use Rattle.smi_names.specs.declared.nodes.warning.Warning.{Warning};
 ghost use Rattle.smi_tree.specs.branches.Children.{places_left};
-ghost use Rattle.smi_tree.specs.branches.Standing.{AreChildren, HasNoBeginning, IsDeepestAt};
-ghost use Rattle.smi_tree.specs.branches.Standing.{HasNoneBelow, oid_at};
-ghost use Rattle.smi_names.specs.meaning.Meaning.{module_named};
+ghost use Rattle.smi_tree.specs.branches.Standing.{AreChildren, HasNoBeginning, HasNoneBelow};
+ghost use Rattle.smi_tree.specs.branches.Standing.{IsDeepestAt, oid_at};
+ghost use Rattle.smi_tree.specs.{Found.IsFound, Found.IsFoundBelow, Tree.IsTree, Tree.seen_node};
+ghost use Rattle.smi_tree.specs.Naming.{IsSound, is_module_loaded, nearest_definition};
+ghost use Rattle.smi_tree.specs.Naming.{nearest_node, nearest_syntax, oid_anywhere, oid_in_module};
+ghost use Rattle.smi_tree.specs.Naming.{oid_of, oid_of_child, oid_of_root, standing_of};
+ghost use Rattle.smi_tree.specs.Naming.{standing_of_longest};
 ghost use Rattle.smi_tree.specs.Nodes.{IsFirstChild, is_labelled, oids_of, place_anywhere};
 ghost use Rattle.smi_tree.specs.Nodes.{place_in_module};
+ghost use Rattle.smi_tree.specs.Standing.{depth_of, longest, longest_of};
 ghost use Rattle.smi_tree.specs.{types.Kept.facts_of, private.Resolved.IsResolved, Shown.shown_at};
-ghost use Rattle.smi_tree.specs.{Shown.units_at, Naming.oid_of, Tree.IsTree, Tree.seen_node};
-ghost use Rattle.smi_tree.specs.Standing.{longest, longest_of};
-ghost use Rattle.smi_names.specs.declared.nodes.warning.Warning.{Warning};
+ghost use Rattle.smi_tree.specs.Shown.{units_at};
 
 use crate::branches::{Children, Deepest, Identifiers};
-use crate::columns::Indexes;
+use crate::columns::{IndexPart, Indexes};
+use crate::nearest::{Found, Near, NearestNode, home_name, root_place};
 use crate::node::{Node, at, definition, home, is_in_module, label};
 use crate::places::{Others, Places, find, homes, labels};
 use crate::shown::{syntax, units_of, value_syntax};
 use crate::types::{TypeSyntax, Types};
-use smi_names::{NameHash, Names, Source, Warning, gather_nodes};
-use smi_show::{IndexPart, Near};
+use smi_names::{NameHash, Names, Source, Warning, gather_nodes, one_identifier};
 use smi_text::{Def, Module, Text};
 use smi_value::ValueSyntax;
 use snmp_oid::Oid;
@@ -33,8 +37,8 @@ pub type NodeId = usize;
 /// The nodes that modules define, with those of the roots before them (RFC 2578, sections 3.5 and
 /// 3.6).
 ///
-/// Of several nodes with one identifier the first in order of loading stands for it. No call but
-/// [`Tree::load`] allocates.
+/// Of several nodes with one identifier the first in order of loading stands for it. Only the calls
+/// that load a tree allocate.
 pub struct Tree {
     modules: Vec<Module>,
     /// Where each node comes from.
@@ -131,20 +135,29 @@ fn resolve_by<'a>(
 }
 
 impl Tree {
-    /// The tree of modules, with the warnings that they give, in order.
+    /// The tree of modules, with the warnings that they give, in order. Its maps of names have the
+    /// fixed key.
     ///
     /// Names may refer to what stands later, in the same module or in another. A module whose name
     /// an earlier one has is left out.
-    pub fn load(
+    pub fn load(alloc: Global, modules: Vec<Module>) -> Result<(Tree, Vec<Warning>), AllocError>
+        ensures { IfOk result (λ loaded. IsTree modules.items loaded.0 loaded.1.items) }
+    {
+        Tree::load_with_key(alloc, NameHash::Fixed, modules)
+    }
+
+    /// Does what [`Tree::load`] does; the maps of names have this key. Someone who doesn't know the
+    /// key can't choose names that make look-ups slow.
+    pub fn load_with_key(
         alloc: Global,
-        hash: NameHash,
+        key: NameHash,
         modules: Vec<Module>,
     ) -> Result<(Tree, Vec<Warning>), AllocError>
         ensures { IfOk result (λ loaded. IsTree modules.items loaded.0 loaded.1.items) }
     {
-        let resolved = resolve(alloc, hash, &modules)?;
-        let homes = homes(alloc, hash, &modules)?;
-        let places = labels(alloc, hash, &modules, &homes, &resolved.sources)?;
+        let resolved = resolve(alloc, key, &modules)?;
+        let homes = homes(alloc, key, &modules)?;
+        let places = labels(alloc, key, &modules, &homes, &resolved.sources)?;
         let tree = Tree {
             modules,
             sources: resolved.sources,
@@ -179,101 +192,9 @@ impl Tree {
         }
     }
 
-    /// The syntax of a node's object: what its chain of types gives. None if it is no object, or if
-    /// that chain is broken, leads back to itself or ends at no type of a value (RFC 2578, sections
-    /// 7.1 and 9).
-    pub fn syntax_of(&self, id: NodeId) -> Option<TypeSyntax<'_>>
-        ensures { option_map facts_of result ≡ slice_index_or self.now.syntaxes id None }
-    {
-        match at(&self.sources, id) {
-            Some(source) => syntax(&self.types, &self.modules, *source),
-            None => None,
-        }
-    }
-
-    /// The parts of the index of a node. None if it is no column, or if its index can't be read
-    /// (RFC 2578, sections 7.7 and 7.8).
-    pub fn index_of(&self, id: NodeId) -> Option<&[IndexPart]>
-        ensures { option_map (λ parts. parts.now) result
-            ≡ slice_index_or self.now.indexes id None }
-    {
-        self.indexes.get(id)
-    }
-
-    /// The node at a place, if there is one. Inlined, so that parts which a caller doesn't read
-    /// aren't looked up.
-    #[inline(always)]
-    pub(crate) fn node_at(&self, id: NodeId) -> Option<Node<'_>>
-        ensures { option_map seen_node result ≡ slice_get self.now.nodes id }
-    {
-        if id < self.len() {
-            Some(self.node(id))
-        } else {
-            None
-        }
-    }
-
-    /// The identifiers of the nodes.
-    fn oids(&self) -> &Identifiers
-        ensures { result.now ≡ oids_of self.now.nodes }
-    {
-        &self.identifiers
-    }
-
-    /// The identifier of a node that was found.
-    pub(crate) fn found(&self, place: Option<NodeId>) -> Option<&Oid>
-        ensures { option_copied result ≡ oid_of self.now.nodes place }
-    {
-        match place {
-            Some(id) => match self.node_at(id) {
-                Some(node) => Some(node.oid),
-                None => None,
-            },
-            None => None,
-        }
-    }
-
-    /// The definition of a node, None for a root.
-    pub(crate) fn definition_of(&self, id: NodeId) -> Option<&Def>
-        ensures { option_copied result
-            ≡ option_and_then (λ n. n.definition) (slice_get self.now.nodes id) }
-    {
-        match self.node_at(id) {
-            Some(node) => node.definition,
-            None => None,
-        }
-    }
-
-    /// What a tree holds is what its modules bring: a law, which does nothing when it runs.
-    pub(crate) fn is_tree(&self)
-        ensures { (warnings : List Warning) × IsTree self.now.modules self.now warnings }
-    {
-        let _ = &self.modules;
-    }
-
-    /// UNITS of a node's object, if it has them (RFC 2578, section 7.2).
-    fn units(&self, id: NodeId) -> Option<&Text>
-        ensures { option_copied result ≡ units_at self.now.nodes id }
-    {
-        match self.definition_of(id) {
-            Some(def) => units_of(&def.kind),
-            None => None,
-        }
-    }
-
-    /// The syntax by which values of a node's object are shown.
-    pub(crate) fn value_syntax(&self, id: NodeId) -> Option<ValueSyntax<'_>>
-        ensures { result ≡ shown_at self.now.nodes self.now.syntaxes id }
-    {
-        match self.syntax_of(id) {
-            Some(syntax) => Some(value_syntax(syntax, self.units(id))),
-            None => None,
-        }
-    }
-
     /// Whether a module of this name is loaded.
     pub fn has_module(&self, name: &[u8]) -> bool
-        ensures { result ≡ is_some (module_named self.now.modules name.now) }
+        ensures { result ≡ is_module_loaded self.now name.now }
     {
         find(&self.homes, name).is_some()
     }
@@ -298,35 +219,21 @@ impl Tree {
         find(&self.labels, label)
     }
 
-    /// The node that stands for the longest beginning of an identifier, with the length of that
-    /// beginning.
-    pub fn deepest(&self, oid: &Oid) -> Option<Deepest>
-        ensures deepest { MatchOption result (HasNoBeginning (oids_of self.now.nodes) oid.now)
-            (λ deepest. IsDeepestAt (oids_of self.now.nodes) oid.now deepest.place
-            deepest.depth) }
-        ensures longest { option_map longest_of result ≡ longest self.now.nodes oid.now }
+    /// The node that stands for the longest beginning of an identifier, and the numbers after that
+    /// beginning: all of them if there is no such node. The whole identifier counts as a beginning.
+    pub fn deepest<'o>(&self, oid: &'o Oid) -> (Option<NodeId>, &'o [u32])
+        ensures deepest { let oids = oids_of self.now.nodes in MatchOption result.0
+            (HasNoBeginning oids oid.now × (result.1.now ≡ oid.now))
+            (λ place. (depth : ℕ) × IsDeepestAt oids oid.now place depth
+            × (result.1.now ≡ drop depth oid.now)) }
+        ensures longest { let at = longest self.now.nodes oid.now in
+            (result.0 ≡ option_map (λ l. l.place) at)
+            × (result.1.now ≡ drop (depth_of at) oid.now) }
     {
-        self.identifiers.deepest(oid)
-    }
-
-    /// What [`Tree::deepest`] returns, by a search that begins at the node that was found last, if
-    /// the identifier is below it.
-    pub(crate) fn deepest_near(&self, oid: &Oid, near: &mut Near) -> Option<Deepest>
-        ensures deepest { MatchOption result (HasNoBeginning (oids_of self.now.nodes) oid.now)
-            (λ deepest. IsDeepestAt (oids_of self.now.nodes) oid.now deepest.place
-            deepest.depth) }
-        ensures longest { option_map longest_of result ≡ longest self.now.nodes oid.now }
-    {
-        self.identifiers.deepest_near(oid, &mut near.place)
-    }
-
-    /// The identifier of a node, if no node is below it. `near` is what `deepest_near` left when it
-    /// found the node.
-    pub(crate) fn last_on_way(&self, id: NodeId, near: &Near) -> Option<&Oid>
-        ensures at { IfSome result (λ o. o.now ≡ oid_at (oids_of self.now.nodes) id) }
-        ensures last { IfSome result (λ o. HasNoneBelow (oids_of self.now.nodes) o.now) }
-    {
-        self.oids().last_on_way(id, near.place)
+        match self.deepest_near(oid, &mut Near::new()) {
+            Some(deepest) => (Some(deepest.place), &oid.as_slice()[deepest.depth..]),
+            None => (None, oid.as_slice()),
+        }
     }
 
     /// The nodes that stand for the identifiers one number longer, in order of that number.
@@ -349,6 +256,174 @@ impl Tree {
         None
     }
 
+    /// The syntax of a node's object: what its chain of types gives. None if it is no object, or if
+    /// that chain is broken, leads back to itself or ends at no type of a value (RFC 2578, sections
+    /// 7.1 and 9).
+    pub fn syntax_of(&self, id: NodeId) -> Option<TypeSyntax<'_>>
+        ensures { option_map facts_of result ≡ slice_index_or self.now.syntaxes id None }
+    {
+        match at(&self.sources, id) {
+            Some(source) => syntax(&self.types, &self.modules, *source),
+            None => None,
+        }
+    }
+
+    /// The parts of the index of a node. None if it is no column, or if its index can't be read
+    /// (RFC 2578, sections 7.7 and 7.8).
+    pub fn index_of(&self, id: NodeId) -> Option<&[IndexPart]>
+        ensures { option_map (λ parts. parts.now) result
+            ≡ slice_index_or self.now.indexes id None }
+    {
+        self.indexes.get(id)
+    }
+}
+
+// By this names, values and details are read and shown.
+impl Tree {
+    /// The identifier of a module's node of this label.
+    #[tactic(auto, unfolding(crate::specs::Naming::oid_in_module))]
+    pub fn in_module(&self, home: &[u8], label: &[u8]) -> Option<&Oid>
+        ensures { option_copied result ≡ oid_in_module self.now home.now label.now }
+    {
+        self.found(self.find(home, label))
+    }
+
+    /// The identifier of the first node of this label, the roots before all others.
+    #[tactic(auto, unfolding(crate::specs::Naming::oid_anywhere))]
+    pub fn anywhere(&self, label: &[u8]) -> Option<&Oid>
+        ensures { option_copied result ≡ oid_anywhere self.now label.now }
+    {
+        self.found(self.find_any(label))
+    }
+
+    /// The identifier of the root of this label.
+    pub fn among_roots(&self, label: &[u8]) -> Option<&Oid>
+        ensures { option_copied result ≡ oid_of_root label.now }
+    {
+        self.is_tree();
+        match root_place(label) {
+            Some(id) => self.found(Some(id)),
+            None => None,
+        }
+    }
+
+    /// The identifier of the child of `oid` with this label, which is one number longer.
+    pub fn child_oid(&self, oid: &Oid, label: &[u8]) -> Option<&Oid>
+        ensures { option_copied result ≡ oid_of_child self.now oid.now label.now }
+    {
+        self.found(self.child(oid, label))
+    }
+
+    /// The node that stands for the longest beginning of an identifier.
+    pub fn nearest(&self, oid: &Oid) -> Option<NearestNode<'_>>
+        ensures { option_map standing_of result ≡ nearest_node self.now oid.now }
+    {
+        self.nearest_from(oid, &mut Near::new())
+    }
+
+    /// What [`Tree::nearest`] returns, for one identifier after the other: the search begins at the
+    /// node of the last one.
+    #[tactic(auto, unfolding(crate::specs::Naming::nearest_node))]
+    pub fn nearest_from(&self, oid: &Oid, near: &mut Near) -> Option<NearestNode<'_>>
+        ensures { option_map standing_of result ≡ nearest_node self.now oid.now }
+    {
+        let deepest = self.deepest_near(oid, near)?;
+        self.seen(deepest)
+    }
+
+    /// The definition of the node that stands for the longest beginning of an identifier; None if
+    /// there is no node, or if it is a built-in root.
+    #[tactic(auto, unfolding(crate::specs::Naming::nearest_definition))]
+    pub fn nearest_definition(&self, oid: &Oid) -> Option<&Def>
+        ensures { option_copied result ≡ nearest_definition self.now oid.now }
+    {
+        let deepest = self.deepest_near(oid, &mut Near::new())?;
+        self.definition_of(deepest.place)
+    }
+
+    /// The syntax of the node that stands for the longest beginning of an identifier, if that is an
+    /// object whose type is known.
+    #[tactic(auto, unfolding(crate::specs::Naming::nearest_syntax))]
+    pub fn nearest_syntax(&self, oid: &Oid) -> Option<ValueSyntax<'_>>
+        ensures { result ≡ nearest_syntax self.now oid.now }
+    {
+        let deepest = self.deepest_near(oid, &mut Near::new())?;
+        self.value_syntax(deepest.place)
+    }
+
+    /// What [`Tree::nearest`] and [`Tree::nearest_syntax`] return, by one search, and an identifier
+    /// below which they return this too.
+    #[tactic(auto, unfolding(crate::specs::Naming::nearest_node, crate::specs::Naming::nearest_syntax))]
+    pub fn found_for(&self, oid: &Oid, near: &mut Near) -> Found<'_>
+        ensures found { IsFound self.now oid.now result }
+        ensures below { IsFoundBelow self.now result }
+    {
+        match self.deepest_near(oid, near) {
+            Some(deepest) => Found {
+                node: self.seen(deepest),
+                syntax: self.value_syntax(deepest.place),
+                below: self.last_on_way(deepest.place, near),
+            },
+            None => Found {
+                node: None,
+                syntax: None,
+                below: None,
+            },
+        }
+    }
+
+    /// Labels are words, and lead to the nodes that they are shown for.
+    ///
+    /// A law: the call does nothing, and its caller may use what it ensures.
+    pub fn is_sound(&self)
+        ensures { IsSound self.now }
+    {
+        self.is_tree();
+        one_identifier();
+    }
+}
+
+impl Tree {
+    /// What a tree holds is what its modules bring: a law, which does nothing when it runs.
+    fn is_tree(&self)
+        ensures { (warnings : List Warning) × IsTree self.now.modules self.now warnings }
+    {
+        let _ = &self.modules;
+    }
+
+    /// The node at a place, if there is one. Inlined, so that parts which a caller doesn't read
+    /// aren't looked up.
+    #[inline(always)]
+    fn node_at(&self, id: NodeId) -> Option<Node<'_>>
+        ensures { option_map seen_node result ≡ slice_get self.now.nodes id }
+    {
+        if id < self.len() {
+            Some(self.node(id))
+        } else {
+            None
+        }
+    }
+
+    /// The identifiers of the nodes.
+    fn oids(&self) -> &Identifiers
+        ensures { result.now ≡ oids_of self.now.nodes }
+    {
+        &self.identifiers
+    }
+
+    /// The identifier of a node that was found.
+    fn found(&self, place: Option<NodeId>) -> Option<&Oid>
+        ensures { option_copied result ≡ oid_of self.now.nodes place }
+    {
+        match place {
+            Some(id) => match self.node_at(id) {
+                Some(node) => Some(node.oid),
+                None => None,
+            },
+            None => None,
+        }
+    }
+
     /// Whether a node has a label.
     fn has_label(&self, id: NodeId, name: &[u8]) -> bool
         ensures { result ≡ is_labelled self.now.nodes name.now id }
@@ -356,6 +431,73 @@ impl Tree {
         match self.node_at(id) {
             Some(node) => node.label == name,
             None => false,
+        }
+    }
+
+    /// The definition of a node, None for a root.
+    fn definition_of(&self, id: NodeId) -> Option<&Def>
+        ensures { option_copied result
+            ≡ option_and_then (λ n. n.definition) (slice_get self.now.nodes id) }
+    {
+        match self.node_at(id) {
+            Some(node) => node.definition,
+            None => None,
+        }
+    }
+
+    /// UNITS of a node's object, if it has them (RFC 2578, section 7.2).
+    fn units(&self, id: NodeId) -> Option<&Text>
+        ensures { option_copied result ≡ units_at self.now.nodes id }
+    {
+        match self.definition_of(id) {
+            Some(def) => units_of(&def.kind),
+            None => None,
+        }
+    }
+
+    /// The syntax by which values of a node's object are shown.
+    fn value_syntax(&self, id: NodeId) -> Option<ValueSyntax<'_>>
+        ensures { result ≡ shown_at self.now.nodes self.now.syntaxes id }
+    {
+        match self.syntax_of(id) {
+            Some(syntax) => Some(value_syntax(syntax, self.units(id))),
+            None => None,
+        }
+    }
+
+    /// The node that stands for the longest beginning of an identifier, with the length of that
+    /// beginning. The search begins at the node that was found last, if the identifier is below it.
+    fn deepest_near(&self, oid: &Oid, near: &mut Near) -> Option<Deepest>
+        ensures deepest { MatchOption result (HasNoBeginning (oids_of self.now.nodes) oid.now)
+            (λ deepest. IsDeepestAt (oids_of self.now.nodes) oid.now deepest.place
+            deepest.depth) }
+        ensures longest { option_map longest_of result ≡ longest self.now.nodes oid.now }
+    {
+        self.identifiers.deepest_near(oid, &mut near.place)
+    }
+
+    /// The identifier of a node, if no node is below it. `near` is what `deepest_near` left when it
+    /// found the node.
+    fn last_on_way(&self, id: NodeId, near: &Near) -> Option<&Oid>
+        ensures at { IfSome result (λ o. o.now ≡ oid_at (oids_of self.now.nodes) id) }
+        ensures last { IfSome result (λ o. HasNoneBelow (oids_of self.now.nodes) o.now) }
+    {
+        self.oids().last_on_way(id, near.place)
+    }
+
+    /// The node at a place, as names see it, with the length of its identifier.
+    fn seen(&self, deepest: Deepest) -> Option<NearestNode<'_>>
+        ensures { option_map standing_of result
+            ≡ standing_of_longest self.now (longest_of deepest) }
+    {
+        match self.node_at(deepest.place) {
+            Some(node) => Some(NearestNode {
+                home: home_name(node.home),
+                label: node.label,
+                depth: deepest.depth,
+                index: self.index_of(deepest.place),
+            }),
+            None => None,
         }
     }
 }

@@ -86,7 +86,10 @@ fn assert_deepest(rt: &impl Abort, identifiers: &Identifiers) -> Result<(), Fail
     let mut near = usize::MAX;
     for (text, expected) in &DEEPEST {
         let oid = oid(text)?;
-        assert!(rt; found(identifiers.deepest(&oid)) == *expected, "{text}");
+        assert!(rt;
+            found(identifiers.deepest_near(&oid, &mut 0)) == *expected,
+            "{text}"
+        );
         assert!(rt;
             found(identifiers.deepest_near(&oid, &mut near)) == *expected,
             "{text}"

@@ -5,9 +5,8 @@ ghost use Rattle.std.specs.Prelude.{◌≡◌};
 
 use crate::reading::{TINY, modules_of, names_of};
 use smi_names::{Gathered, Names, Source, gather_nodes};
-use smi_show::{Extent, IndexPart};
 use smi_text::Module;
-use smi_tree::{Identifiers, Indexes, Types};
+use smi_tree::{Extent, Identifiers, IndexPart, Indexes, Types};
 use std::alloc::Global;
 use std::test::Fail;
 

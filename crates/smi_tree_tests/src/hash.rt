@@ -1,11 +1,11 @@
-//! How names are hashed: by the key of a source, where it gives one, and by the fixed key 0 else.
+//! How names are hashed: by a key, and without one by the fixed key 0.
 //! The expected hashes are SipHash-1-3's, as its authors' description gives them.
 
 use crate::reading::{TINY, modules_of};
 use smi_names::NameHash;
 use smi_tree::Tree;
 use std::alloc::Global;
-use std::hash::{BuildHasher, Hasher};
+use std::hash::{BuildHasher, Hasher, RandomState};
 use std::io;
 use std::process::Abort;
 use std::random::RandomSource;
@@ -22,14 +22,9 @@ impl RandomSource for Sevens {
     }
 }
 
-/// A source that fails.
-#[derive(Drop)]
-struct Nothing;
-
-impl RandomSource for Nothing {
-    fn fill_bytes(&self, _octets: &mut [u8]) -> io::Result<()> {
-        Err(io::Error::from(io::ErrorKind::Unsupported))
-    }
+/// The hash by the key whose octets are all 7.
+fn key_of_sevens() -> NameHash {
+    NameHash::of_key(RandomState::new(&Sevens).ok())
 }
 
 /// The hash of a name.
@@ -47,16 +42,16 @@ static HASHES: [(&str, u64, u64); 3] = [
 ];
 
 #[test]
-fn names_are_hashed_by_the_key_of_the_source(rt: HostRuntime) {
+fn names_are_hashed_by_the_key(rt: HostRuntime) {
     for (name, keyed, _) in &HASHES {
-        assert_eq!(rt; hashed(NameHash::new(&Sevens), name), *keyed, "{name}");
+        assert_eq!(rt; hashed(key_of_sevens(), name), *keyed, "{name}");
     }
 }
 
 #[test]
-fn names_are_hashed_by_the_fixed_key_where_the_source_fails(rt: HostRuntime) {
+fn names_are_hashed_by_the_fixed_key_without_one(rt: HostRuntime) {
     for (name, _, fixed) in &HASHES {
-        assert_eq!(rt; hashed(NameHash::new(&Nothing), name), *fixed, "{name}");
+        assert_eq!(rt; hashed(NameHash::of_key(None), name), *fixed, "{name}");
         assert_eq!(rt; hashed(NameHash::Fixed, name), *fixed, "{name}");
     }
 }
@@ -88,18 +83,18 @@ fn place(hash: NameHash, name: &str) -> u64 {
 #[test]
 fn names_chosen_for_the_fixed_key_have_places_of_their_own_by_another(rt: HostRuntime) {
     assert_eq!(rt; at_the_first_place(NameHash::Fixed), 16);
-    assert_eq!(rt; at_the_first_place(NameHash::new(&Sevens)), 1);
+    assert_eq!(rt; at_the_first_place(key_of_sevens()), 1);
 }
 
 /// The tree of the tiny modules, in a box, whose `drop` is proved once.
 fn tree_by(alloc: Global, hash: NameHash) -> Result<Box<Tree>, Fail> {
-    let (tree, _warnings) = Tree::load(alloc, hash, modules_of(alloc, TINY)?)?;
+    let (tree, _warnings) = Tree::load_with_key(alloc, hash, modules_of(alloc, TINY)?)?;
     Ok(Box::new(alloc, tree)?)
 }
 
 #[test]
 fn look_ups_find_the_same_by_each_key(rt: HostRuntime) -> Result<(), Fail> {
-    let keyed = tree_by(rt.alloc(), NameHash::new(&Sevens))?;
+    let keyed = tree_by(rt.alloc(), key_of_sevens())?;
     let fixed = tree_by(rt.alloc(), NameHash::Fixed)?;
     assert_same(&rt, &keyed, &fixed);
     Ok(())

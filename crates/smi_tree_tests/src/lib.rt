@@ -3,11 +3,6 @@
 //! that are shown by a tree. They are a separate crate so that those layers are proved only once.
 #![tactic(auto)]
 
-mod known;
-pub mod names;
-
-pub use known::Known;
-
 #[cfg(test)]
 mod branches;
 #[cfg(test)]
@@ -26,6 +21,7 @@ mod letters;
 mod lines;
 #[cfg(test)]
 mod meanings;
+pub mod names;
 #[cfg(test)]
 mod nodes;
 #[cfg(test)]

@@ -1,23 +1,13 @@
 //! Lines and values, by the letters and the syntax of the object.
 
-use crate::Known;
-use crate::names::Sample;
-use smi_show::{Extent, IndexPart, Letters, line, name_text, value_text};
-use smi_text::{Name, NamedNumber, Text};
-use smi_value::ValueBase;
+use crate::names::{COUNTED, MAC, sample};
+use smi_show::{Letters, line, name_text, value_text};
+use smi_tree::Tree;
 use snmp_oid::Oid;
 use snmp_wire::ValueRef;
 use std::alloc::Global;
 use std::process::Abort;
-use std::slice::from_ref;
 use std::test::Fail;
-
-const COUNTED: &[IndexPart] = &[IndexPart::Text(Extent::Counted)];
-
-/// The nodes alone.
-fn known<'a>() -> Known<'a> {
-    Known::new(Sample::new(COUNTED))
-}
 
 fn letters_of(letters: &[u8]) -> Result<Letters, Fail> {
     Ok(Letters::parse(letters).ok().ok_or("no letters")?)
@@ -26,7 +16,7 @@ fn letters_of(letters: &[u8]) -> Result<Letters, Fail> {
 /// Whether a binding has this line, after what stands before it.
 fn has_line(
     alloc: Global,
-    tree: &Known<'_>,
+    tree: &Tree,
     letters: &Letters,
     name: &Oid,
     value: &ValueRef<'_>,
@@ -47,7 +37,7 @@ fn is_after_before(out: &[u8], text: &[u8]) -> bool {
 /// Whether a line ends in the text of its value.
 fn ends_in_value(
     alloc: Global,
-    tree: &Known<'_>,
+    tree: &Tree,
     letters: &Letters,
     name: &Oid,
     value: &ValueRef<'_>,
@@ -63,7 +53,7 @@ fn ends_in_value(
 fn assert_line(
     rt: &impl Abort,
     alloc: Global,
-    tree: &Known<'_>,
+    tree: &Tree,
     letters: &[u8],
     numbers: &[u32],
     value: &ValueRef<'_>,
@@ -87,7 +77,7 @@ fn assert_line(
 fn assert_lines(
     rt: &impl Abort,
     alloc: Global,
-    tree: &Known<'_>,
+    tree: &Tree,
     numbers: &[u32],
     value: &ValueRef<'_>,
     rows: &[(&[u8], &str)],
@@ -114,7 +104,7 @@ static NAMES: [(&[u8], &str); 14] = [
     (b"s", "tinyMac.\"wes\" = STRING: 0:16:3e:5a:78:8e\n"),
     (
         b"f",
-        ".iso.3.6.tinyMac.\"wes\" = STRING: 0:16:3e:5a:78:8e\n",
+        ".iso.3.tinyEntry.tinyMac.\"wes\" = STRING: 0:16:3e:5a:78:8e\n",
     ),
     (b"n", ".1.3.6.2.3.119.101.115 = STRING: 0:16:3e:5a:78:8e\n"),
     (
@@ -123,7 +113,7 @@ static NAMES: [(&[u8], &str); 14] = [
     ),
     (
         b"fb",
-        ".iso.3.6.tinyMac.3.119.101.115 = STRING: 0:16:3e:5a:78:8e\n",
+        ".iso.3.tinyEntry.tinyMac.3.119.101.115 = STRING: 0:16:3e:5a:78:8e\n",
     ),
     (b"q", "TINY-MIB::tinyMac.\"wes\" 0:16:3e:5a:78:8e\n"),
     (b"Q", "TINY-MIB::tinyMac.\"wes\" = 0:16:3e:5a:78:8e\n"),
@@ -139,9 +129,7 @@ static NAMES: [(&[u8], &str); 14] = [
 
 #[test]
 fn names_by_each_letter(rt: HostRuntime) -> Result<(), Fail> {
-    let mut tree = known();
-    tree.base = Some(ValueBase::OctetString);
-    tree.hint = Some(b"1x:");
+    let tree = sample(rt.alloc(), COUNTED, MAC)?;
     let value = ValueRef::Octets(b"\x00\x16\x3e\x5a\x78\x8e");
     assert_lines(&rt, rt.alloc(), &tree, &WES, &value, &NAMES)
 }
@@ -151,7 +139,7 @@ static IDENTIFIERS: [(&[u8], &str); 7] = [
     (b"", "iso.3 = OID: TINY-MIB::tinyMac.\"wes\"\n"),
     (b"n", ".1.3 = OID: .1.3.6.2.3.119.101.115\n"),
     (b"s", "iso.3 = OID: tinyMac.\"wes\"\n"),
-    (b"f", ".iso.3 = OID: .iso.3.6.tinyMac.\"wes\"\n"),
+    (b"f", ".iso.3 = OID: .iso.3.tinyEntry.tinyMac.\"wes\"\n"),
     (b"b", "iso.3 = OID: TINY-MIB::tinyMac.3.119.101.115\n"),
     (b"q", "iso.3 TINY-MIB::tinyMac.\"wes\"\n"),
     (b"v", "OID: TINY-MIB::tinyMac.\"wes\"\n"),
@@ -160,87 +148,92 @@ static IDENTIFIERS: [(&[u8], &str); 7] = [
 #[test]
 fn identifiers_are_shown_as_names(rt: HostRuntime) -> Result<(), Fail> {
     let value = ValueRef::ObjectId(Oid::from_slice(&WES)?);
-    assert_lines(&rt, rt.alloc(), &known(), &[1, 3], &value, &IDENTIFIERS)
+    let tree = sample(rt.alloc(), COUNTED, MAC)?;
+    assert_lines(&rt, rt.alloc(), &tree, &[1, 3], &value, &IDENTIFIERS)
 }
 
 #[test]
 fn a_syntax_shows_values_of_its_type_alone(rt: HostRuntime) -> Result<(), Fail> {
-    let name = up(rt.alloc())?;
-    assert_by_base(&rt, rt.alloc(), from_ref(&name))
+    assert_by_base(&rt, rt.alloc())
 }
 
-/// The name `up` of the number 1.
-fn up(alloc: Global) -> Result<NamedNumber, Fail> {
-    let octets = Text::copied(alloc, b"up")?;
-    let number = Text::copied(alloc, b"1")?;
-    Ok(NamedNumber {
-        name: Name { octets },
-        number,
-    })
-}
+const NUMBER: &str = "OBJECT-TYPE SYNTAX INTEGER { up(1) } UNITS \"jobs\" MAX-ACCESS read-only
+  STATUS current DESCRIPTION \"Number.\"";
 
-/// The nodes, with a base, names of numbers, and units.
-fn known_with(base: ValueBase, names: &[NamedNumber]) -> Known<'_> {
-    Known {
-        nodes: Sample::new(COUNTED),
-        definition: None,
-        base: Some(base),
-        names,
-        hint: None,
-        units: Some(b"jobs"),
-    }
-}
+const BITS: &str = "OBJECT-TYPE SYNTAX BITS { up(1) } UNITS \"jobs\" MAX-ACCESS read-only
+  STATUS current DESCRIPTION \"Bits.\"";
 
-/// Checks the line of a value of `iso`.
-fn assert_iso(
+const TICKS: &str = "OBJECT-TYPE SYNTAX TimeTicks UNITS \"jobs\" MAX-ACCESS read-only
+  STATUS current DESCRIPTION \"Time.\"";
+
+/// Checks the line of a value of the column.
+fn assert_column(
     rt: &impl Abort,
     alloc: Global,
-    tree: &Known<'_>,
+    tree: &Tree,
     letters: &[u8],
     value: &ValueRef<'_>,
     text: &str,
 ) -> Result<(), Fail> {
-    assert_line(rt, alloc, tree, letters, &[1], value, text)
+    assert_line(rt, alloc, tree, letters, &[1, 3, 6, 2], value, text)
 }
 
-/// Checks lines by a syntax of each base with these names.
-fn assert_by_base(rt: &impl Abort, alloc: Global, names: &[NamedNumber]) -> Result<(), Fail> {
-    assert_integers(rt, alloc, &known_with(ValueBase::Integer, names))?;
+/// Checks lines by a syntax of each base.
+fn assert_by_base(rt: &impl Abort, alloc: Global) -> Result<(), Fail> {
+    let tree = sample(alloc, COUNTED, NUMBER)?;
+    assert_integers(rt, alloc, &tree)?;
     let bits = ValueRef::Octets(b"\x40");
-    let tree = known_with(ValueBase::Bits, names);
-    assert_iso(rt, alloc, &tree, b"", &bits, "iso = BITS: 40 up(1) \n")?;
+    let text = "TINY-MIB::tinyMac = BITS: 40 up(1) \n";
+    let tree = sample(alloc, COUNTED, BITS)?;
+    assert_column(rt, alloc, &tree, b"", &bits, text)?;
     let ticks = ValueRef::TimeTicks(14096763);
-    let tree = known_with(ValueBase::TimeTicks, names);
-    assert_iso(rt, alloc, &tree, b"t", &ticks, "iso = 14096763 jobs\n")
+    let text = "TINY-MIB::tinyMac = 14096763 jobs\n";
+    let tree = sample(alloc, COUNTED, TICKS)?;
+    assert_column(rt, alloc, &tree, b"t", &ticks, text)
 }
 
 /// Letters, and the line of the number 1 by the letters.
 static ONE: [(&[u8], &str); 3] = [
-    (b"", "iso = INTEGER: up(1)\n"),
-    (b"q", "iso up\n"),
-    (b"e", "iso = INTEGER: 1\n"),
+    (b"", "TINY-MIB::tinyMac = INTEGER: up(1)\n"),
+    (b"q", "TINY-MIB::tinyMac up\n"),
+    (b"e", "TINY-MIB::tinyMac = INTEGER: 1\n"),
 ];
 
 /// Letters, and the line of the number 2, which has no name.
 static TWO: [(&[u8], &str); 2] = [
-    (b"", "iso = INTEGER: 2 jobs\n"),
-    (b"U", "iso = INTEGER: 2\n"),
+    (b"", "TINY-MIB::tinyMac = INTEGER: 2 jobs\n"),
+    (b"U", "TINY-MIB::tinyMac = INTEGER: 2\n"),
 ];
 
-fn assert_integers(rt: &impl Abort, alloc: Global, tree: &Known<'_>) -> Result<(), Fail> {
-    assert_lines(rt, alloc, tree, &[1], &ValueRef::Integer(1), &ONE)?;
-    assert_lines(rt, alloc, tree, &[1], &ValueRef::Integer(2), &TWO)?;
+fn assert_integers(rt: &impl Abort, alloc: Global, tree: &Tree) -> Result<(), Fail> {
+    assert_lines(rt, alloc, tree, &[1, 3, 6, 2], &ValueRef::Integer(1), &ONE)?;
+    assert_lines(rt, alloc, tree, &[1, 3, 6, 2], &ValueRef::Integer(2), &TWO)?;
     let gauge = ValueRef::Gauge32(2);
-    assert_iso(rt, alloc, tree, b"", &gauge, "iso = Gauge32: 2\n")?;
-    assert_iso(rt, alloc, tree, b"", &ValueRef::Null, "iso = NULL\n")
+    assert_column(
+        rt,
+        alloc,
+        tree,
+        b"",
+        &gauge,
+        "TINY-MIB::tinyMac = Gauge32: 2\n",
+    )?;
+    assert_column(
+        rt,
+        alloc,
+        tree,
+        b"",
+        &ValueRef::Null,
+        "TINY-MIB::tinyMac = NULL\n",
+    )
 }
 
 #[test]
 fn exceptions_have_their_texts(rt: HostRuntime) -> Result<(), Fail> {
-    assert_exceptions(&rt, rt.alloc(), &known())
+    let tree = sample(rt.alloc(), COUNTED, MAC)?;
+    assert_exceptions(&rt, rt.alloc(), &tree)
 }
 
-fn assert_exceptions(rt: &impl Abort, alloc: Global, tree: &Known<'_>) -> Result<(), Fail> {
+fn assert_exceptions(rt: &impl Abort, alloc: Global, tree: &Tree) -> Result<(), Fail> {
     let text = ".1.0 = No Such Object available on this agent at this OID\n";
     assert_line(
         rt,
@@ -268,14 +261,15 @@ fn assert_exceptions(rt: &impl Abort, alloc: Global, tree: &Known<'_>) -> Result
 #[test]
 fn a_name_alone(rt: HostRuntime) -> Result<(), Fail> {
     let mut out = Vec::new(rt.alloc());
-    push_names(&known(), &mut out)?;
-    let all = b"TINY-MIB::tinyMac .1.3.6.2 .iso.3.6.tinyMac tinyMac ";
+    let tree = sample(rt.alloc(), COUNTED, MAC)?;
+    push_names(&tree, &mut out)?;
+    let all = b"TINY-MIB::tinyMac .1.3.6.2 .iso.3.tinyEntry.tinyMac tinyMac ";
     assert!(rt; out.as_slice() == all.as_slice());
     Ok(())
 }
 
 /// Appends the names of the column by four letters.
-fn push_names(tree: &Known<'_>, out: &mut Vec<u8>) -> Result<(), Fail> {
+fn push_names(tree: &Tree, out: &mut Vec<u8>) -> Result<(), Fail> {
     let column = Oid::from_slice(&[1, 3, 6, 2])?;
     for letters in [b"".as_slice(), b"n", b"f", b"s"] {
         name_text(tree, &letters_of(letters)?, &column, out)?;

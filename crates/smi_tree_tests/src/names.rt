@@ -1,10 +1,12 @@
 //! Tests of names over a small tree: names are read, refused at their first fault, and shown.
 
 mod random;
-mod sample;
+#[cfg(test)]
+mod tiny;
 
 pub use random::random_oid;
-pub use sample::Sample;
+#[cfg(test)]
+pub use tiny::{COUNTED, IMPLIED, MAC, TRIPLE, sample};
 
 #[cfg(test)]
 mod tests;

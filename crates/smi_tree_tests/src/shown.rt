@@ -3,7 +3,7 @@
 use crate::names::random_oid;
 use crate::reading::{TINY, modules_of, oid};
 use smi_show::{Letters, LineWriter, line, name_text, resolve};
-use smi_tree::{NameHash, Tree};
+use smi_tree::Tree;
 use snmp_oid::Oid;
 use snmp_wire::ValueRef;
 use std::alloc::Global;
@@ -19,7 +19,7 @@ const USE: &str = "1.3.6.1.4.1.32473.3.1.1.119.101.115";
 /// The tree of the tiny modules, in a box, whose `drop` is proved once.
 fn tiny(alloc: Global) -> Result<Box<Tree>, Fail> {
     let modules = modules_of(alloc, TINY)?;
-    let (tree, _warnings) = Tree::load(alloc, NameHash::Fixed, modules)?;
+    let (tree, _warnings) = Tree::load(alloc, modules)?;
     Ok(Box::new(alloc, tree)?)
 }
 
@@ -133,7 +133,7 @@ fn assert_written(
 fn is_written_alike(
     alloc: Global,
     tree: &Tree,
-    writer: &mut LineWriter<'_, Tree>,
+    writer: &mut LineWriter<'_>,
     letters: &Letters,
     name: &Oid,
 ) -> Result<bool, Fail> {

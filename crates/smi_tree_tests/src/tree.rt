@@ -1,7 +1,7 @@
 //! Trees of whole modules: their warnings in order, and what each look-up finds.
 
 use crate::reading::{modules_of, oid};
-use smi_tree::{NameHash, NodeId, Tree, Warning};
+use smi_tree::{NodeId, Tree, Warning};
 use snmp_oid::Oid;
 use std::alloc::Global;
 use std::process::Abort;
@@ -54,7 +54,7 @@ struct Loaded {
 /// The tree of a text's modules, in a box, whose `drop` is proved once.
 fn load(alloc: Global, text: &str) -> Result<Box<Loaded>, Fail> {
     let modules = modules_of(alloc, text.as_bytes())?;
-    let (tree, warnings) = Tree::load(alloc, NameHash::Fixed, modules)?;
+    let (tree, warnings) = Tree::load(alloc, modules)?;
     Ok(Box::new(alloc, Loaded { tree, warnings })?)
 }
 
@@ -223,25 +223,28 @@ own OBJECT IDENTIFIER ::= { 1 }
 END
 ";
 
-/// Identifiers, with the label and the depth of the deepest node of each.
-static DEEPEST: [(&str, Option<(&str, usize)>); 5] = [
-    ("1.3", Some(("one", 2))),
-    ("1.3.2", Some(("one", 2))),
-    ("1.3.1.9", Some(("below", 3))),
-    ("1.4", Some(("iso", 1))),
-    ("3", None),
+/// Identifiers, with the label of the deepest node of each, and the numbers after that node's.
+static DEEPEST: [(&str, Option<&str>, &[u32]); 5] = [
+    ("1.3", Some("one"), &[]),
+    ("1.3.2", Some("one"), &[2]),
+    ("1.3.1.9", Some("below"), &[9]),
+    ("1.4", Some("iso"), &[4]),
+    ("3", None, &[3]),
 ];
 
-/// Whether the deepest node of an identifier has this label and this depth.
-fn is_deepest(tree: &Tree, text: &str, expected: Option<(&str, usize)>) -> Result<bool, Fail> {
-    Ok(match (tree.deepest(&oid(text)?), expected) {
-        (Some(deepest), Some((label, depth))) => {
-            deepest.place < tree.len()
-                && tree.node(deepest.place).label == label.as_bytes()
-                && deepest.depth == depth
-        }
-        (found, wanted) => found.is_none() && wanted.is_none(),
-    })
+/// Whether the deepest node of an identifier has this label, and these numbers follow it.
+fn is_deepest(tree: &Tree, text: &str, label: Option<&str>, numbers: &[u32]) -> Result<bool, Fail> {
+    let oid = oid(text)?;
+    let (found, rest) = tree.deepest(&oid);
+    Ok(is_labelled(tree, found, label) && rest == numbers)
+}
+
+/// Whether a node has this label, or there is none.
+fn is_labelled(tree: &Tree, found: Option<NodeId>, label: Option<&str>) -> bool {
+    match (found, label) {
+        (Some(id), Some(label)) => id < tree.len() && tree.node(id).label == label.as_bytes(),
+        (found, label) => found.is_none() && label.is_none(),
+    }
 }
 
 #[test]
@@ -251,8 +254,8 @@ fn the_first_node_stands_for_an_identifier(rt: HostRuntime) -> Result<(), Fail> 
 }
 
 fn assert_one_and_two(rt: &impl Abort, tree: &Tree) -> Result<(), Fail> {
-    for (text, expected) in &DEEPEST {
-        assert!(rt; is_deepest(tree, text, *expected)?, "{text}");
+    for (text, label, rest) in &DEEPEST {
+        assert!(rt; is_deepest(tree, text, *label, rest)?, "{text}");
     }
     assert!(rt; child(tree, "1", "one")? == find(tree, b"A", b"one"));
     assert!(rt; child(tree, "1", "two")?.is_none() && child(tree, "2", "one")?.is_none());

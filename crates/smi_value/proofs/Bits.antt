@@ -7,7 +7,7 @@ use Rattle.std.proofs.lemmas.Bool.{cond_both, eqb-true, eq-eqb}
 use Rattle.std.proofs.lemmas.List.Elements.{All-contains, All-filter, filter_passes}
 use Rattle.std.proofs.lemmas.List.FromFn.{get_or-range_with_len, length-range_with_len}
 use Rattle.smi_text.specs.declared.trees.tree.NamedNumber.{NamedNumber}
-use Rattle.smi_value.specs.{declared.letters.letters.Letters.Letters, Texts.hexadecimal_text}
+use Rattle.smi_value.specs.{declared.letters.Letters.Letters, Texts.hexadecimal_text}
 use Rattle.smi_value.specs.Pieces.{AreSetBits, IsBitSet, IsBitsText, bit_text, octet_bits, set_bit_text, type_word}
 
 -- ---- rising numbers

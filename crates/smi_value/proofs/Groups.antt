@@ -5,7 +5,7 @@ use Rattle.std.proofs.Common.{◌∙◌, ap, subst, arith, inl, inr, ◌⊎◌, 
 use Rattle.std.proofs.Common.{append_assoc, min}
 use Rattle.std.specs.Bool.{◌==◌}
 use Rattle.std.proofs.lemmas.List.{length-replicate, length-map, length-take, length-take-le, drop_all}
-use Rattle.snmp_io.specs.draft.Draft.{Written, Grows, Adds}
+use Rattle.snmp_io.specs.Draft.{Written, Grows, Adds}
 use Rattle.smi_value.specs.{declared.hint.spec.Spec.Spec, declared.hint.spec.OctetFormat.OctetFormat}
 use Rattle.smi_value.specs.hint.Spec.{IsFirstSpec, AreSpecs, IsOctetHint, LastTakesOctets, takes_octets, most_octets}
 use Rattle.smi_value.specs.hint.Pieces.{ArePieces, IsCut, IsGroup, AreGroups, ShowsOctets, piece_text, pieces_text, mark_before, last_mark, body_of}

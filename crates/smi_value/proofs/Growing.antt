@@ -2,7 +2,7 @@
 use Rattle.std.proofs.lemmas.Grind.{common_steps}
 use Rattle.std.proofs.Common.{◌≡◌, ℕ, List, [], ◌++◌, refl, sym, append_assoc, append-nil, Bool, true, ◌∷◌, length, arith}
 use Rattle.std.specs.Bool.{◌==◌}
-use Rattle.snmp_io.specs.draft.Draft.{Written, Grows, Adds}
+use Rattle.snmp_io.specs.Draft.{Written, Grows, Adds}
 
 pub grows_none : (old : Written) → Grows old [] old
 grows_none old = record { before = refl; added = λ text e. (text, e, sym (append-nil text)) }

@@ -1,13 +1,13 @@
 -- Strings that stand between quotes as they are.
 use Rattle.std.proofs.{lemmas.Grind.common_steps, lemmas.List.length-map}
 use Rattle.std.proofs.Common.{◌≡◌, ℕ, suc, ◌+◌, ◌%◌, ◌^◌, ◌≤◌, Bool, true, false, cond, ltb, eqb, List, [], ◌∷◌, length, get_or, map, replicate, w8}
-use Rattle.std.proofs.Common.{refl, sym, ap, ◌∙◌, arith, ◌||◌, not, inl, inr}
+use Rattle.std.proofs.Common.{refl, sym, ap, ◌∙◌, arith, ◌||◌, not}
 use Rattle.std.specs.{Bool.◌==◌, Bool.OnTrue, List.flat_map, List.list_all}
-use Rattle.std.proofs.lemmas.Bool.{and_parts, and_from, cases_lt, not-true, eqb-true, OnTrue_from}
+use Rattle.std.proofs.lemmas.Bool.{and_parts, and_from, not-true, eqb-true, OnTrue_from}
 use Rattle.std.proofs.lemmas.Simd.{length-chunk, bitmask_splat, tops_compared, zip2_splat_left, mask_l-mod, none_from_empty_mask}
 use lib.Lanes.{chunk, mask_l, zip2, top}
-use Rattle.smi_value.specs.{declared.letters.letters.StringForm.StringForm, Texts.is_printable, Texts.escaped}
-use Rattle.smi_value.specs.declared.letters.letters.StringForm.TheVariants as strings
+use Rattle.smi_value.specs.{declared.letters.StringForm.StringForm, Texts.is_printable, Texts.escaped}
+use Rattle.smi_value.specs.declared.letters.StringForm.TheVariants as strings
 use Rattle.smi_value.specs.Pieces.{ArePlain, IsShownPlain, is_plain, dotted}
 
 -- what the mask of a test of lanes is, with the octet that all are compared with on the left
@@ -52,10 +52,6 @@ plain_lanes octets at n room few low high quote =
     let all : (mask_equal octets at n 92 == 0) ≡ true → ArePlain octets at (at + n) = λ e.
     lanes_pass octets at n room few low high quote (eqb-true (mask_equal octets at n 92) 0 e) in
     OnTrue_from (mask_equal octets at n 92 == 0) (ArePlain octets at (at + n)) all
-
--- the places before one and those from it on
-pub plain_both : (octets : List ℕ) (to from end : ℕ) → from ≤ to → ArePlain octets 0 to → ArePlain octets from end → ArePlain octets 0 end
-plain_both octets to from end meet h k i low high = elim (cases_lt i to) [ inl less ↦ h i low less | inr more ↦ k i (omega arith) high ]
 
 shown_same : (octets : List ℕ) → ArePlain octets 0 (length octets)
     → (list_all is_printable octets ≡ true) × (flat_map (λ octet. escaped (dotted octet)) octets ≡ octets)

@@ -3,8 +3,8 @@ use Rattle.std.proofs.Common.{arith, ◌≡◌, ℕ, ◌+◌, ◌<◌, Bool, tru
 use Rattle.std.proofs.Common.{drop, length, get_or, if◌then◌else◌, suc, drop-cons, take-append-drop, ◌||◌}
 use Rattle.std.proofs.{lemmas.Grind.common_steps, lemmas.List.reverse-append, lemmas.List.take_more, lemmas.List.Folds.find-append}
 use Rattle.std.specs.{Bool.◌==◌, List.find}
-use Rattle.smi_value.specs.letters.Letters.{AreLetters, IsWith, is_one_of, last_of, has_letter, first_other, all_letters}
-use Rattle.smi_value.specs.declared.letters.letters.Letters.{Letters}
+use Rattle.smi_value.specs.Letters.{AreLetters, IsWith, is_one_of, last_of, has_letter, first_other, all_letters}
+use Rattle.smi_value.specs.declared.letters.Letters.{Letters}
 
 choice_of : {X : Type 0} (f : Option ℕ → X) (b : Bool) (x y : Option ℕ) → f (if b then x else y) ≡ (if b then f x else f y)
 choice_of f true x y = refl

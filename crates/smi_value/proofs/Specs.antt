@@ -3,11 +3,11 @@ use Rattle.std.proofs.lemmas.Grind.{common_steps}
 use Rattle.std.proofs.Common.{◌≡◌, ◌≢◌, ℕ, Bool, true, false, List, [], ◌∷◌, refl, inl, inr, subst, arith, ◌<◌, ◌≤◌, Bor}
 use Rattle.smi_value.specs.{hint.Number.StartsWithNumber, hint.Number.IsNumberHint, hint.Hint.IsOfNumbers, hint.Hint.IsOfOctets}
 use Rattle.smi_value.specs.{declared.hint.number.NumberForm.NumberForm, declared.hint.spec.OctetFormat.OctetFormat, declared.hint.spec.Spec.Spec}
-use Rattle.smi_value.specs.{hint.Form.IsFormOf, declared.hint.hint.HintForm.HintForm}
+use Rattle.smi_value.specs.{hint.Form.IsFormOf, declared.hint.HintForm.HintForm}
 use Rattle.smi_value.specs.declared.hint.number.NumberForm.TheVariants as form
 use Rattle.smi_value.specs.declared.hint.spec.OctetFormat.TheVariants as octet_format
 use Rattle.smi_value.specs.hint.Spec.{most_octets, after_star, at_letter, IsFirstSpec, AreSpecs, IsOctetHint, LastTakesOctets, takes_octets}
-use Rattle.smi_value.specs.declared.hint.hint.HintForm.TheVariants as kept
+use Rattle.smi_value.specs.declared.hint.HintForm.TheVariants as kept
 
 same_fields : (a b : Spec) → a.is_counted ≡ b.is_counted → a.length ≡ b.length → a.format ≡ b.format → a.separator ≡ b.separator
     → a.terminator ≡ b.terminator → a ≡ b

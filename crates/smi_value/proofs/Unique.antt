@@ -2,9 +2,9 @@
 use Rattle.std.proofs.lemmas.Grind.{common_steps}
 use Rattle.std.proofs.Common.{◌≡◌, ℕ, ℤ, ◌-◌, inl, inr, List, [], ◌∷◌, ◌++◌, drop, get_or, refl, sym, ◌∙◌, ap, subst, arith}
 use Rattle.smi_value.specs.{hint.Number.IsNumberHint, hint.Hint.ShowsNumber, hint.Hint.Shows, declared.hint.number.NumberForm.NumberForm}
-use Rattle.smi_value.specs.{declared.hint.hint.HintValue.HintValue, hint.Spec.AreSpecs, declared.hint.spec.Spec.Spec}
+use Rattle.smi_value.specs.{declared.hint.HintValue.HintValue, hint.Spec.AreSpecs, declared.hint.spec.Spec.Spec}
 use Rattle.smi_value.specs.declared.hint.number.NumberForm.TheVariants as form
-use Rattle.smi_value.specs.declared.hint.hint.HintValue.TheVariants as value
+use Rattle.smi_value.specs.declared.hint.HintValue.TheVariants as value
 use Rattle.smi_value.specs.hint.Pieces.{IsCut, AreGroups, ShowsOctets, pieces_text, times_of, body_of, specs_after}
 use Rattle.smi_value.proofs.Specs.{same_spec, same_rest}
 

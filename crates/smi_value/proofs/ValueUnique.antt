@@ -4,7 +4,7 @@ use Rattle.std.proofs.lemmas.Grind.{common_steps}
 use Rattle.std.specs.Prelude.{codes}
 use Rattle.snmp_wire.specs.ber.Value.{Datum, integer_value, octet_string, object_id, gauge32}
 use Rattle.smi_text.specs.declared.trees.tree.NamedNumber.{NamedNumber}
-use Rattle.smi_value.specs.{declared.letters.letters.Letters.Letters, Pieces.IsBitsText, Pieces.type_word, Syntax.ObjectSyntax}
+use Rattle.smi_value.specs.{declared.letters.Letters.Letters, Pieces.IsBitsText, Pieces.type_word, Syntax.ObjectSyntax}
 use Rattle.smi_value.specs.Value.{IsNumberText, IsTypedNumber, IsIntegerText, IsHintedString, IsStringText, IsOctetsText, ShowsValue}
 use Rattle.smi_value.proofs.{Bits.bits_once, Unique.same_shown, Unique.same_number}
 

@@ -2,5 +2,5 @@ pub mod Syntax
 pub mod Texts
 pub mod Pieces
 pub mod Value
-pub mod letters
+pub mod Letters
 pub mod hint

@@ -3,11 +3,11 @@ use Rattle.std.specs.Prelude.{◌≡◌, ◌<◌, ℕ, pos, ◌+◌, ◌-◌, �
 use Rattle.std.specs.Prelude.{◌==◌, ◌≤◌, ◌&&◌, ◌||◌, not, if◌then◌else◌, Contains, length}
 use Rattle.std.specs.Prelude.{slice_index, List, [], ◌∷◌, ◌++◌, Option, Some, None, codes, decimal}
 use Rattle.std.specs.List.{flat_map, list_all}
-use Rattle.smi_value.specs.{declared.letters.letters.Letters.Letters, Syntax.name_of_number}
-use Rattle.smi_value.specs.declared.letters.letters.TypeForm.{TypeForm}
-use Rattle.smi_value.specs.declared.letters.letters.TypeForm.TheVariants as types
-use Rattle.smi_value.specs.declared.letters.letters.StringForm.{StringForm}
-use Rattle.smi_value.specs.declared.letters.letters.StringForm.TheVariants as strings
+use Rattle.smi_value.specs.{declared.letters.Letters.Letters, Syntax.name_of_number}
+use Rattle.smi_value.specs.declared.letters.TypeForm.{TypeForm}
+use Rattle.smi_value.specs.declared.letters.TypeForm.TheVariants as types
+use Rattle.smi_value.specs.declared.letters.StringForm.{StringForm}
+use Rattle.smi_value.specs.declared.letters.StringForm.TheVariants as strings
 use Rattle.smi_text.specs.declared.trees.tree.NamedNumber.{NamedNumber}
 use Rattle.smi_value.specs.Texts.{clock_text, days_text, escaped, hexadecimal_text, is_printable}
 

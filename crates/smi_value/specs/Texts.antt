@@ -2,7 +2,7 @@
 use Rattle.std.specs.Prelude.{ℕ, ◌+◌, ◌/◌, ◌%◌, Bool, ◌&&◌, ◌||◌, ◌==◌, nat_le, nat_lt}
 use Rattle.std.specs.Prelude.{if◌then◌else◌, List, [], ◌∷◌, ◌++◌, codes, decimal}
 use Rattle.std.specs.List.{flat_map, enumerate_from}
-use Rattle.snmp_io.specs.draft.Draft.{hexadecimal_octet}
+use Rattle.snmp_io.specs.Draft.{hexadecimal_octet}
 
 -- ---- octets
 

@@ -1,5 +1,123 @@
 //! Letters that say how names and values are shown, as the tools take them after `-O`.
+ghost use Rattle.std.specs.Prelude.{◌≡◌, ◌↔◌, [], None, Some, true, false, IsOk, IfOk, IfErr};
+ghost use Rattle.std.specs.Prelude.{IfSome, IfNone};
 
-mod letters;
+/// How a name is shown.
+#[derive(Clone, Copy, Debug, PartialEq, Eq)]
+pub enum NameForm {
+    /// `n`: the numbers, each with a dot before it.
+    Numeric,
+    /// `f`: the label of each number that has a node, otherwise the number, each with a dot before
+    /// it.
+    Full,
+    /// `s`: the label of the deepest node, then the rest.
+    Label,
+    /// `S`: the module and the label of the deepest node, then the rest. The default.
+    ModuleLabel,
+}
 
-pub use letters::{Letters, NameForm, StringForm, TypeForm};
+/// Whether the word of its type stands before a value, such as `INTEGER: `.
+#[derive(Clone, Copy, Debug, PartialEq, Eq)]
+pub enum TypeForm {
+    /// The word is shown. The default.
+    Typed,
+    /// `Q`: the word is left out.
+    Untyped,
+    /// `q`: the word is left out, and in a line a blank stands between name and value.
+    Quick,
+}
+
+/// How a string without a display hint is shown.
+#[derive(Clone, Copy, Debug, PartialEq, Eq)]
+pub enum StringForm {
+    /// As text if each octet is printable, otherwise in hexadecimal. The default.
+    Plain,
+    /// `x`: in hexadecimal.
+    Hexadecimal,
+    /// `a`: as text, with a dot for each octet that isn't printable.
+    Text,
+}
+
+/// How names and values are shown: what the letters of `-O` say.
+#[derive(Clone, Copy, Debug, PartialEq, Eq)]
+pub struct Letters {
+    /// `n`, `f`, `s` and `S`; the last one given counts.
+    pub names: NameForm,
+    /// `q` and `Q`; the last one given counts.
+    pub types: TypeForm,
+    /// `x` and `a`; the last one given counts.
+    pub strings: StringForm,
+    /// `v`: a line has only the value.
+    pub value_alone: bool,
+    /// `e`: the number of an enumeration stands in place of its name.
+    pub numeric_enumerations: bool,
+    /// `t`: TimeTicks are shown as their number.
+    pub raw_ticks: bool,
+    /// `b`: the index in a name is shown as numbers.
+    pub numeric_index: bool,
+    /// `U`: the units of an object don't follow its numbers.
+    pub no_units: bool,
+}
+
+impl Letters {
+    ghost use Rattle.smi_value.specs.Letters.{AreLetters, IsWith, first_other, is_one_of};
+    ghost use Rattle.smi_value.specs.Letters.{all_letters};
+
+    /// What holds where no letters are given.
+    pub fn new() -> Letters
+        ensures { AreLetters [] result }
+    {
+        Letters {
+            names: NameForm::ModuleLabel,
+            types: TypeForm::Typed,
+            strings: StringForm::Plain,
+            value_alone: false,
+            numeric_enumerations: false,
+            raw_ticks: false,
+            numeric_index: false,
+            no_units: false,
+        }
+    }
+
+    /// Reads letters, in any order. The error is the first octet that is not one of them.
+    pub fn parse(text: &[u8]) -> Result<Letters, u8>
+        ensures ok { IfOk result (AreLetters text.now) }
+        ensures ok_where_all_are_letters { IsOk result ↔ (first_other text.now ≡ None) }
+        ensures first_other { IfErr result (λ octet. first_other text.now ≡ Some octet) }
+    {
+        let mut letters = Letters::new();
+        'letters: for octet in text {
+            match letters.with(*octet) {
+                Some(next) => letters = next,
+                None => return Err(*octet),
+            }
+        }
+        Ok(letters)
+    }
+
+    /// What these letters and one more say, or None if the octet is not one of the letters.
+    fn with(self, octet: u8) -> Option<Letters>
+        ensures with { IfSome result (IsWith self octet) }
+        ensures letter { IfSome result (λ _. is_one_of all_letters octet ≡ true) }
+        ensures none { IfNone result (is_one_of all_letters octet ≡ false) }
+    {
+        let mut next = self;
+        match octet {
+            b'n' => next.names = NameForm::Numeric,
+            b'f' => next.names = NameForm::Full,
+            b's' => next.names = NameForm::Label,
+            b'S' => next.names = NameForm::ModuleLabel,
+            b'q' => next.types = TypeForm::Quick,
+            b'Q' => next.types = TypeForm::Untyped,
+            b'x' => next.strings = StringForm::Hexadecimal,
+            b'a' => next.strings = StringForm::Text,
+            b'v' => next.value_alone = true,
+            b'e' => next.numeric_enumerations = true,
+            b't' => next.raw_ticks = true,
+            b'b' => next.numeric_index = true,
+            b'U' => next.no_units = true,
+            _ => return None,
+        }
+        Some(next)
+    }
+}

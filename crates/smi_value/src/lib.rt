@@ -21,7 +21,11 @@ mod syntax;
 mod value;
 
 pub use base::ValueBase;
-pub use hint::{Hint, HintValue, one_text, write_hint};
+pub use hint::{Hint, HintValue, write_hint};
 pub use letters::{Letters, NameForm, StringForm, TypeForm};
 pub use syntax::ValueSyntax;
-pub use value::{append_identifier_word, append_value, one_value_by_names};
+pub use value::{append_identifier_word, append_value};
+
+// For proofs alone.
+pub use hint::one_text;
+pub use value::one_value_by_names;

@@ -1,15 +1,16 @@
 //! The pieces of the texts of values.
-ghost use Rattle.std.specs.Prelude.{◌≡◌, ◌<◌, ◌+◌, ◌*◌, ◌∷◌, ◌++◌, [], List, ℕ, codes, decimal};
+ghost use Rattle.std.specs.Prelude.{◌≡◌, ◌<◌, ◌+◌, ◌*◌, ◌++◌, List, ℕ, codes, decimal};
 ghost use Rattle.std.specs.Prelude.{if◌then◌else◌, ◌/◌, ◌^◌};
 ghost use Rattle.std.specs.{Fmt.signed_decimal, Option.option_copied};
 ghost use Rattle.std.specs.List.{flat_map, list_all, enumerate_from};
-ghost use Rattle.snmp_io.specs.draft.Draft.{Adds};
+ghost use Rattle.snmp_io.specs.Draft.{Adds};
 ghost use Rattle.smi_value.specs.Pieces.{is_typed, type_word, units_text, dotted, quoted, is_text};
 ghost use Rattle.smi_value.specs.Pieces.{string_text, ticks_text, named_text, bit_name, octet_bits};
 ghost use Rattle.smi_value.specs.Pieces.{IsBitsText, bit_text, set_bit_text};
 ghost use Rattle.smi_value.specs.Texts.{is_printable, escaped, dumped, hexadecimal_text};
 ghost use Rattle.smi_value.specs.Texts.{address_text, two_digits, days_text, clock_text};
 
+use crate::hint::append_marked_decimal;
 use crate::letters::{Letters, StringForm, TypeForm};
 use crate::plain::is_shown_plain;
 use crate::syntax::name_of;
@@ -84,7 +85,7 @@ fn is_text(form: StringForm, octets: &[u8]) -> bool
 fn are_printable(octets: &[u8]) -> bool
     ensures { result ≡ list_all is_printable octets.now }
 {
-    octets.iter().all(|octet| 32 <= *octet && *octet <= 126)
+    octets.iter().all(|octet| is_printable(*octet))
 }
 
 /// Whether an octet is a character of printable ASCII.
@@ -161,17 +162,9 @@ pub(crate) fn append_address(draft: &mut Draft, octets: &[u8; 4])
 {
     let [first, second, third, fourth] = *octets;
     draft.number(u64::from(first));
-    append_dotted(draft, second);
-    append_dotted(draft, third);
-    append_dotted(draft, fourth);
-}
-
-/// Appends a dot and a number.
-fn append_dotted(draft: &mut Draft, n: u8)
-    ensures { Adds draft.old (46 ∷ decimal n) draft.new }
-{
-    draft.octet(b'.');
-    draft.number(u64::from(n));
+    append_marked_decimal(draft, b'.', second);
+    append_marked_decimal(draft, b'.', third);
+    append_marked_decimal(draft, b'.', fourth);
 }
 
 /// Appends TimeTicks: the number and the time, the time alone or the number alone.

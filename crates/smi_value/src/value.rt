@@ -1,9 +1,9 @@
 //! The text of a value, or of an exception in its place.
 ghost use Rattle.std.specs.Prelude.{◌≡◌, ◌++◌, List, ℕ, Option, Some, None, pos, codes, true};
 ghost use Rattle.std.specs.Option.{option_copied};
-ghost use Rattle.snmp_io.specs.draft.Draft.{Adds};
+ghost use Rattle.snmp_io.specs.Draft.{Adds};
 ghost use Rattle.snmp_wire.specs.ber.Value.{Datum, datum, integer_value, octet_string};
-ghost use Rattle.smi_value.specs.{declared.letters.letters.Letters.Letters, Pieces.type_word};
+ghost use Rattle.smi_value.specs.{declared.letters.Letters.Letters, Pieces.type_word};
 ghost use Rattle.smi_value.specs.Syntax.{ObjectSyntax, syntax_at, name_of_number};
 ghost use Rattle.smi_value.specs.Value.{IsNumberText, IsTypedNumber, IsIntegerText, IsStringText};
 ghost use Rattle.smi_value.specs.Value.{IsOctetsText, ShowsValue, IsNoIdentifier, counter_text};

@@ -1,10 +1,11 @@
 //! The program `snmp`: it hands the words, files, network and outputs of the machine to the tools.
 #![tactic(auto)]
 
-use snmp_io::{MachineFiles, MachineOutput, Output, write_all};
+use snmp_io::{KeyedFiles, MachineFiles, MachineOutput, Output, write_all};
 use snmp_net::MachineLinks;
 use snmp_tools::tool;
 use std::env::Env;
+use std::hash::RandomState;
 use std::io::ErrorKind;
 use std::net::Net;
 use std::process::ExitCode;
@@ -30,7 +31,10 @@ where
 {
     let words: Vec<String> = env::args(rt)?.collect(rt.alloc())?;
     let texts: Vec<&str> = words.iter().map(|word| word.as_str()).collect(rt.alloc())?;
-    let files = MachineFiles { rt };
+    let files = KeyedFiles {
+        files: MachineFiles { rt },
+        key: RandomState::new(rt).ok(),
+    };
     let mut links = MachineLinks::new(rt);
     Ok(tool(rt.alloc(), texts.as_slice(), &files, &mut links, out, err))
 }

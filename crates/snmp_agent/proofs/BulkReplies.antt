@@ -5,7 +5,7 @@ use Rattle.snmp_wire.specs.declared.kind.Kind.TheVariants as kind
 use Rattle.snmp_wire.specs.{Message.VarBind, Message.Message, Canon.canon_bindings, Sizes.MessageSizes}
 use Rattle.snmp_agent.specs.{table.Table.MibView, private.Answering.Held, private.Answering.IsRoom, private.Answering.whole_size}
 use Rattle.snmp_agent.specs.Reply.{Fits, IsBulk, IsResponse, bulk, no_error, response}
-use Rattle.snmp_agent.proofs.{Lists.inside, Requests.response_size, Lengths.within, Lengths.beyond, ReplyBindings.longer_by}
+use Rattle.snmp_agent.proofs.{Lists.inside, Requests.response_size, Lengths.within, Lengths.beyond, Fronts.longer_by}
 use Rattle.snmp_agent.proofs.Fronts.{HasNoRoom, HoldsFront, some_octets}
 
 no_octets : (bindings : List VarBind) → length (canon_bindings bindings) ≡ 0 → bindings ≡ []

@@ -1,7 +1,7 @@
 -- What the bindings of a reply hold.
-use Rattle.std.proofs.{lemmas.Grind.common_steps, lemmas.List.append-nil, lemmas.Bool.Decides.nat_tests, lemmas.Bool.cases_lt}
+use Rattle.std.proofs.{lemmas.Grind.common_steps, lemmas.Grind.flat_map-append, lemmas.List.append-nil, lemmas.Bool.Decides.nat_tests, lemmas.Bool.cases_lt}
 use Rattle.std.proofs.Common.{◌≡◌, ◌≢◌, ℕ, ◌+◌, ◌-◌, ◌≤◌, ◌<◌, List, [], ◌∷◌, ◌++◌, length, refl, ⊎_elim, sym, ap, ◌∙◌, arith, length-append}
-use Rattle.std.proofs.Common.{append_assoc}
+use Rattle.std.proofs.Common.{append_assoc, ◌⊎◌, take}
 use Rattle.snmp_wire.specs.{Message.VarBind, Canon.canon_binding, Canon.canon_bindings, Canon.canon_element, Canon.canon_header}
 use Rattle.snmp_agent.specs.declared.room.ReplyBindings.{ReplyBindings}
 use Rattle.snmp_agent.specs.private.Answering.{Held, add, fill, held}
@@ -102,3 +102,17 @@ front_of room h (p ∷ more) is = ⊎_elim
 pub all_front : (room : ℕ) (all : List VarBind) (fresh reply : ReplyBindings) (out new : List ℕ) → fresh.total ≡ 0 → fresh.left ≡ room
     → held reply new ≡ fill (held fresh out) all → HoldsFront room [] all (held reply new)
 all_front room all fresh reply out new empty left same = grind (arith, common_steps, front_of)
+
+-- ---- whether a message with them keeps to its limit
+
+-- how many octets there are with one more binding, and others behind it
+pub longer_by : (front rest : List VarBind) (p : VarBind)
+    → length (canon_bindings (front ++ p ∷ rest)) ≡ length (canon_bindings front) + (length (canon_binding p) + length (canon_bindings rest))
+unfolding canon_bindings
+longer_by front rest p = grind (arith, common_steps, flat_map-append, length-append)
+
+-- of bindings that had room for as many octets as the limit allows, all are there, or they pass it and no room is left
+pub all_or_full : (limit : ℕ) (reply : ReplyBindings) (out : List ℕ) (given : List VarBind) → length (take reply.total out) ≡ reply.total
+    → HoldsFront limit [] given (held reply out)
+    → (take (limit - reply.left) out ≡ canon_bindings given) ⊎ ((reply.left ≡ 0) × (limit < length (canon_bindings given)))
+all_or_full limit reply out given size front = grind (arith, common_steps, append-nil, longer_by)

@@ -8,7 +8,6 @@ pub mod Halving
 pub mod Lengths
 pub mod Lists
 pub mod Requests
-pub mod ReplyBindings
 pub mod Rounds
 pub mod Fronts
 pub mod BulkReplies
@@ -32,5 +31,4 @@ pub mod Partition
 pub mod Rising
 pub mod Statements
 pub mod Following
-pub mod TextLines
 pub mod Unique

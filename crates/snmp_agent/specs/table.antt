@@ -4,7 +4,6 @@ pub mod Format
 pub mod Listing
 pub mod Pages
 pub mod Places
-pub mod Put
 pub mod Stated
 pub mod Table
 pub mod Text

@@ -1,15 +1,68 @@
-//! Laws of agents. Each is a function that does nothing; a proof that calls it knows what its
-//! contract states.
-ghost use Rattle.std.specs.Prelude.{◌≡◌, ◌≤◌, ℕ, List};
+//! Laws of tables and of agents. Each is a function that does nothing; a proof that calls it knows
+//! what its contract states.
+ghost use Rattle.std.specs.Prelude.{◌≡◌, ◌≢◌, ◌≤◌, ◌↔◌, ℕ, List};
 ghost use Rattle.snmp_wire.specs.Shortest.{IsShortestEncoding};
 ghost use Rattle.snmp_agent.specs.Reply.{Agent, IsReply, IsDropped};
-ghost use Rattle.snmp_agent.specs.table.Table.{IsMibView};
+ghost use Rattle.snmp_agent.specs.table.Exact.{HasOne};
+ghost use Rattle.snmp_agent.specs.table.Format.{IsMarked, Names, first_format};
+ghost use Rattle.snmp_agent.specs.table.Stated.{AreTableBy, IsTableOf, IsFirstFault, IsTableIn};
+ghost use Rattle.snmp_agent.specs.table.Stated.{IsFirstFaultIn};
+ghost use Rattle.snmp_agent.specs.table.Table.{MibView, IsGet, IsMibView, IsNext, IsNextAfter};
 
 use crate::config::Why;
-use crate::table::one_answer;
+use crate::table::TableError;
+use snmp_oid::{names, order};
 use snmp_wire::{
     element_sizes, message_sizes, one_shortest_encoding, one_spelling, spelt_is_of_type,
 };
+
+/// Good lines state a table, which is a MIB view.
+pub fn table_of_lines()
+    ensures { (names : Names) (lines : List (List ℕ)) → AreTableBy names lines
+        → (view : MibView) × IsTableOf names lines view × IsMibView view }
+{
+    names();
+}
+
+/// Lines state one table at most.
+pub fn one_table()
+    ensures { (names : Names) (lines : List (List ℕ)) (v w : MibView) → IsTableOf names lines v
+        → IsTableOf names lines w → v ≡ w }
+{}
+
+/// Lines that state a table have no fault: reading them fails only where memory runs out.
+pub fn no_fault()
+    ensures { (names : Names) (lines : List (List ℕ)) (view : MibView) (fault : TableError)
+        → IsTableOf names lines view → IsFirstFault names lines fault → fault ≡ TableError.Memory }
+{}
+
+/// Lines have one first fault at most: the first faulty line is one, and what is wrong with it.
+pub fn one_fault()
+    ensures { (names : Names) (lines : List (List ℕ)) (fault other : TableError)
+        → IsFirstFault names lines fault → IsFirstFault names lines other
+        → fault ≢ TableError.Memory → other ≢ TableError.Memory → fault ≡ other }
+{}
+
+/// Lines without the mark of the second format state the same table whatever the names, and have
+/// the same first fault: those of the first format.
+pub fn unmarked_table()
+    ensures table { (names : Names) (lines : List (List ℕ)) (view : MibView)
+        → (IsMarked lines → ⊥) → (IsTableOf names lines view ↔ IsTableIn first_format lines view) }
+    ensures fault { (names : Names) (lines : List (List ℕ)) (fault : TableError)
+        → (IsMarked lines → ⊥)
+        → (IsFirstFault names lines fault ↔ IsFirstFaultIn first_format lines fault) }
+{}
+
+/// Each name has just one value in a reply to a Get, one binding in a reply to a GetNext, and one
+/// in each round of a GetBulk (RFC 3416, sections 4.2.1 to 4.2.3).
+pub fn one_answer()
+    ensures get { (view : MibView) (o : List ℕ) → HasOne (IsGet view o) }
+    ensures get_next { (view : MibView) (o : List ℕ) → HasOne (IsNext view o) }
+    ensures get_bulk { (view : MibView) (rounds : ℕ) (o : List ℕ)
+        → HasOne (IsNextAfter view rounds o) }
+{
+    order();
+}
 
 /// An agent has at most one reply to a datagram, and none to one that it drops.
 pub fn one_reply()

@@ -34,12 +34,17 @@ mod room;
 mod server;
 mod table;
 
-pub use agent::{answer, answer_near};
+pub use agent::answer_near;
 pub use config::{Config, Outcome, Why};
 pub use endpoint::{Endpoint, EndpointFault};
-pub use laws::{one_reply, shortest_reply};
 pub use server::{Served, serve, serve_at};
-pub use table::{
-    Hint, NumericNames, PutError, Resolver, Successors, Table, TableError, no_fault, one_answer,
-    one_fault, one_table, table_of_lines, unmarked_table,
+pub use table::{Hint, NumericNames, Resolver, Table, TableError};
+
+// The program `snmp` needs none of these: the reply to a single request, the calls of a table's
+// second `impl`, and laws.
+pub use agent::answer;
+pub use laws::{
+    no_fault, one_answer, one_fault, one_reply, one_table, shortest_reply, table_of_lines,
+    unmarked_table,
 };
+pub use table::{PutError, Successors};

@@ -1,7 +1,7 @@
 -- Texts with quotes, octet by octet.
 use Rattle.std.proofs.Common.{◌≡◌, ◌+◌, ◌<◌, ◌∙◌, ℕ, List, [], ◌∷◌, ◌++◌, length, take, get_or, Option, None, refl, sym, ap, subst}
 use Rattle.std.proofs.lemmas.List.{take_more}
-use Rattle.snmp_io.specs.{QuoteLaws.quote_after, QuoteLaws.HasNoneAfter, QuoteLaws.none_later, Quotes.open_after}
+use Rattle.snmp_io.specs.{QuoteLaws.quote_after, QuoteLaws.quote_after_both, QuoteLaws.HasNoneAfter, QuoteLaws.none_later, Quotes.open_after}
 
 none_in_nothing : (stop : ℕ) (before after : List ℕ) → [] ≡ before ++ stop ∷ after → ⊥
 none_in_nothing stop [] after e = let wrong : ⊥ = cc in wrong
@@ -20,10 +20,6 @@ none_more stop quote (z ∷ front) x h not_here (y ∷ before) after e now =
     let P : ℕ → Type 0 = λ w. quote_after (open_after quote w) before ≡ None in
     none_more stop (open_after quote z) front x (none_later stop quote z front h) not_here before after more (subst P same now)
 
-quote_more : (quote : Option ℕ) (front : List ℕ) (x : ℕ) → quote_after quote (front ++ x ∷ []) ≡ open_after (quote_after quote front) x
-quote_more quote [] x = refl
-quote_more quote (y ∷ front) x = quote_more (open_after quote y) front x
-
 -- no such octet stands outside quotes in the octets so far, after which this quote is open
 pub record IsSoFar (stop : ℕ) (text : List ℕ) (at : ℕ) (quote : Option ℕ) : Type 0 where
   pub now : quote ≡ quote_after None (take at text)
@@ -39,6 +35,6 @@ read_more stop text at quote low not_here h =
     let longer = take_more text at 0 low in
     let P : List ℕ → Type 0 = λ t. HasNoneAfter stop None t in
     record {
-      now = ap (λ (q : Option ℕ). open_after q x) h.now ∙ sym (quote_more None (take at text) x) ∙ ap (quote_after None) (sym longer);
+      now = ap (λ (q : Option ℕ). open_after q x) h.now ∙ sym (quote_after_both None (take at text) (x ∷ [])) ∙ ap (quote_after None) (sym longer);
       none = subst P (sym longer) (none_more stop None (take at text) x h.none (λ now_open same. not_here (h.now ∙ now_open) same));
     }

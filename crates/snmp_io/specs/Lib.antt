@@ -1,4 +1,5 @@
 pub mod Count
+pub mod Draft
 pub mod Files
 pub mod Machine
 pub mod Memory
@@ -7,4 +8,3 @@ pub mod QuoteLaws
 pub mod Quotes
 pub mod Steps
 pub mod Streams
-pub mod draft

@@ -14,7 +14,7 @@ abbrev pub quote_after : Option ℕ → List ℕ → Option ℕ
 quote_after quote [] = quote
 quote_after quote (octet ∷ more) = quote_after (open_after quote octet) more
 
-quote_after_both : (quote : Option ℕ) (front back : List ℕ)
+pub quote_after_both : (quote : Option ℕ) (front back : List ℕ)
     → quote_after quote (front ++ back) ≡ quote_after (quote_after quote front) back
 quote_after_both quote [] back = refl
 quote_after_both quote (octet ∷ front) back = quote_after_both (open_after quote octet) front back

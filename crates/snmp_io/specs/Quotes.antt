@@ -4,6 +4,7 @@ use Rattle.std.specs.Prelude.{◌≡◌, ◌≢◌, ℕ, Bool, true, false, ◌|
 use Rattle.std.specs.Prelude.{All, List, [], ◌∷◌, ◌++◌, Option, Some, None}
 use Rattle.std.specs.List.{concat}
 
+-- whether an octet opens a quote: `"` or `'`
 abbrev pub is_quote : ℕ → Bool
 is_quote octet = octet == 34 || octet == 39
 

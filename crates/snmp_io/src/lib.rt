@@ -27,7 +27,7 @@ mod output;
 mod quotes;
 
 pub use draft::Draft;
-pub use files::{FileFault, Files};
+pub use files::{FileFault, Files, KeyedFiles};
 pub use machine::{MachineFiles, MachineOutput, ReadError, read_whole};
 pub use output::{Output, OutputFault, write_all};
-pub use quotes::{open_after, split_unquoted, unquoted_front};
+pub use quotes::{is_quote, open_after, split_unquoted, unquoted_front};

@@ -1,6 +1,6 @@
 //! The machine's own outputs and files, of whose octets nothing is known.
-ghost use Rattle.std.specs.Prelude.{◌≡◌, ◌<◌, ◌≤◌, ◌↔◌, ℕ, None, IfOk, IfSome, IsErrOf, refl};
-ghost use Rattle.std.specs.Prelude.{length, vec_len};
+ghost use Rattle.std.specs.Prelude.{◌≡◌, ◌<◌, ◌≤◌, ◌↔◌, ℕ, None, IfOk, IfSome, IsErrOf};
+ghost use Rattle.std.specs.Prelude.{length, refl, vec_len};
 ghost use Rattle.snmp_io.specs.Machine.{IsWantOfMemory, most_octets};
 
 use crate::files::{FileFault, Files};
@@ -78,7 +78,7 @@ fn write_some<W: Write>(to: &mut W, piece: &[u8]) -> Option<usize>
     None
 }
 
-/// The files of the machine.
+/// The files of the machine. They have no key by which names are hashed: `KeyedFiles` adds one.
 #[derive(Drop)]
 pub struct MachineFiles<R> {
     /// What opens them.

@@ -22,7 +22,8 @@ pub fn split_unquoted(text: &[u8], stop: u8) -> Option<(&[u8], &[u8])>
 }
 
 /// Whether the octet opens a quote.
-fn is_quote(octet: u8) -> bool
+#[inline]
+pub fn is_quote(octet: u8) -> bool
     ensures { result ≡ is_quote octet }
 {
     octet == b'"' || octet == b'\''

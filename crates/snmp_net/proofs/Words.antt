@@ -4,7 +4,7 @@ use Rattle.std.proofs.Common.{None, IfSome, IfNone, MatchOption, sym, ap, ◌∙
 use Rattle.std.specs.Str.Pattern.{FindsTextPrefix, StripsPrefix}
 use Rattle.std.proofs.{lemmas.Bool.Decides.nat_tests, lemmas.List.get_or_default, lemmas.List.Elements.Contains-append_right}
 use Rattle.std.proofs.lemmas.Str.Pattern.{IsSplitOnceResult, split_after}
-use Rattle.snmp_net.specs.Address.{Address, IsAgent, IsHost, IsHostAndPort, IsTarget, LacksPrefix, colon, table, udp}
+use Rattle.snmp_net.specs.Address.{Address, IsAgent, IsHost, IsHostAndPort, IsPortOfHost, IsTarget, LacksPrefix, colon, table, udp}
 use Rattle.snmp_net.specs.declared.address.UdpAddress.{UdpAddress}
 
 -- where no colon is contained, none stands at any place
@@ -31,19 +31,31 @@ host_test text false some finds = (
 
 -- a text is split at the colon behind its host
 pub parted : (word : List ℕ) (r : Option (Bor (List ℕ) × Bor (List ℕ))) → IsSplitOnceResult 58 word r
-    → (host : List ℕ) (port : ℕ) (at : IsHostAndPort word host port)
+    → (host : List ℕ) (port : ℕ) (at : IsPortOfHost word host port)
     → MatchOption r ⊥ (λ x. (x.0.now ≡ host) × (x.1.now ≡ at.digits))
 parted word r split host port at = split_after 58 word host at.digits r split (omega arith) at.parts (clear host at.host_stated.no_colon)
 
+-- a port of a host is where requests are received only where the word has no prefix
+pub place_only : (word : List ℕ) (r : Option UdpAddress)
+    → IfSome r (λ at. (host : List ℕ) (port : ℕ) → IsPortOfHost word host port → (host ≡ at.host.now) × (port ≡ at.port))
+    → IfSome r (λ at. (host : List ℕ) (port : ℕ) → IsHostAndPort word host port → (host ≡ at.host.now) × (port ≡ at.port))
+place_only word None sole = tt
+place_only word (Some at) sole = λ host port h. sole host port h.2
+
+pub place_none : (word : List ℕ) (r : Option UdpAddress) → IfNone r ((host : List ℕ) (port : ℕ) → IsPortOfHost word host port → ⊥)
+    → IfNone r ((host : List ℕ) (port : ℕ) → IsHostAndPort word host port → ⊥)
+place_none word (Some at) fails = tt
+place_none word None fails = λ host port h. fails host port h.2
+
 -- what is no host alone is a target by its port
 pub target_only : (word : List ℕ) (r : Option UdpAddress) → ¬ (IsHost word)
-    → IfSome r (λ at. (host : List ℕ) (port : ℕ) → IsHostAndPort word host port → (host ≡ at.host.now) × (port ≡ at.port))
+    → IfSome r (λ at. (host : List ℕ) (port : ℕ) → IsPortOfHost word host port → (host ≡ at.host.now) × (port ≡ at.port))
     → IfSome r (λ at. (host : List ℕ) (port : ℕ) → IsTarget word host port → (host ≡ at.host.now) × (port ≡ at.port))
 target_only word None lacking sole = tt
 target_only word (Some at) lacking sole = λ host port t. elim t [ inl h ↦ absurd (lacking h.0) | inr p ↦ sole host port p ]
 
 pub target_none : (word : List ℕ) (r : Option UdpAddress) → ¬ (IsHost word)
-    → IfNone r ((host : List ℕ) (port : ℕ) → IsHostAndPort word host port → ⊥)
+    → IfNone r ((host : List ℕ) (port : ℕ) → IsPortOfHost word host port → ⊥)
     → IfNone r ((host : List ℕ) (port : ℕ) → IsTarget word host port → ⊥)
 target_none word (Some at) lacking fails = tt
 target_none word None lacking fails = λ host port t. elim t [ inl h ↦ absurd (lacking h.0) | inr p ↦ fails host port p ]

@@ -25,21 +25,28 @@ pub record IsPort (digits : List ℕ) (port : ℕ) : Type 0 where
   pub from : 1 ≤ port
   pub to : port ≤ 65535
 
--- a host and its port, with a colon between them
-pub record IsHostAndPort (word host : List ℕ) (port : ℕ) : Type 0 where
+-- a port of a host: the host, a colon and the port
+pub record IsPortOfHost (word host : List ℕ) (port : ℕ) : Type 0 where
   pub digits : List ℕ
   pub parts : word ≡ host ++ colon ∷ digits
   pub host_stated : IsHost host
   pub port_stated : IsPort digits port
 
--- a host alone, where the port is that of SNMP (RFC 3417, section 3.2), or a host and its port
+-- only a host, at the port of SNMP (RFC 3417, section 3.2), or a host and its port
 abbrev pub IsTarget : (word host : List ℕ) → (port : ℕ) → Type 0
 IsTarget word host port =
-    (IsHost word × (host ≡ word) × (port ≡ 161)) ⊎ IsHostAndPort word host port
+    (IsHost word × (host ≡ word) × (port ≡ 161)) ⊎ IsPortOfHost word host port
 
 -- the word doesn't begin with the prefix
 abbrev pub LacksPrefix : (word prefix : List ℕ) → Type 0
 LacksPrefix word prefix = (rest : List ℕ) → word ≢ prefix ++ rest
+
+-- The word states where requests are received: a host and its port. One that begins with `table:`
+-- or `udp:`, the prefixes of an agent's word, states none.
+abbrev pub IsHostAndPort : (word host : List ℕ) → (port : ℕ) → Type 0
+IsHostAndPort word host port =
+    LacksPrefix word (codes "table:") × LacksPrefix word (codes "udp:")
+    × IsPortOfHost word host port
 
 -- The word states where an agent is. One that begins with `table:` or `udp:` is read as that; a
 -- path isn't empty.

@@ -1,3 +1,2 @@
 pub mod Address
 pub mod Memory
-pub mod private

@@ -1,6 +1,6 @@
 //! The words that say where an agent is reached, as `table:FILE`, `router`, `udp:10.0.0.1:1161`.
 ghost use Rattle.std.specs.Prelude.{◌≡◌, ◌≢◌, ℕ, List, [], Contains, IsTrue, IfSome, IfNone, ◌↔◌};
-ghost use Rattle.snmp_net.specs.Address.{IsHost, IsHostAndPort, IsPort, IsTarget};
+ghost use Rattle.snmp_net.specs.Address.{IsHost, IsHostAndPort, IsPort, IsPortOfHost, IsTarget};
 
 /// The UDP port at which agents listen (RFC 3417, section 3.2).
 const SNMP_PORT: u16 = 161;
@@ -16,16 +16,31 @@ pub struct UdpAddress<'a> {
 
 impl<'a> UdpAddress<'a> {
     ghost use Rattle.std.specs.Prelude.{◌≡◌, ℕ, List, IfSome, IfNone};
-    ghost use Rattle.snmp_net.specs.Address.{IsHostAndPort, IsTarget};
+    ghost use Rattle.snmp_net.specs.Address.{IsHostAndPort, IsPortOfHost, IsTarget};
 
-    /// Reads `HOST:PORT`, as an agent is told where to listen: a host that isn't empty, and a port
-    /// from 1 to 65535.
+    /// Reads `HOST:PORT`, the word for where an agent receives requests: a host that isn't empty,
+    /// and a port from 1 to 65535. A word that begins with `table:` or `udp:` is none, since an
+    /// agent is named so.
     pub fn read(word: &'a str) -> Option<UdpAddress<'a>>
         ensures stated { IfSome result (λ at. IsHostAndPort word.now at.host.now at.port) }
         ensures only { IfSome result (λ at. (host : List ℕ) (port : ℕ)
             → IsHostAndPort word.now host port → (host ≡ at.host.now) × (port ≡ at.port)) }
         ensures none { IfNone result ((host : List ℕ) (port : ℕ)
             → IsHostAndPort word.now host port → ⊥) }
+    {
+        if word.starts_with("table:") || word.starts_with("udp:") {
+            return None;
+        }
+        UdpAddress::port_of_host(word)
+    }
+
+    /// Reads `HOST:PORT`, where the host may be named `table` or `udp`.
+    fn port_of_host(word: &'a str) -> Option<UdpAddress<'a>>
+        ensures stated { IfSome result (λ at. IsPortOfHost word.now at.host.now at.port) }
+        ensures only { IfSome result (λ at. (host : List ℕ) (port : ℕ)
+            → IsPortOfHost word.now host port → (host ≡ at.host.now) × (port ≡ at.port)) }
+        ensures none { IfNone result ((host : List ℕ) (port : ℕ)
+            → IsPortOfHost word.now host port → ⊥) }
     {
         let Some((host, digits)) = word.split_once(':') else {
             return None;
@@ -53,7 +68,7 @@ impl<'a> UdpAddress<'a> {
                 port: SNMP_PORT,
             });
         }
-        UdpAddress::read(word)
+        UdpAddress::port_of_host(word)
     }
 }
 

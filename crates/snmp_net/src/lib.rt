@@ -13,15 +13,25 @@
 //! let word = AgentAddress::read("table:rows.tab");
 //! assert!(rt; matches!(word, Some(AgentAddress::Table("rows.tab"))));
 //! ```
+//!
+//! A walk over UDP, by a link that the caller opens through the network of `rt`; a receive over it
+//! waits a second:
+//!
+//! ```
+//! let mut link = UdpLink::open(&rt, "192.0.2.1", 161, 1)?;
+//! assert!(rt; run_walk(&mut link, core, 5, &mut sink) == WalkEnd::Done(2));
+//! ```
 #![tactic(auto)]
 
 mod address;
 mod links;
 mod machine;
-pub mod memory;
 mod udp;
 
 pub use address::{AgentAddress, UdpAddress};
 pub use links::Links;
 pub use machine::MachineLinks;
 pub use udp::UdpLink;
+
+// Links in memory, for tests and measurements.
+pub mod memory;

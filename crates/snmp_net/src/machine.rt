@@ -1,7 +1,6 @@
 //! Links and doors over the machine's UDP sockets.
-ghost use Rattle.std.specs.{Prelude.◌≡◌, Prelude.◌<◌, Prelude.◌*◌, Prelude.ℕ, Duration.as_nanos};
+ghost use Rattle.std.specs.{Prelude.◌≡◌, Prelude.◌<◌, Prelude.ℕ, Duration.as_nanos};
 ghost use Rattle.snmp_io.specs.Count.{HasRisen};
-ghost use Rattle.snmp_net.specs.private.Turn.{turn_seconds};
 
 use crate::links::Links;
 use crate::udp::{UdpLink, first_address};
@@ -53,8 +52,8 @@ impl<N: Net> Links for MachineLinks<N> {
 
     fn open(&mut self, host: &str, port: u16, seconds: u64) -> Result<UdpLink, LinkFault> {
         match UdpLink::open(&self.net, host, port, seconds) {
-            Some(link) => Ok(link),
-            None => Err(self.fault()),
+            Ok(link) => Ok(link),
+            Err(_) => Err(self.fault()),
         }
     }
 
@@ -87,9 +86,9 @@ fn bound<N: Net>(net: &N, host: &str, port: u16) -> Option<UdpSocket> {
     Some(socket)
 }
 
-/// How long a server waits for a request in each turn.
-pub(crate) fn turn_time() -> Duration
-    ensures { as_nanos result ≡ turn_seconds * 1_000_000_000 }
+/// How long a server waits for a request in each turn: a second.
+fn turn_time() -> Duration
+    ensures { as_nanos result ≡ 1_000_000_000 }
 {
     Duration::from_secs(1)
 }

@@ -12,11 +12,15 @@ use std::iter::Take;
 use std::net::{Net, SocketAddr, ToSocketAddrs, UdpSocket};
 use std::time::Duration;
 
-/// A link to the agent at a UDP port of a host, of which nothing is known.
+/// A link to the agent at a UDP port of a host.
 ///
 /// A datagram of another sender is handed on as one of no octets, which is a stray to every
-/// request. So is a receive that a signal interrupts. No error of the network tells that a host or
-/// a port isn't there: nothing comes, as where a datagram is lost.
+/// request. So is a receive that a signal interrupts. No error of the network says that a host or
+/// a port doesn't exist: nothing is received, as if the datagram was lost.
+///
+/// Promised are the address that an IPv4 address in text means, and that each fault is counted.
+/// Nothing is promised of the socket: whether a datagram that was sent arrives, what is received,
+/// and how long a receive takes. So a walk over this link has the promises that hold over any link.
 #[derive(Drop)]
 pub struct UdpLink {
     socket: UdpSocket,
@@ -25,25 +29,38 @@ pub struct UdpLink {
 }
 
 impl UdpLink {
-    ghost use Rattle.std.specs.Prelude.{◌≡◌, ◌<◌, IfSome};
+    ghost use Rattle.std.specs.Prelude.{◌≡◌, ◌<◌, IfOk, true};
+    ghost use Rattle.std.specs.declared.net.ip_addr.IpAddr.{IpAddr};
+    ghost use Rattle.std.specs.{Net.Grammar.IsIpText, Net.Addr.is_ipv4};
+    ghost use Rattle.std.specs.Net.Socket.{IsPlainSocket, socket_ip};
     ghost use Rattle.snmp_io.specs.Count.{HasRisen};
 
-    /// A link to the first IPv4 address that the host has. A receive over it waits this many
+    /// Opens a link to the first IPv4 address of the host. A receive over it waits `seconds`
     /// seconds.
-    pub(crate) fn open<N: Net>(net: &N, host: &str, port: u16, seconds: u64) -> Option<UdpLink>
+    ///
+    /// `LinkFault` if the host has no IPv4 address, or if the system refuses a socket.
+    pub fn open<N: Net>(net: &N, host: &str, port: u16, seconds: u64) -> Result<UdpLink, LinkFault>
+        // A receive waits at least a second.
         requires { 0 < seconds }
-        ensures { IfSome result (λ link. link.faults ≡ 0) }
+        ensures no_fault { IfOk result (λ link. link.faults ≡ 0) }
+        ensures address { IfOk result (λ link. (ip : IpAddr) → IsIpText host.now ip
+            → is_ipv4 ip ≡ true
+            → IsIpText host.now (socket_ip link.agent) × IsPlainSocket link.agent port) }
     {
-        let agent = first_address(net, host, port)?;
-        let socket = UdpSocket::bind(net, "0.0.0.0:0").ok()?;
-        socket
-            .set_read_timeout(Some(Duration::from_secs(seconds)))
-            .ok()?;
-        Some(UdpLink {
-            socket,
-            agent,
-            faults: 0,
-        })
+        let Some(agent) = first_address(net, host, port) else {
+            return Err(LinkFault);
+        };
+        let Ok(socket) = UdpSocket::bind(net, "0.0.0.0:0") else {
+            return Err(LinkFault);
+        };
+        match socket.set_read_timeout(Some(Duration::from_secs(seconds))) {
+            Ok(()) => Ok(UdpLink {
+                socket,
+                agent,
+                faults: 0,
+            }),
+            Err(_) => Err(LinkFault),
+        }
     }
 
     /// Counts a fault, and returns it.

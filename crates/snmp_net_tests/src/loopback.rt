@@ -165,13 +165,15 @@ fn gives_each_row<N: Net>(looped: &mut Looped<'_, N>, core: WalkCore) -> bool
         && looped.links.faults() == 0
 }
 
-#[test]
-fn a_walk_over_loopback_gives_each_row(rt: HostRuntime) {
-    let core = core_of(&rt);
-    let table = three(&rt, rt.alloc());
-    let mut links = MachineLinks::new(&rt);
-    let door = open_door(&rt, &mut links);
-    let wire = wire_to(&rt, &mut links, &door);
+/// The walk over this link, to whose door the table of the three rows is served, gives them.
+fn assert_each_row<N: Net + Drop>(
+    rt: &impl Abort,
+    alloc: Global,
+    links: MachineLinks<N>,
+    door: UdpSocket,
+    wire: UdpLink,
+) {
+    let table = three(rt, alloc);
     let mut looped = Looped {
         wire,
         links,
@@ -179,7 +181,23 @@ fn a_walk_over_loopback_gives_each_row(rt: HostRuntime) {
         table: &table,
         served: Served::default(),
     };
-    assert!(rt; gives_each_row(&mut looped, core));
+    assert!(rt; gives_each_row(&mut looped, core_of(rt)));
+}
+
+#[test]
+fn a_walk_over_loopback_gives_each_row(rt: HostRuntime) {
+    let mut links = MachineLinks::new(&rt);
+    let door = open_door(&rt, &mut links);
+    let wire = wire_to(&rt, &mut links, &door);
+    assert_each_row(&rt, rt.alloc(), links, door, wire);
+}
+
+#[test]
+fn a_walk_over_a_link_of_the_caller_gives_each_row(rt: HostRuntime) {
+    let mut links = MachineLinks::new(&rt);
+    let door = open_door(&rt, &mut links);
+    let wire = UdpLink::open(&rt, "127.0.0.1", port_of(&rt, &door), 1).expect(&rt, "a link");
+    assert_each_row(&rt, rt.alloc(), links, door, wire);
 }
 
 /// The octets of the next datagram that comes to this door, in the buffer.
@@ -281,6 +299,7 @@ fn is_send_refused<N: Net>(rt: &impl Abort, links: &mut MachineLinks<N>) -> bool
 fn each_refusal_is_counted(rt: HostRuntime) {
     let mut links = MachineLinks::new(&rt);
     assert!(rt; is_open_refused(&mut links, "::1", 1));
+    assert!(rt; UdpLink::open(&rt, "::1", 161, 1).is_err());
     assert!(rt; is_bind_refused(&mut links, "::1", 161, 2));
     assert!(rt; is_port_refused(&rt, &mut links));
     assert!(rt; is_send_refused(&rt, &mut links));

@@ -90,10 +90,22 @@ fn is_place(word: &str, host: &str, port: u16) -> bool {
 
 #[test]
 fn a_place_to_listen_has_its_port(rt: HostRuntime) {
-    assert!(rt; is_place("127.0.0.1:16161", "127.0.0.1", 16161));
+    // The word, and the host and the port.
+    const PLACES: &[(&str, &str, u16)] = &[
+        ("127.0.0.1:1161", "127.0.0.1", 1161),
+        ("0.0.0.0:161", "0.0.0.0", 161),
+        ("host:161", "host", 161),
+        ("tables:161", "tables", 161),
+        ("udp.example:161", "udp.example", 161),
+    ];
+    for &(word, host, port) in PLACES {
+        assert!(rt; is_place(word, host, port));
+    }
     const WORDS: &[&str] = &[
         "127.0.0.1",
         "udp:127.0.0.1:161",
+        "udp:161",
+        "table:161",
         "a:",
         ":161",
         "a:0",

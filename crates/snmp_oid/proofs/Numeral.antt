@@ -1,7 +1,7 @@
 -- Facts about one decimal number: reading it, and that what is written reads back.
 use Rattle.std.proofs.{lemmas.Grind.common_steps, Math.Seq.take-suc, lemmas.List.append-nil, lemmas.List.length-take-le, Math.Nat.pow-suc}
 use Rattle.std.proofs.{Math.Nat.one-le-pow, Math.Nat.le-mul_of_pos_right, lemmas.Bool.and_parts, lemmas.Bool.leb-true}
-use Rattle.std.proofs.Common.{decimal, ◌≡◌, ◌≢◌, ℕ, ◌+◌, ◌-◌, ◌*◌, ◌^◌, ◌≤◌, ◌<◌, true, false, List, [], ◌∷◌, length, drop, get_or, refl, ◌∙◌, ap}
+use Rattle.std.proofs.Common.{decimal, ◌≡◌, ◌≢◌, ℕ, ◌+◌, ◌-◌, ◌*◌, ◌^◌, ◌≤◌, ◌<◌, true, List, [], ◌∷◌, length, drop, get_or, refl, ◌∙◌, ap}
 use Rattle.std.proofs.Common.{subst, arith, drop-cons, add-one, take, ◌++◌, append_assoc, leb}
 use Rattle.std.proofs.lemmas.Fmt.{decimal_nonempty, digits_decimal, digits_value-decimal}
 use Rattle.std.proofs.lemmas.Str.Parse.{IsNumeralModel, numerals_by_weight, tells_all_ascii_digits}
@@ -31,10 +31,6 @@ read_more part rest digit number is_digit small h = grind (arith, common_steps, 
 -- all digits are read
 pub read_all : (part : List ℕ) (number : ℕ) → part ≢ [] → IsReadTo part [] number → IsNumeral part number
 read_all part number some h = grind (arith, common_steps)
-
--- an octet that is no digit
-pub read_other : (part rest : List ℕ) (octet number : ℕ) → is_ascii_digit octet ≡ false → IsReadTo part (octet ∷ rest) number → (n : ℕ) → IsNumeral part n → ⊥
-read_other part rest octet number other h n numeral = grind (arith, common_steps)
 
 -- more than 32 bits
 pub read_large : (part rest : List ℕ) (digit number : ℕ) → 2 ^ 32 ≤ number * 10 + (digit - 48) → IsReadTo part (digit ∷ rest) number → (n : ℕ)

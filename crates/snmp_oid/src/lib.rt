@@ -22,7 +22,11 @@ mod numeric;
 mod oid;
 
 pub use numeric::{
-    LONGEST_TEXT, OidTextError, front_number, names, parse_number, parse_numeric, read_numeric,
+    LONGEST_TEXT, OidTextError, front_number, parse_number, parse_numeric, read_numeric,
     write_numeric,
 };
-pub use oid::{MAX_LEN, Oid, OidError, compare_numbers, order, ranks};
+pub use oid::{MAX_LEN, Oid, OidError, compare_numbers};
+
+// Laws, for proofs and readers.
+pub use numeric::names;
+pub use oid::{order, ranks};

@@ -4,7 +4,7 @@ use Rattle.std.proofs.Common.{◌≡◌, ◌⊎◌, inl, inr, ◌++◌, ◌<◌,
 use Rattle.std.proofs.Common.{ap, arith, subst}
 use Rattle.std.specs.Prelude.{filter}
 use Rattle.snmp_oid.specs.Identifier.{IsBelow, Precedes, wire}
-use Rattle.smi_value.specs.declared.letters.letters.Letters.{Letters}
+use Rattle.smi_value.specs.declared.letters.Letters.{Letters}
 use Rattle.snmp_io.specs.Output.{Stream}
 use Rattle.snmp_wire.specs.{Canon.canon, Message.VarBind}
 use Rattle.snmp_agent.specs.{table.Exact.HasOne, table.Listing.variables}
@@ -13,14 +13,16 @@ use Rattle.snmp_walk.specs.Facts.{GivenFacts, HasNone, IsDone, IsDoneOrStopped, 
 use Rattle.snmp_walk.specs.Get.{GetFacts, IsEndOfGet, IsLostGet, IsTooBig}
 use Rattle.snmp_walk.specs.{Link.Agents, Link.IsUnanswered, Link.OneOf, Names.comes_after, Ran.IsFreshAndHonest, Traffic.Lost, Traffic.Traffic}
 use Rattle.snmp_walk.specs.{Walker.Walker, declared.end.WalkEnd.WalkEnd, declared.link.Link.Ghosts as LinkFacts, declared.mode.Mode.Mode}
+use Rattle.snmp_walk.specs.{Room.HasRoomForEach, Tables.HasRoomInEach, Tables.of_table}
 use Rattle.snmp_walk.specs.Walk.{or_only, rest_of, rows_below, rows_named, walk_from, walk_of}
 use Rattle.snmp_walk.specs.declared.end.SinkFault.TheVariants as sink
 use Rattle.snmp_walk.specs.declared.end.WalkEnd.TheVariants as ending
 use Rattle.snmp_walk.specs.declared.mode.Mode.TheVariants as mode
 use Rattle.snmp_tools.specs.Answer.{AreRowsAfter, AreRowsOf, Counts, HasReason, IsAsked, IsAskedOver, IsOwnEnd, agent_over, end_in_memory}
 use Rattle.snmp_tools.specs.Answer.{first_after, first_of, request_for}
-use Rattle.snmp_tools.specs.{Lines.IsPrintedUpTo, Mib.Mib}
+use Rattle.snmp_tools.specs.{Lines.IsPrintedUpTo}
 use Rattle.snmp_tools.specs.Question.{Plan, Question, Walk, counts_in, names, subtree}
+use Rattle.smi_tree.specs.{Tree.Contents}
 use Rattle.snmp_tools.proofs.TableWalks.{BelowAreRows, one_is_contained}
 
 own_end : (end : WalkEnd) → IsDoneOrStopped end → IsOwnEnd (end_in_memory end)
@@ -34,7 +36,7 @@ in_memory : (P : WalkEnd → Type 0) → (P ending.Link → P (ending.Sink sink.
 in_memory P moved ending.Link h = moved h
 in_memory P moved end h = h
 
-pub printed_in : (mib : Mib) (letters : Letters) (before after : Stream) (rows refused : List VarBind) (end : WalkEnd)
+pub printed_in : (mib : Contents) (letters : Letters) (before after : Stream) (rows refused : List VarBind) (end : WalkEnd)
     → IsPrintedUpTo mib letters before rows refused end after → IsPrintedUpTo mib letters before rows refused (end_in_memory end) after
 printed_in mib letters before after rows refused = in_memory (λ (e : WalkEnd). IsPrintedUpTo mib letters before rows refused e after) (λ h. h)
 
@@ -174,13 +176,18 @@ module _ (below : BelowAreRows) (left : LeftAreRows) (one_get : (view : MibView)
       gave_walk : GivesRows (subtree w) view rows refused end
       gave_walk = walk_rows (agent_over plan view) refl _ plan.community w rows refused end facts.given
 
+      in_each : HasRoomForEach (agent_over plan view) view (first_of plan.community w) → HasRoomInEach (agent_over plan view) (first_of plan.community w)
+      in_each room v (inl e) =
+          subst (λ (u : MibView). HasRoomForEach (agent_over plan view) u (first_of plan.community w)) (sym e) room
+      in_each room v (inr other) = absurd other
+
       is_walked : IsAsked plan (subtree w) view rows refused (end_in_memory end)
       is_walked = record {
         front = gave_walk.front;
         whole = λ all are done. gave_walk.whole all are (done_in end done);
         linked = no_link end;
         reason = (lawful, counts_rows plan view (first_of plan.community w) rows (end_in_memory end) lawful);
-        complete = λ room. own_end end (facts.done_unless_stopped view refl room.0 room.1 none);
+        complete = λ room. own_end end (facts.done_unless_stopped _ (of_table view refl refl) (in_each room.0) room.1 none);
       }
 
   -- the run of a question over a link in memory

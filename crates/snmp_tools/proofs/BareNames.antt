@@ -5,17 +5,19 @@ use Rattle.smi_names.specs.nodes.Nodes.{roots}
 use Rattle.smi_tree.specs.{Bare.bare, Standing.Longest, Standing.longest, Tree.IsTree, types.Types.Facts}
 use Rattle.smi_tree.specs.Shown.{shown_at, shown_syntax, units_at}
 use Rattle.snmp_io.specs.Files.{Holdings, Holds}
-use Rattle.snmp_tools.specs.Mib.{AreLoaded, Mib, mib_of}
+use Rattle.snmp_tools.specs.load.Loaded.{AreLoaded}
+use Rattle.smi_tree.specs.{Tree.Contents}
+use Rattle.smi_tree.specs.Naming.{nearest_syntax}
 use Rattle.snmp_tools.proofs.RowLines.{HasNoSyntax}
 
-abbrev pub bare_mib : Mib
-bare_mib = mib_of bare
+abbrev pub bare_mib : Contents
+bare_mib = bare
 
 -- no module files are loaded, whatever files hold
 pub bare_is_loaded : IsTree [] bare [] → (files : Holdings) (paths : List (List ℕ)) → paths ≡ [] → AreLoaded (Holds files) paths bare_mib []
 bare_is_loaded loads files paths none =
     subst (λ (ps : List (List ℕ)). AreLoaded (Holds files) ps bare_mib []) (sym none)
-    record { modules = []; read = refl; tree = bare; loads = loads; is = refl }
+    record { modules = []; read = refl; loads = loads }
 
 abbrev none_three : List (Option Facts)
 none_three = None ∷ (None ∷ (None ∷ []))
@@ -31,4 +33,5 @@ none_shown None = refl
 none_shown (Some l) = ap (option_map (λ f. shown_syntax f (units_at roots l.place))) (none_at l.place)
 
 pub bare_has_no_syntax : HasNoSyntax bare_mib
+unfolding nearest_syntax
 bare_has_no_syntax o = none_shown (longest roots o)

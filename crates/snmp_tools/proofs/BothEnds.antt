@@ -4,8 +4,7 @@ use Rattle.std.proofs.Common.{◌≡◌, ◌≢◌, ◌⊎◌, inl, inr, ◌+◌
 use Rattle.std.proofs.Common.{subst, arith, append-nil}
 use Rattle.std.specs.{Prelude.MatchOption, Prelude.drop, Prelude.if◌then◌else◌, Str.Lines.lines}
 use Rattle.smi_names.specs.declared.nodes.warning.Warning.{Warning}
-use Rattle.smi_show.specs.name.Naming.{Naming}
-use Rattle.smi_tree.specs.{Naming.naming_of, Tree.Contents}
+use Rattle.smi_tree.specs.{Tree.Contents}
 use Rattle.snmp_agent.specs.{Event.Event, Event.InTurn, Serving.AreTurns, table.Exact.HasOne, table.Format.Names, table.Stated.AreTableBy}
 use Rattle.snmp_agent.specs.{table.Stated.IsTableOf, table.Table.IsGet, table.Table.IsMibView, table.Table.MibView}
 use Rattle.snmp_io.specs.{Files.Holdings, Files.Holds, Files.MayHold, Output.TakesFront, Output.extended, Streams.nothing_taken}
@@ -16,10 +15,10 @@ use Rattle.snmp_walk.specs.Network.{AreReplies, AreServed, Happening, IsFaithful
 use Rattle.snmp_walk.specs.declared.end.WalkEnd.TheVariants as ending
 use Rattle.snmp_wire.specs.Message.{VarBind}
 use Rattle.snmp_words.specs.Words.{ServeWords, StateJob, Stated, StatesNumber, readings, snmpd, stated_among}
-use Rattle.snmp_tools.specs.agent.Outcome as serve
-use Rattle.snmp_tools.specs.{agent.Outcome.IsServedBy, agent.Outcome.IsServeOutcome, agent.Outcome.listening_line, agent.Service.IsPlaced}
-use Rattle.snmp_tools.specs.{agent.Service.served_agent, agent.TableFile.HasTable, loading.Loaded.LoadFacts, Headline.IsWholeText, Message.Fault}
-use Rattle.snmp_tools.specs.{Mib.AreLoaded, Mib.Mib, Mib.mib_of, Seen.Seen, Serving.IsServeRun, Outcome.IsOutcome, Outcome.IsOutcomeBy, Outcome.IsRun}
+use Rattle.snmp_tools.specs.serve.Outcome as serve
+use Rattle.snmp_tools.specs.{serve.Outcome.IsServedBy, serve.Outcome.IsServeOutcome, serve.Outcome.listening_line, serve.Service.IsPlaced}
+use Rattle.snmp_tools.specs.{serve.Service.served_agent, serve.TableFile.HasTable, load.Loaded.LoadFacts, Headline.IsWholeText, Message.Fault}
+use Rattle.snmp_tools.specs.{load.Loaded.AreLoaded, Seen.Seen, Serving.IsServeRun, Outcome.IsOutcome, Outcome.IsOutcomeBy, Outcome.IsRun}
 use Rattle.snmp_tools.specs.{Outcome.IsShown, Answer.AreRowsOf, Answer.Counts, Answer.HasFacts, Answer.IsAskedOver}
 use Rattle.snmp_tools.specs.BothEnds as ends
 use Rattle.snmp_tools.specs.BothEnds.{AreEndsOfOneRun, IsAskOfServer, IsAtAsker, IsAtServer, PrintsServed, ServesInTurn, events_of}
@@ -85,17 +84,17 @@ module _ (below : BelowAreRows) (left : LeftAreRows) (one_get : (view : MibView)
 
 module _ (one_table : (names : Names) (ls : List (List ℕ)) (v w : MibView) → IsTableOf names ls v → IsTableOf names ls w → v ≡ w) where
   -- a file that is known to hold a text states one table
-  one_view : (naming : Naming) (files : Holdings) (path text : List ℕ) (v w : MibView) → Holds files path text → HasTable files naming path v
-      → HasTable files naming path w → v ≡ w
-  one_view naming files path text v w held a b =
-      let looked : a.0 ≡ b.0 = one_look_up naming a.0 b.0 a.1 b.1 in
+  one_view : (tree : Contents) (files : Holdings) (path text : List ℕ) (v w : MibView) → Holds files path text → HasTable files tree path v
+      → HasTable files tree path w → v ≡ w
+  one_view tree files path text v w held a b =
+      let looked : a.0 ≡ b.0 = one_look_up tree a.0 b.0 a.1 b.1 in
       let same : a.2 ≡ b.2 = held_is (files path) a.2 text a.3 held ∙ sym (held_is (files path) b.2 text b.3 held) in
       one_table b.0 (lines b.2) v w
       (subst (λ (n : Names). IsTableOf n (lines b.2) v) looked (subst (λ (t : List ℕ). IsTableOf a.0 (lines t) v) same a.4)) b.4
 
   is_view : ((names : Names) (ls : List (List ℕ)) → AreTableBy names ls → (view : MibView) × IsTableOf names ls view × IsMibView view)
-      → (naming : Naming) (files : Holdings) (path : List ℕ) (view : MibView) → HasTable files naming path view → IsMibView view
-  is_view tables naming files path view has =
+      → (tree : Contents) (files : Holdings) (path : List ℕ) (view : MibView) → HasTable files tree path view → IsMibView view
+  is_view tables tree files path view has =
       let stated = tables has.0 (lines has.2) (has.4.0, has.4.1, has.4.2.good) in
       subst IsMibView (one_table has.0 (lines has.2) stated.0 view stated.1 has.4) stated.2
 
@@ -117,9 +116,9 @@ module _ {N V D P E : Type 0} (net : Network N V D) (endpoint_at : D → E) (hap
 
   module _ (one_table : (names : Names) (ls : List (List ℕ)) (v w : MibView) → IsTableOf names ls v → IsTableOf names ls w → v ≡ w) (one_list : OneList)
       (one_tree : OneTree) (serves : ServesInTurn net endpoint_at happens) (Loads : LoadFacts) (before after : Seen N) (status : ℕ)
-      (run : IsServeRun net Loads words before after status) (nodes : Mib) (warnings : List Warning)
+      (run : IsServeRun net Loads words before after status) (nodes : Contents) (warnings : List Warning)
       (known : AreLoaded (Holds before.files) words.mibs nodes warnings) (text : List ℕ) (held : Holds before.files words.table text) (view : MibView)
-      (has : HasTable before.files nodes.naming words.table view) where
+      (has : HasTable before.files nodes words.table view) where
     abbrev End : Seen N
     End = record after { err = run.warned }
 
@@ -136,13 +135,13 @@ module _ {N V D P E : Type 0} (net : Network N V D) (endpoint_at : D → E) (hap
     nothing_told : (why : Fault) → after.out ≡ before.out → run.fault ≡ Some why → AtServer
     nothing_told why same is = not_served why (nothing_taken before.out after.out (listening_line words.listen) same) is
 
-    module _ (at : IsPlaced words) (tree : Contents) (nodes_are : nodes ≡ mib_of tree) where
-      view_is : (other : MibView) → HasTable before.files (naming_of tree) words.table other → other ≡ view
+    module _ (at : IsPlaced words) (tree : Contents) (nodes_are : nodes ≡ tree) where
+      view_is : (other : MibView) → HasTable before.files tree words.table other → other ≡ view
       view_is other states =
-          one_view one_table (naming_of tree) before.files words.table text other view held states
-          (subst (λ (m : Mib). HasTable before.files m.naming words.table view) nodes_are has)
+          one_view one_table tree before.files words.table text other view held states
+          (subst (λ (m : Contents). HasTable before.files m words.table view) nodes_are has)
 
-      by_door : IsServedBy net words at.host at.port (naming_of tree) (record before { err = run.warned }) End run.fault → AtServer
+      by_door : IsServedBy net words at.host at.port tree (record before { err = run.warned }) End run.fault → AtServer
       by_door (serve.refused why refusal same is) = nothing_told why (ap (λ (s : Seen N). s.out) same) is
       by_door (serve.not_bound other states fails risen same is) = nothing_told _ (ap (λ (s : Seen N). s.out) same) is
       by_door (serve.bound other door opened states bound same (inl (inl (nothing, is), left))) = nothing_told _ nothing is
@@ -158,9 +157,7 @@ module _ {N V D P E : Type 0} (net : Network N V D) (endpoint_at : D → E) (hap
     at_server : IsServeOutcome net Loads words before End run.fault → AtServer
     at_server (serve.not_loaded why refusal same is) = nothing_told why (ap (λ (s : Seen N). s.out) same) is
     at_server (serve.loaded at tree load made by) =
-        let loaded : AreLoaded (MayHold before.files) words.mibs (mib_of tree) load.warnings =
-        record { modules = load.modules; read = load.read; tree = tree; loads = load.loads; is = refl } in
-        let same = one_load one_list one_tree before.files words.mibs nodes (mib_of tree) warnings load.warnings known loaded in
+        let same = one_load one_list one_tree before.files words.mibs nodes tree warnings load.warnings known load.loaded in
         by_door at tree same.0 by
 
 -- ---- both ends
@@ -184,11 +181,11 @@ module _ (below : BelowAreRows) (left : LeftAreRows) (one_get : (view : MibView)
   Agent = server_agents serving ask.view
 
   -- the file is known, so the text that snmpd read is the one that the walk's words suppose
-  has_table : HasTable server_before.files ask.nodes.naming serving.table ask.view
+  has_table : HasTable server_before.files ask.nodes serving.table ask.view
   has_table = grind (arith, common_steps)
 
   good_view : IsMibView ask.view
-  good_view = is_view one_table tables ask.nodes.naming server_before.files serving.table ask.view has_table
+  good_view = is_view one_table tables ask.nodes server_before.files serving.table ask.view has_table
 
   lawful : AreLawful Agent
   lawful = record { views = (good_view, tt); size = size_fits serving ask.line ask.stated }
@@ -212,16 +209,16 @@ module _ (below : BelowAreRows) (left : LeftAreRows) (one_get : (view : MibView)
     all_written_at_status_0 = λ ends_are zero_status. absurd (ask_not_0 why is zero_status);
   }
 
-  module _ (mib : Mib) (mib_is : ask.mib ≡ mib) (plan : Plan) (for : IsPlanFor words before.files mib plan) where
+  module _ (mib : Contents) (mib_is : ask.mib ≡ mib) (plan : Plan) (for : IsPlanFor words before.files mib plan) where
     plan_is : ask.plan ≡ plan
-    plan_is = one_plan one words mib ask.plan plan (subst (λ (m : Mib). AskFor words m ask.plan) mib_is ask.asked) for.asked for.only
+    plan_is = one_plan one words mib ask.plan plan (subst (λ (m : Contents). AskFor words m ask.plan) mib_is ask.asked) for.asked for.only
 
-    abbrev Written : Mib → Plan → Type 0
+    abbrev Written : Contents → Plan → Type 0
     Written m p = IsFrontOf m p.letters (counts_in p.question) rows before.out after.out
         × (run.fault ≡ None → (text : List ℕ) × IsWholeText m p rows text × (after.out ≡ extended before.out text))
 
     of_ask : Written mib plan → Written ask.mib ask.plan
-    of_ask w = subst (λ (m : Mib). Written m ask.plan) (sym mib_is) (subst (Written mib) (sym plan_is) w)
+    of_ask w = subst (λ (m : Contents). Written m ask.plan) (sym mib_is) (subst (Written mib) (sym plan_is) w)
 
     rows_are : AreRowsOf plan.question ask.view rows
     rows_are = subst (λ (p : Plan). AreRowsOf p.question ask.view rows) plan_is ask.are_rows
@@ -247,7 +244,7 @@ module _ (below : BelowAreRows) (left : LeftAreRows) (one_get : (view : MibView)
       at_asker =
           let by_plan = subst (λ (p : Plan). IsAtAsker net wire words mib p before after status happened) (sym plan_is)
           (ends.asked host port run.fault run.warned over shown run.reported refl here.in_turn) in
-          subst (λ (m : Mib). IsAtAsker net wire words m ask.plan before after status happened) (sym mib_is) by_plan
+          subst (λ (m : Contents). IsAtAsker net wire words m ask.plan before after status happened) (sym mib_is) by_plan
 
       written : AreEndsOfOneRun happened served_end.0 → Written ask.mib ask.plan
       written are =
@@ -270,7 +267,7 @@ module _ (below : BelowAreRows) (left : LeftAreRows) (one_get : (view : MibView)
             (written are).1 (no_fault_at_0 run.fault run.warned after.err status run.reported zero_status);
       }
 
-  told_by : (mib : Mib) → ask.mib ≡ mib → IsOutcomeBy net wire words mib (record before { err = run.warned }) AskEnd run.fault → Both
+  told_by : (mib : Contents) → ask.mib ≡ mib → IsOutcomeBy net wire words mib (record before { err = run.warned }) AskEnd run.fault → Both
   told_by mib same_mib (outcome.refused why refusal same is) = nothing_asked why (ap (λ (s : Seen N). s.out) same) is
   told_by mib same_mib (outcome.not_begun why last plan for (inl (path, over, same)) is) = nothing_asked why (ap (λ (s : Seen N). s.out) same) is
   told_by mib same_mib (outcome.not_begun why last plan for (inr (host, port, over, opened)) is) = grind (arith, common_steps, nothing_asked)

@@ -12,10 +12,10 @@ use Rattle.snmp_walk.specs.declared.end.WalkEnd.TheVariants as ending
 use Rattle.snmp_io.specs.{Count.HasRisen, Files.Holdings, Files.MayHold, Output.IsWritten, Output.Stream, Output.extended, Streams.nothing_taken}
 use Rattle.snmp_net.specs.{Address.table, Address.udp, declared.links.Links.Ghosts as Network}
 use Rattle.smi_names.specs.declared.nodes.warning.Warning.{Warning}
-use Rattle.smi_value.specs.declared.letters.letters.Letters.{Letters}
-use Rattle.snmp_tools.specs.{agent.TableFile.AreNamesIn, agent.TableFile.HasTable, loading.Loaded.LoadFacts, loading.Warned.warning_lines}
+use Rattle.smi_value.specs.declared.letters.Letters.{Letters}
+use Rattle.snmp_tools.specs.{serve.TableFile.AreNamesIn, serve.TableFile.HasTable, load.Loaded.LoadFacts, load.Warned.warning_lines}
 use Rattle.snmp_tools.specs.{Answer.AreRowsOf, Answer.IsFeasible, Answer.IsOwnEnd, Done.IsAskDone, Headline.IsAsk, Headline.IsMishap}
-use Rattle.snmp_tools.specs.{Headline.IsWholeText, Headline.WritesRows, Lines.IsPrintedUpTo, Mib.AreLoaded, Mib.Mib, Seen.Seen}
+use Rattle.snmp_tools.specs.{Headline.IsWholeText, Headline.WritesRows, Lines.IsPrintedUpTo, load.Loaded.AreLoaded, Seen.Seen}
 use Rattle.snmp_tools.specs.Message.{Fault, bad_table, fault_message, out_of_memory, status_of}
 use Rattle.snmp_tools.specs.Outcome.{IsFinished, IsOutcome, IsOutcomeBy, IsReported, IsRun, asked, asked_over, loaded, not_begun, not_linked}
 use Rattle.snmp_tools.specs.Outcome.{not_loaded, refused}
@@ -23,6 +23,7 @@ use Rattle.snmp_tools.specs.Question.{AskFor, AskWords, IsLastRefusal, IsLateRef
 use Rattle.snmp_tools.proofs.{Asked.counted, TableNames.OneMeaning, TableNames.one_look_up}
 use Rattle.snmp_tools.proofs.Outcomes.{IsFrontOf, finished, no_fault_at_0}
 use Rattle.snmp_tools.proofs.Plans.{IsWant, OneList, OneTree, held_is, one_load, one_path, one_plan, plain_want, table_want, wants_early, wants_last}
+use Rattle.smi_tree.specs.{Tree.Contents}
 use Rattle.snmp_tools.proofs.Plans.{wants_late}
 
 -- the status is 1, and the output failed, or that memory ran out was reported after the warnings
@@ -51,7 +52,7 @@ want_told why before after err_before err_after status (table_want path e) told 
     (Some w) err_before err_after status) e told)
 
 -- a run that ended for no reason but its own, the output's or memory's
-module _ (mib : Mib) (letters : Letters) (agent : List ℕ) (given turned : List VarBind) (before between after err_before err_after : Stream)
+module _ (mib : Contents) (letters : Letters) (agent : List ℕ) (given turned : List VarBind) (before between after err_before err_after : Stream)
     (fault : Option Fault) (status : ℕ) (told : IsReported fault err_before err_after status) where
   told_of : (other : Option Fault) → fault ≡ other → IsReported other err_before err_after status
   told_of other same = subst (λ (f : Option Fault). IsReported f err_before err_after status) same told
@@ -96,7 +97,7 @@ module _ (one_table : (names : Names) (ls : List (List ℕ)) (v w : MibView) →
     unasked why same is =
         not_asked words before.files rows ask before.out after.out before.err run.warned after.err run.fault status why same is run.reported
 
-    module _ (mib : Mib) (warnings : List Warning) (loading : AreLoaded (MayHold before.files) words.asking.mibs mib warnings)
+    module _ (mib : Contents) (warnings : List Warning) (loading : AreLoaded (MayHold before.files) words.asking.mibs mib warnings)
         (written : IsWritten before.err (warning_lines warnings) run.warned) where
       both_are : (ask.mib ≡ mib) × (ask.warnings ≡ warnings)
       both_are = one_load one_list one_tree before.files words.asking.mibs ask.mib mib ask.warnings warnings ask.known loading
@@ -109,26 +110,26 @@ module _ (one_table : (names : Names) (ls : List (List ℕ)) (v w : MibView) →
 
       module _ (plan : Plan) (for : IsPlanFor words before.files mib plan) where
         plan_is : ask.plan ≡ plan
-        plan_is = one_plan one words mib ask.plan plan (subst (λ (m : Mib). AskFor words m ask.plan) mib_is ask.asked) for.asked for.only
+        plan_is = one_plan one words mib ask.plan plan (subst (λ (m : Contents). AskFor words m ask.plan) mib_is ask.asked) for.asked for.only
 
-        over_same : (P : Mib → Plan → Type 0) → P mib plan → P ask.mib ask.plan
-        over_same P p = subst (λ (m : Mib). P m ask.plan) (sym mib_is) (subst (P mib) (sym plan_is) p)
+        over_same : (P : Contents → Plan → Type 0) → P mib plan → P ask.mib ask.plan
+        over_same P p = subst (λ (m : Contents). P m ask.plan) (sym mib_is) (subst (P mib) (sym plan_is) p)
 
         agent_is : plan.agent ≡ table ask.path
         agent_is = sym (ap (λ (p : Plan). p.agent) plan_is) ∙ ask.over
 
-        view_is : (path : List ℕ) (view : MibView) → plan.agent ≡ table path → HasTable before.files mib.naming path view → ask.view ≡ view
+        view_is : (path : List ℕ) (view : MibView) → plan.agent ≡ table path → HasTable before.files mib path view → ask.view ≡ view
         view_is path view over states =
             let same : ask.path ≡ path = one_path ask.path path (sym agent_is ∙ over) in
             let text : states.2 ≡ ask.text = held_is (before.files path) states.2 ask.text states.3 (ap before.files (sym same) ∙ ask.held) in
-            let names : states.0 ≡ ask.names = one_look_up mib.naming states.0 ask.names states.1
-            (subst (λ (m : Mib). AreNamesIn m.naming ask.names) mib_is ask.named) in
+            let names : states.0 ≡ ask.names = one_look_up mib states.0 ask.names states.1
+            (subst (λ (m : Contents). AreNamesIn m ask.names) mib_is ask.named) in
             one_table ask.names (lines ask.text) ask.view view ask.table
             (subst (λ (n : Names). IsTableOf n (lines ask.text) view) names (subst (λ (t : List ℕ). IsTableOf states.0 (lines t) view) text states.4))
 
         -- what is true of the plan and of the table
         over_table : (P : Plan → MibView → Type 0) (path : List ℕ) (view : MibView) → plan.agent ≡ table path
-            → HasTable before.files mib.naming path view → P ask.plan ask.view → P plan view
+            → HasTable before.files mib path view → P ask.plan ask.view → P plan view
         over_table P path view over states p = subst (P plan) (view_is path view over states) (subst (λ (q : Plan). P q ask.view) plan_is p)
 
         -- what is asked isn't asked over the network
@@ -137,10 +138,10 @@ module _ (one_table : (names : Names) (ls : List (List ℕ)) (v w : MibView) →
 
       told_by : IsOutcomeBy net wire words mib (record before { err = run.warned }) End run.fault → Told
       told_by (refused why refusal same is) =
-          let late = subst (λ (m : Mib). IsLateRefusal words before.files m why) (sym mib_is) refusal in
+          let late = subst (λ (m : Contents). IsLateRefusal words before.files m why) (sym mib_is) refusal in
           unasked why (ap (λ (s : Seen N). s.out) same) is (λ can. wants_late one no_fault words before.files rows ask why late) so_far_is
       told_by (not_begun why last plan for (inl (path, over, same)) is) =
-          let refusal = subst (λ (m : Mib). IsLastRefusal words before.files m why) (sym mib_is) last in
+          let refusal = subst (λ (m : Contents). IsLastRefusal words before.files m why) (sym mib_is) last in
           unasked why (ap (λ (s : Seen N). s.out) same) is (λ can. wants_last one no_fault words before.files rows ask why can.sendable refusal) so_far_is
       told_by (not_begun why last plan for (inr (host, port, over, opened)) is) = absurd (no_net plan for host port over)
       told_by (asked plan path view for over states sent printed same) =

@@ -8,10 +8,10 @@ use Rattle.snmp_net.specs.declared.links.Links.{Ghosts as Network}
 use Rattle.snmp_walk.specs.declared.link.Link.{Ghosts as LinkFacts}
 use Rattle.snmp_words.specs.declared.job.Job.{Job}
 use Rattle.snmp_words.specs.Words.{StateJob, Stated, job_words, snmpbulkwalk, snmpd, snmpget, snmptranslate, snmpwalk}
-use Rattle.snmp_tools.specs.agent.Outcome as serve
-use Rattle.snmp_tools.specs.{loading.Loaded.LoadFacts, Done.IsAskDone, Done.IsJobDone, Done.IsJobOutcome, Message.Fault, Message.out_of_memory}
+use Rattle.snmp_tools.specs.serve.Outcome as serve
+use Rattle.snmp_tools.specs.{load.Loaded.LoadFacts, Done.IsAskDone, Done.IsJobDone, Done.IsJobOutcome, Message.Fault, Message.out_of_memory}
 use Rattle.snmp_tools.specs.{Question.AskWords, Question.of_get, Question.of_walk, Seen.Seen, Seen.seen}
-use Rattle.snmp_tools.specs.translation.Outcome as translated
+use Rattle.snmp_tools.specs.translate.Outcome as translated
 use Rattle.snmp_tools.specs.Outcome.{IsOutcome, IsReported, not_loaded}
 use Rattle.snmp_tools.proofs.{Headlines.asked_done, Headlines.not_asked, Outcomes.no_fault_at_0, Plans.OneList, Plans.OneTree, Plans.plain_want}
 use Rattle.snmp_tools.proofs.{TableNames.OneMeaning, TranslationHeadlines.all_printed, TranslationHeadlines.front_printed}

@@ -5,7 +5,7 @@ use Rattle.std.proofs.lemmas.Grind.{common_steps}
 use Rattle.smi_text.specs.{lexer.Lexes.Lexes, lexer.Token.Item, lexer.Token.Lexeme, trees.Mark.Stands, trees.Spelling.spelling, Text.AreSpelledBy}
 use Rattle.smi_text.specs.declared.trees.tree.Module.{Module}
 use Rattle.snmp_io.specs.{Files.Holdings, Files.Holds, Files.MayHold, Steps.AreDone}
-use Rattle.snmp_tools.specs.loading.Files.{AreModulesIn, AreModulesOf, FileFails, IsFilesRefusal, MayHoldModules, Refusal, no_memory, texts}
+use Rattle.snmp_tools.specs.load.Files.{AreModulesIn, AreModulesOf, FileFails, IsFilesRefusal, MayHoldModules, Refusal, no_memory, texts}
 use Rattle.snmp_tools.proofs.Texts.{texts-parts}
 
 pub AreModulesOf-more : (Held : (path text : List ℕ) → Type 0) (paths : List (List ℕ)) (path : List ℕ) (ms first : List Module)

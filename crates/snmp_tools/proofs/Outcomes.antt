@@ -2,27 +2,28 @@
 use Rattle.std.proofs.Common.{arith, ◌≡◌, ◌⊎◌, inl, inr, ◌++◌, ℕ, Bool, true, false, length, List, [], Option, Some, None, refl, sym, ◌∙◌, subst}
 use Rattle.std.proofs.Common.{append_assoc, append-nil}
 use Rattle.std.proofs.lemmas.Grind.{common_steps}
-use Rattle.smi_value.specs.declared.letters.letters.Letters.{Letters}
+use Rattle.smi_value.specs.declared.letters.Letters.{Letters}
 use Rattle.snmp_wire.specs.Message.{VarBind}
 use Rattle.snmp_walk.specs.{Facts.IsDone, declared.end.WalkEnd.WalkEnd}
 use Rattle.snmp_walk.specs.declared.end.SinkFault.TheVariants as sink
 use Rattle.snmp_walk.specs.declared.end.WalkEnd.TheVariants as ending
 use Rattle.snmp_io.specs.{Output.Stream, Output.TakesFront, Output.extended, Streams.front_after, Streams.whole_taken}
 use Rattle.snmp_tools.specs.Lines.{AreLines, IsPrintedUpTo, count_line, count_text}
-use Rattle.snmp_tools.specs.{Message.Fault, Message.ended, Message.status_of, Mib.Mib, Answer.Counts, Outcome.IsFinished, Outcome.IsReported}
+use Rattle.snmp_tools.specs.{Message.Fault, Message.ended, Message.status_of, Answer.Counts, Outcome.IsFinished, Outcome.IsReported}
+use Rattle.smi_tree.specs.{Tree.Contents}
 use Rattle.snmp_tools.proofs.Printed.{lines_of_both}
 
 -- a front of the lines of some first rows
-abbrev pub IsFront : Mib → Letters → List VarBind → (before after : Stream) → Type 0
+abbrev pub IsFront : Contents → Letters → List VarBind → (before after : Stream) → Type 0
 IsFront mib letters rows before after =
     (first : List VarBind) × (rest : List VarBind) × (text : List ℕ) × (rows ≡ first ++ rest) × AreLines mib letters first text × TakesFront before text after
 
-all_front : (mib : Mib) (letters : Letters) (before after : Stream) (rows turned : List VarBind)
+all_front : (mib : Contents) (letters : Letters) (before after : Stream) (rows turned : List VarBind)
     → ((text : List ℕ) × AreLines mib letters rows text × (after ≡ extended before text)) → IsFront mib letters (rows ++ turned) before after
 all_front mib letters before after rows turned h = (rows, turned, h.0, refl, h.1, whole_taken before after h.0 h.2)
 
 -- the lines of what was given, and a front of the next
-pub printed_front : (mib : Mib) (letters : Letters) (before after : Stream) (rows turned : List VarBind) (end : WalkEnd)
+pub printed_front : (mib : Contents) (letters : Letters) (before after : Stream) (rows turned : List VarBind) (end : WalkEnd)
     → IsPrintedUpTo mib letters before rows turned end after → IsFront mib letters (rows ++ turned) before after
 printed_front mib letters before after rows turned (ending.Sink sink.Output) h = (
   rows ++ turned,
@@ -35,17 +36,17 @@ printed_front mib letters before after rows turned (ending.Sink sink.Output) h =
 printed_front mib letters before after rows turned end h = all_front mib letters before after rows turned h
 
 -- the lines of the rows, and where that is asked for their number
-abbrev pub IsWhole : Mib → Letters → (counts : Bool) → List VarBind → List ℕ → Type 0
+abbrev pub IsWhole : Contents → Letters → (counts : Bool) → List VarBind → List ℕ → Type 0
 IsWhole mib letters counts rows text =
     (shown : List ℕ) × AreLines mib letters rows shown × (text ≡ shown ++ count_text counts (length rows))
 
 -- a front of the lines of some first rows, or of the whole text
-abbrev pub IsFrontOf : Mib → Letters → (counts : Bool) → List VarBind → (before after : Stream) → Type 0
+abbrev pub IsFrontOf : Contents → Letters → (counts : Bool) → List VarBind → (before after : Stream) → Type 0
 IsFrontOf mib letters counts rows before after =
     (first : List VarBind) × (rest : List VarBind) × (text : List ℕ) × (rows ≡ first ++ rest)
     × (AreLines mib letters first text ⊎ IsWhole mib letters counts rows text) × TakesFront before text after
 
-module _ (mib : Mib) (letters : Letters) (agent : List ℕ) (before : Stream) (rows : List VarBind) where
+module _ (mib : Contents) (letters : Letters) (agent : List ℕ) (before : Stream) (rows : List VarBind) where
   abbrev Lines : List VarBind → Stream → Type 0
   Lines given between = (text : List ℕ) × AreLines mib letters given text × (between ≡ extended before text)
 

@@ -2,7 +2,7 @@
 use Rattle.std.proofs.{lemmas.Grind.common_steps, lemmas.List.Elements.All-head, lemmas.List.Elements.All-tail}
 use Rattle.std.proofs.Common.{◌≡◌, ◌⊎◌, inl, inr, ℕ, arith, List, [], ◌∷◌, All, map, Option, Some, None, Ok, refl, sym, ◌∙◌, ap, subst}
 use Rattle.std.specs.Str.Lines.{lines}
-use Rattle.smi_value.specs.{declared.letters.letters.Letters.Letters, letters.Letters.AreLetters}
+use Rattle.smi_value.specs.{declared.letters.Letters.Letters, Letters.AreLetters}
 use Rattle.smi_show.specs.name.Meant.{TextMeans}
 use Rattle.snmp_oid.specs.Identifier.{IsWire, wire}
 use Rattle.snmp_wire.specs.Message.{VarBind}
@@ -11,8 +11,8 @@ use Rattle.snmp_agent.specs.declared.table.error.TableError.{TableError}
 use Rattle.snmp_agent.specs.declared.table.error.TableError.TheVariants as table_error
 use Rattle.snmp_io.specs.{Files.Holdings, Files.Holds, Files.HoldsIfKnown, Files.MayHold, Steps.AreDone, Steps.IsFirstToFail}
 use Rattle.snmp_net.specs.Address.{Address, table}
-use Rattle.snmp_tools.specs.{agent.TableFile.TableFails, Answer.CanBeSent, Answer.CanGoOn, Headline.IsAsk, Letters.Choices, Message.Fault}
-use Rattle.snmp_tools.specs.{Message.bad_table, Message.out_of_memory, loading.Files.AreModulesOf, Mib.AreLoaded, Mib.Mib, Mib.mib_of}
+use Rattle.snmp_tools.specs.{serve.TableFile.TableFails, Answer.CanBeSent, Answer.CanGoOn, Headline.IsAsk, Letters.Choices, Message.Fault}
+use Rattle.snmp_tools.specs.{Message.bad_table, Message.out_of_memory, load.Files.AreModulesOf, load.Loaded.AreLoaded}
 use Rattle.snmp_tools.specs.Asking.{AskingFails, AskingStep, HasAgent, IsNameIfGiven, ReachFails, agent_step, community_step, letters_step}
 use Rattle.snmp_tools.specs.Asking.{version_step}
 use Rattle.smi_text.specs.declared.trees.tree.Module.{Module}
@@ -46,12 +46,11 @@ abbrev pub OneTree : Type 0
 OneTree = (modules : List Module) (t u : Contents) (v w : List Warning) → IsTree modules t v → IsTree modules u w → (t ≡ u) × (v ≡ w)
 
 -- a job knows the same names, and its modules have the same warnings, where its files are known
-pub one_load : OneList → OneTree → (files : Holdings) (paths : List (List ℕ)) (a b : Mib) (v w : List Warning)
+pub one_load : OneList → OneTree → (files : Holdings) (paths : List (List ℕ)) (a b : Contents) (v w : List Warning)
     → AreLoaded (Holds files) paths a v → AreLoaded (MayHold files) paths b w → (a ≡ b) × (v ≡ w)
 one_load one_list one_tree files paths a b v w e f =
     let same : e.modules ≡ f.modules = one_list files paths e.modules f.modules e.read f.read in
-    let both = one_tree f.modules e.tree f.tree v w (subst (λ (ms : List Module). IsTree ms e.tree v) same e.loads) f.loads in
-    (e.is ∙ ap mib_of both.0 ∙ sym f.is, both.1)
+    one_tree f.modules a b v w (subst (λ (ms : List Module). IsTree ms a v) same e.loads) f.loads
 
 -- a text of letters says one thing
 pub one_reading : (text : List ℕ) (a b : Letters) → AreLetters text a → AreLetters text b → a ≡ b
@@ -65,22 +64,22 @@ no_chosen : (request : Request) (a : Choices) (octet : ℕ) → HasChosen reques
 no_chosen (get texts) a octet h k = k
 no_chosen (walk bulk letters after name) a octet h k = no_choice bulk letters a octet h k
 
-one_after : OneMeaning → (mib : Mib) (text a b : Option (List ℕ)) → IsNameIfGiven mib text a → IsNameIfGiven mib text b → a ≡ b
+one_after : OneMeaning → (mib : Contents) (text a b : Option (List ℕ)) → IsNameIfGiven mib text a → IsNameIfGiven mib text b → a ≡ b
 one_after one mib None a b e f = e ∙ sym f
-one_after one mib (Some text) a b e f = e.2 ∙ ap Some (one_name one mib.naming text e.0 f.0 e.1 f.1) ∙ sym f.2
+one_after one mib (Some text) a b e f = e.2 ∙ ap Some (one_name one mib text e.0 f.0 e.1 f.1) ∙ sym f.2
 
 -- texts state just one list of names
-pub one_names : OneMeaning → (mib : Mib) (texts a b : List (List ℕ)) → AreNames mib texts a → AreNames mib texts b → a ≡ b
+pub one_names : OneMeaning → (mib : Contents) (texts a b : List (List ℕ)) → AreNames mib texts a → AreNames mib texts b → a ≡ b
 one_names one mib [] [] [] e f = refl
 one_names one mib [] [] (y ∷ b) e f = absurd f
 one_names one mib [] (x ∷ a) b e f = absurd e
 one_names one mib (text ∷ texts) [] b e f = absurd e
 one_names one mib (text ∷ texts) (x ∷ a) [] e f = absurd f
 one_names one mib (text ∷ texts) (x ∷ a) (y ∷ b) e f =
-    ap (λ (n : List ℕ). n ∷ a) (one_name one mib.naming text x y e.0 f.0) ∙ ap (λ (ns : List (List ℕ)). y ∷ ns) (one_names one mib texts a b e.1 f.1)
+    ap (λ (n : List ℕ). n ∷ a) (one_name one mib text x y e.0 f.0) ∙ ap (λ (ns : List (List ℕ)). y ∷ ns) (one_names one mib texts a b e.1 f.1)
 
 -- a request asks for one question
-one_question : OneMeaning → (request : Request) (choices : Choices) (mib : Mib) (a b : Question) → IsQuestionOf request choices mib a → IsQuestionOf request choices mib b
+one_question : OneMeaning → (request : Request) (choices : Choices) (mib : Contents) (a b : Question) → IsQuestionOf request choices mib a → IsQuestionOf request choices mib b
     → a ≡ b
 one_question one (get texts) choices mib (names a) (names b) p q = ap names (one_names one mib texts a b p q)
 one_question one (get texts) choices mib (names a) (subtree w) p q = absurd q
@@ -88,12 +87,12 @@ one_question one (get texts) choices mib (subtree v) b p q = absurd p
 one_question one (walk bulk letters after name) choices mib (names a) b p q = absurd p
 one_question one (walk bulk letters after name) choices mib (subtree v) (names b) p q = absurd q
 one_question one (walk bulk letters after name) choices mib (subtree v) (subtree w) p q =
-    let root = one_name one mib.naming (root_text name) v.root w.root p.root q.root in
+    let root = one_name one mib (root_text name) v.root w.root p.root q.root in
     let goes_on = one_after one mib after v.after w.after p.goes_on q.goes_on in
     grind (arith, common_steps, p.mode, q.mode, p.method, q.method, p.counts, q.counts)
 
 -- words and names ask for one plan: each field is stated by one of its clauses
-pub one_plan : OneMeaning → (words : AskWords) (mib : Mib) (p q : Plan) → AskFor words mib p → AskFor words mib q → HasAgent words.asking.agent q.agent → p ≡ q
+pub one_plan : OneMeaning → (words : AskWords) (mib : Contents) (p q : Plan) → AskFor words mib p → AskFor words mib q → HasAgent words.asking.agent q.agent → p ≡ q
 one_plan one words mib p q a b only = grind (arith, common_steps, one_chosen, one_question, one_reading)
 
 -- a fault whose message says that memory ran out
@@ -107,11 +106,11 @@ module _ (one : OneMeaning)
   agent_is : (agent : Address) → HasAgent words.asking.agent agent → agent ≡ table ask.path
   agent_is agent has = sym (has.1 ask.plan.agent ask.asked.agent) ∙ ask.over
 
-  table_want_only : TableFails files ask.mib.naming ask.path why → IsWant why
+  table_want_only : TableFails files ask.mib ask.path why → IsWant why
   table_want_only (inl f) = absurd (is_readable ask.text (files ask.path) ask.held f.0)
   table_want_only (inr f) =
       let same : f.2 ≡ ask.text = held_is (files ask.path) f.2 ask.text f.4 ask.held in
-      let names : f.0 ≡ ask.names = one_look_up ask.mib.naming f.0 ask.names f.1 ask.named in
+      let names : f.0 ≡ ask.names = one_look_up ask.mib f.0 ask.names f.1 ask.named in
       let memory : f.3 ≡ table_error.Memory =
       no_fault ask.names (lines ask.text) ask.view f.3 ask.table
       (subst (λ (n : Names). IsFirstFault n (lines ask.text) f.3) names (subst (λ (t : List ℕ). IsFirstFault f.0 (lines t) f.3) same f.5)) in
@@ -134,18 +133,18 @@ module _ (one : OneMeaning)
   Wants step = FailsBy words files ask.mib step why → IsWant why
 
   -- names mean what they mean to the question
-  name_want : (text o : List ℕ) → TextMeans ask.mib.naming text (Ok o) → Wants (name_step text)
-  name_want text o means f = absurd (no_name one ask.mib.naming text o f.0 means f.1)
+  name_want : (text o : List ℕ) → TextMeans ask.mib text (Ok o) → Wants (name_step text)
+  name_want text o means f = absurd (no_name one ask.mib text o f.0 means f.1)
 
-  sent_want : (text o : List ℕ) → TextMeans ask.mib.naming text (Ok o) → IsWire (wire o) → Wants (sent_step text)
+  sent_want : (text o : List ℕ) → TextMeans ask.mib text (Ok o) → IsWire (wire o) → Wants (sent_step text)
   sent_want text o means sent f =
-      absurd (f.2 (subst (λ (n : List ℕ). IsWire (wire n)) (one_name one ask.mib.naming text o f.0 means f.1) sent))
+      absurd (f.2 (subst (λ (n : List ℕ). IsWire (wire n)) (one_name one ask.mib text o f.0 means f.1) sent))
 
-  below_want : (root_text text root o : List ℕ) → TextMeans ask.mib.naming root_text (Ok root) → TextMeans ask.mib.naming text (Ok o) → IsAtOrBelow o root
+  below_want : (root_text text root o : List ℕ) → TextMeans ask.mib root_text (Ok root) → TextMeans ask.mib text (Ok o) → IsAtOrBelow o root
       → Wants (below_step root_text text)
   below_want root_text text root o root_means means at f =
-      absurd (f.4.0 (subst (λ (a : List ℕ). IsAtOrBelow a f.0) (one_name one ask.mib.naming text o f.1 means f.3)
-      (subst (IsAtOrBelow o) (one_name one ask.mib.naming root_text root f.0 root_means f.2) at)))
+      absurd (f.4.0 (subst (λ (a : List ℕ). IsAtOrBelow a f.0) (one_name one ask.mib text o f.1 means f.3)
+      (subst (IsAtOrBelow o) (one_name one ask.mib root_text root f.0 root_means f.2) at)))
 
   all_named : (texts os : List (List ℕ)) → AreNames ask.mib texts os → AreDone Wants (map name_step texts)
   all_named [] os e = tt
@@ -162,7 +161,7 @@ module _ (one : OneMeaning)
   after_named None planned h = tt
   after_named (Some text) planned h = (name_want text h.0 h.1, tt)
 
-  after_sent : (text root : List ℕ) (given planned : Option (List ℕ)) → TextMeans ask.mib.naming text (Ok root) → IsNameIfGiven ask.mib given planned
+  after_sent : (text root : List ℕ) (given planned : Option (List ℕ)) → TextMeans ask.mib text (Ok root) → IsNameIfGiven ask.mib given planned
       → CanGoOn root planned → AreDone Wants (goes_on_after (λ t. below_step text t ∷ sent_step t ∷ []) given)
   after_sent text root None planned means h can = tt
   after_sent text root (Some t) planned means h can =

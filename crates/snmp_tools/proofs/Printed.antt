@@ -1,22 +1,23 @@
 -- What a printer writes of the rows that it is given.
 use Rattle.std.proofs.Common.{arith, ◌≡◌, ◌++◌, ℕ, List, [], ◌∷◌, Result, Ok, Err, sym, refl, ◌∙◌, ap, subst, append-nil, append_assoc}
 use Rattle.std.proofs.lemmas.Grind.{common_steps}
-use Rattle.smi_value.specs.declared.letters.letters.Letters.{Letters}
+use Rattle.smi_value.specs.declared.letters.Letters.{Letters}
 use Rattle.snmp_wire.specs.Message.{VarBind}
 use Rattle.snmp_walk.specs.{declared.end.SinkFault.SinkFault, declared.end.WalkEnd.WalkEnd, Ran.IsRun, Sink.Given, Sink.Refused, Sink.Took}
 use Rattle.snmp_walk.specs.declared.end.SinkFault.TheVariants as fault
 use Rattle.snmp_walk.specs.declared.end.WalkEnd.TheVariants as ending
 use Rattle.snmp_io.specs.{Output.Stream, Output.extended, Streams.extended-nil, Streams.extended-twice}
-use Rattle.snmp_tools.specs.{Lines.AreLines, Lines.ArePrinted, Lines.IsPrintedUpTo, Lines.TakesLine, Mib.Mib}
+use Rattle.snmp_tools.specs.{Lines.AreLines, Lines.ArePrinted, Lines.IsPrintedUpTo, Lines.TakesLine}
+use Rattle.smi_tree.specs.{Tree.Contents}
 
-pub lines_of_both : (mib : Mib) (letters : Letters) (rows more : List VarBind) (a b : List ℕ) → AreLines mib letters rows a → AreLines mib letters more b
+pub lines_of_both : (mib : Contents) (letters : Letters) (rows more : List VarBind) (a b : List ℕ) → AreLines mib letters rows a → AreLines mib letters more b
     → AreLines mib letters (rows ++ more) (a ++ b)
 lines_of_both mib letters [] more a b h k = subst (λ (t : List ℕ). AreLines mib letters more (t ++ b)) (sym h) k
 lines_of_both mib letters (row ∷ rows) more a b h k =
     (h.0, h.1 ++ b, h.2, lines_of_both mib letters rows more h.1 b h.3 k, ap (λ (t : List ℕ). t ++ b) h.4 ∙ append_assoc h.0 h.1 b)
 
 -- a sink that stays what it is, and whose states are seen as what is known of an output
-module _ {S : Type 0} (takes : S → VarBind → Result (Unit {0}) SinkFault → S → Type 0) (stream : S → Stream) (Is : S → Type 0) (mib : Mib) (letters : Letters)
+module _ {S : Type 0} (takes : S → VarBind → Result (Unit {0}) SinkFault → S → Type 0) (stream : S → Stream) (Is : S → Type 0) (mib : Contents) (letters : Letters)
     (stays : (old new : S) (binding : VarBind) (result : Result (Unit {0}) SinkFault) → Is old → takes old binding result new → Is new)
     (writes : (old new : S) (binding : VarBind) (result : Result (Unit {0}) SinkFault) → Is old → takes old binding result new
     → TakesLine mib letters (stream old) binding result (stream new)) where
@@ -49,7 +50,7 @@ module _ {S : Type 0} (takes : S → VarBind → Result (Unit {0}) SinkFault →
   printed_up_to old new rows turned why is h = printed old new rows is h.0
 
 -- a printer: it keeps its tree, its letters and its output
-module _ {S R N : Type 0} (tree : S → R) (letters : S → Letters) (name : S → N) (stream : S → Stream) (mib : R → Mib) where
+module _ {S R N : Type 0} (tree : S → R) (letters : S → Letters) (name : S → N) (stream : S → Stream) (mib : R → Contents) where
   abbrev pub prints : S → VarBind → Result (Unit {0}) SinkFault → S → Type 0
   prints old binding result new =
       (tree new ≡ tree old) × (letters new ≡ letters old) × (name new ≡ name old)

@@ -1,12 +1,12 @@
 -- Why nothing is printed.
 use Rattle.std.proofs.Common.{arith, ◌≡◌, ◌⊎◌, inl, inr, refl, ℕ, Some, None}
 use Rattle.std.proofs.lemmas.Grind.{common_steps}
-use Rattle.smi_value.specs.letters.Letters.{first_other}
+use Rattle.smi_value.specs.Letters.{first_other}
 use Rattle.snmp_io.specs.Files.{Holdings}
 use Rattle.snmp_words.specs.Words.{TranslateWords}
-use Rattle.snmp_tools.specs.{Asking.MibsFail, Message.Fault, Message.bad_letter, Message.out_of_memory, declared.translation.style.Style.Style}
-use Rattle.snmp_tools.specs.translation.Refusal.{IsTranslateRefusal, TranslationFails, details_step, letters_step}
-use Rattle.snmp_tools.specs.translation.Style.{IsStyleOf, first_other_of_t}
+use Rattle.snmp_tools.specs.{Asking.MibsFail, Message.Fault, Message.bad_letter, Message.out_of_memory, declared.translate.Style.Style}
+use Rattle.snmp_tools.specs.translate.Refusal.{IsTranslateRefusal, TranslationFails, details_step, letters_step}
+use Rattle.snmp_tools.specs.translate.Style.{IsStyleOf, first_other_of_t}
 use Rattle.snmp_tools.proofs.Steps.{first, later}
 
 pub letters_fail : (words : TranslateWords) (files : Holdings) (octet : ℕ) → first_other words.letters ≡ Some octet

@@ -3,12 +3,13 @@ use Rattle.std.proofs.Common.{arith, ◌≡◌, ◌∙◌, ◌++◌, ◌⊎◌, 
 use Rattle.std.proofs.Common.{subst, sym, append-nil, append_assoc}
 use Rattle.std.proofs.lemmas.Grind.{common_steps}
 use Rattle.std.specs.Result.{is_err}
-use Rattle.smi_value.specs.declared.letters.letters.Letters.{Letters}
+use Rattle.smi_value.specs.declared.letters.Letters.{Letters}
 use Rattle.snmp_wire.specs.Message.{VarBind}
 use Rattle.snmp_walk.specs.{declared.end.SinkFault.SinkFault, Sink.Given}
 use Rattle.snmp_walk.specs.declared.end.SinkFault.TheVariants as fault
 use Rattle.snmp_io.specs.{Streams.appended-twice, Streams.extended-twice, Output.FailsWithin, Output.Stream, Output.appended, Output.extended}
-use Rattle.snmp_tools.specs.{Lines.AreLines, Lines.IsLineOf, Mib.Mib}
+use Rattle.snmp_tools.specs.{Lines.AreLines, Lines.IsLineOf}
+use Rattle.smi_tree.specs.{Tree.Contents}
 use Rattle.snmp_tools.proofs.Printed.{lines_of_both, prints}
 
 -- a front of two texts ends within the first or takes the whole of it
@@ -42,7 +43,7 @@ fails_in_one before after a b f =
 
 -- the line of one more, by what is the tree and are the letters from the start: lines of a list are
 -- those of its first part and of its last
-pub next_line : {R : Type 0} (mib : R → Mib) (tree first : R) (letters from : Letters) (rows : List VarBind) (p : VarBind) (text line all : List ℕ)
+pub next_line : {R : Type 0} (mib : R → Contents) (tree first : R) (letters from : Letters) (rows : List VarBind) (p : VarBind) (text line all : List ℕ)
     → tree ≡ first → letters ≡ from → AreLines (mib first) from rows text → IsLineOf (mib tree) letters p line → all ≡ text ++ line
     → AreLines (mib first) from (rows ++ p ∷ []) all
 next_line {R} mib tree first letters from rows p text line all same_tree same_letters lines is e = grind (arith, common_steps, lines_of_both, append-nil)
@@ -58,7 +59,7 @@ at_err (Ok done) e h = let no : ⊥ = cc in absurd no
 at_err (Err why) e h = h
 
 -- a printer, which has a state after each text
-module _ {S R N : Type 0} (tree : S → R) (letters : S → Letters) (name : S → N) (stream : S → Stream) (mib : R → Mib)
+module _ {S R N : Type 0} (tree : S → R) (letters : S → Letters) (name : S → N) (stream : S → Stream) (mib : R → Contents)
     (later : S → List ℕ → S)
     (same : (s : S) (text : List ℕ) → (tree (later s text) ≡ tree s) × (letters (later s text) ≡ letters s) × (name (later s text) ≡ name s))
     (reaches : (s : S) (text : List ℕ) → stream (later s text) ≡ extended (stream s) text) where

@@ -4,13 +4,15 @@ use Rattle.std.proofs.{lemmas.Grind.common_steps, lemmas.Bool.and_parts}
 use Rattle.std.specs.{Prelude.codes, Prelude.if◌then◌else◌, Prelude.decimal, Fmt.signed_decimal, List.flat_map, List.list_all}
 use Rattle.snmp_oid.specs.Numeric.{numeric_text}
 use Rattle.snmp_wire.specs.Message.{Datum, VarBind, integer_value, octet_string, object_id, counter32, gauge32, time_ticks, counter64}
-use Rattle.smi_value.specs.{declared.letters.letters.Letters.Letters, letters.Letters.AreLetters, Pieces.dotted, Pieces.quoted, Value.ShowsValue}
-use Rattle.smi_value.specs.declared.letters.letters.NameForm.TheVariants as names
-use Rattle.smi_value.specs.declared.letters.letters.TypeForm.TheVariants as types
-use Rattle.smi_value.specs.declared.letters.letters.StringForm.TheVariants as strings
+use Rattle.smi_value.specs.{declared.letters.Letters.Letters, Letters.AreLetters, Pieces.dotted, Pieces.quoted, Value.ShowsValue}
+use Rattle.smi_value.specs.declared.letters.NameForm.TheVariants as names
+use Rattle.smi_value.specs.declared.letters.TypeForm.TheVariants as types
+use Rattle.smi_value.specs.declared.letters.StringForm.TheVariants as strings
 use Rattle.smi_value.specs.Pieces as pieces
 use Rattle.smi_value.specs.Texts.{escaped, hexadecimal_text, is_printable}
-use Rattle.snmp_tools.specs.{Lines.AreLines, Lines.IsLineOf, Mib.Mib, RowText.row_line, RowText.string_text, RowText.value_text}
+use Rattle.snmp_tools.specs.{Lines.AreLines, Lines.IsLineOf, RowText.row_line, RowText.string_text, RowText.value_text}
+use Rattle.smi_tree.specs.{Tree.Contents}
+use Rattle.smi_tree.specs.{Naming.nearest_syntax}
 
 -- what `-On` says of lines
 abbrev pub numeric_letters : Letters
@@ -29,8 +31,8 @@ pub numeric_are : AreLetters (codes "n") numeric_letters
 numeric_are = record { n_f_s_S = refl; q_Q = refl; x_a = refl; v = refl; e = refl; t = refl; b = refl; U = refl }
 
 -- no object has a syntax
-abbrev pub HasNoSyntax : Mib → Type 0
-HasNoSyntax mib = (o : List ℕ) → mib.syntax_at o ≡ None
+abbrev pub HasNoSyntax : Contents → Type 0
+HasNoSyntax mib = (o : List ℕ) → nearest_syntax mib o ≡ None
 
 -- ---- strings
 
@@ -69,10 +71,10 @@ value_is names same value text shows = shows
 -- ---- lines
 
 -- without a syntax both parts of a line are the stated ones: the name in numbers, and the value
-line_is : (mib : Mib) → HasNoSyntax mib → (row : VarBind) (line : List ℕ) → IsLineOf mib numeric_letters row line → line ≡ row_line row
+line_is : (mib : Contents) → HasNoSyntax mib → (row : VarBind) (line : List ℕ) → IsLineOf mib numeric_letters row line → line ≡ row_line row
 line_is mib none row line is = grind (arith, common_steps, value_is)
 
-pub lines_are : (mib : Mib) → HasNoSyntax mib → (rows : List VarBind) (text : List ℕ) → AreLines mib numeric_letters rows text
+pub lines_are : (mib : Contents) → HasNoSyntax mib → (rows : List VarBind) (text : List ℕ) → AreLines mib numeric_letters rows text
     → text ≡ flat_map row_line rows
 lines_are mib none [] text are = are
 lines_are mib none (row ∷ more) text (line, rest, is, are, whole) =

@@ -3,12 +3,11 @@ use Rattle.std.proofs.Common.{arith, ◌≡◌, ◌⊎◌, ◌<◌, ◌≤◌, �
 use Rattle.std.proofs.lemmas.Grind.{common_steps}
 use Rattle.snmp_agent.specs.{Reply.Agent, declared.server.Served.Served, table.Table.MibView}
 use Rattle.snmp_io.specs.{Files.Holdings, Output.Stream, Output.extended}
-use Rattle.snmp_net.specs.{Address.IsHostAndPort, declared.links.Links.Ghosts as Network}
-use Rattle.smi_show.specs.name.Naming.{Naming}
+use Rattle.snmp_net.specs.Address.{IsHostAndPort}
 use Rattle.snmp_words.specs.Words.{ServeWords}
-use Rattle.snmp_tools.specs.agent.Outcome.{IsServedAndCounted, IsServedBy, counts_line, listening_line}
-use Rattle.snmp_tools.specs.agent.Service.{IsServeRefusal, ServiceFails, community_step, place_step}
-use Rattle.snmp_tools.specs.{Asking.MibsFail, Lines.IsTextPrinted, Seen.Seen}
+use Rattle.snmp_tools.specs.serve.Outcome.{IsServedAndCounted, counts_line, listening_line}
+use Rattle.snmp_tools.specs.serve.Service.{IsServeRefusal, ServiceFails, community_step, place_step}
+use Rattle.snmp_tools.specs.{Asking.MibsFail, Lines.IsTextPrinted}
 use Rattle.snmp_tools.specs.Message.{Fault, bad_agent, long_community, out_of_memory}
 use Rattle.snmp_tools.proofs.Steps.{first, later}
 
@@ -32,9 +31,3 @@ pub counted : (Serves : Agent → ℕ → Served → Type 0) (words : ServeWords
     → middle ≡ extended before (listening_line words.listen) → IsTextPrinted middle (counts_line served) after fault
     → IsServedAndCounted Serves words view (extended before (listening_line words.listen)) after fault
 counted Serves words view before middle after community served fault same serves adds_up is printed = grind (arith, common_steps)
-
--- the same by nodes that are the same
-pub by_names : {N V D : Type 0} (net : Network N V D) (words : ServeWords) (host : List ℕ) (port : ℕ) (a b : Naming) (before after : Seen N)
-    (fault : Option Fault) → a ≡ b → IsServedBy net words host port a before after fault → IsServedBy net words host port b before after fault
-by_names net words host port a b before after fault same by =
-    subst (λ (n : Naming). IsServedBy net words host port n before after fault) same by

@@ -9,7 +9,7 @@ use Rattle.snmp_net.specs.Address.{Address, address_of}
 use Rattle.snmp_words.specs.Words.{texts_at}
 use Rattle.snmp_tools.specs.Asking.{HasAgent, IsNameIfGiven, IsReached, MibsFail, NameFails, ReachFails, agent_step, community_step, letters_step}
 use Rattle.snmp_tools.specs.Asking.{version_step}
-use Rattle.snmp_tools.specs.{private.Chosen.chosen, Letters.Choices, Message.Fault, Message.out_of_memory, Message.unsendable, Mib.IsMibOf, Mib.Mib}
+use Rattle.snmp_tools.specs.{private.Chosen.chosen, Letters.Choices, Message.Fault, Message.out_of_memory, Message.unsendable, load.Loaded.IsMibOf}
 use Rattle.snmp_tools.specs.{private.Start.BeginFails, private.Start.ResumeFails, declared.plan.Orders.Orders, declared.plan.Plan.Plan}
 use Rattle.snmp_tools.specs.private.Planned.{AgentFails, AreOrdersOf, HasTextsOf, NamesFail, ShowingFails, plan_of, question_of}
 use Rattle.snmp_tools.specs.Question.{AreNames, AskFor, AskWords, FailsBy, FailsFor, HasMeaning, HasSendable, HasUnsendable, IsDoneBy, IsDoneFor}
@@ -18,6 +18,7 @@ use Rattle.snmp_tools.specs.Question.{names, subtree, walk, asking, below_step, 
 use Rattle.snmp_tools.specs.Question.{name_steps, reach_step, reaching_steps, root_text, sent_step, sent_steps}
 use Rattle.snmp_tools.specs.declared.plan.Question as planned
 use Rattle.snmp_tools.specs.declared.plan.Question.TheVariants as questions
+use Rattle.smi_tree.specs.{Tree.Contents}
 use Rattle.snmp_tools.proofs.Texts.{texts-more, texts-parts}
 
 -- the text of a reference that may be there, or another's
@@ -73,21 +74,21 @@ module _ {S T : Type 0} (f : S → T) where
     }
 
 -- texts that state names are done
-pub are_named : (mib : Mib) (texts os : List (List ℕ)) → AreNames mib texts os → AreDone (HasMeaning mib) texts
+pub are_named : (mib : Contents) (texts os : List (List ℕ)) → AreNames mib texts os → AreDone (HasMeaning mib) texts
 are_named mib [] os e = tt
 are_named mib (text ∷ texts) [] e = absurd e
 are_named mib (text ∷ texts) (name ∷ os) e = ((name, e.0), are_named mib texts os e.1)
 
 -- one more text that states a name
-pub more_names : (mib : Mib) (texts : List (Bor (List ℕ))) (i : ℕ) (d : Bor (List ℕ)) (os : List (List ℕ)) (o : List ℕ) → i < length texts
-    → AreNames mib (texts_at (take i texts)) os → TextMeans mib.naming (get_or texts i d).now (Ok o)
+pub more_names : (mib : Contents) (texts : List (Bor (List ℕ))) (i : ℕ) (d : Bor (List ℕ)) (os : List (List ℕ)) (o : List ℕ) → i < length texts
+    → AreNames mib (texts_at (take i texts)) os → TextMeans mib (get_or texts i d).now (Ok o)
     → AreNames mib (texts_at (take (i + 1) texts)) (os ++ o ∷ [])
 more_names mib texts i d os o inside are means = grind (arith, common_steps, texts-more, AllZip-push)
 
 -- the first text that states none
-pub first_unnamed : (mib : Mib) (texts : List (Bor (List ℕ))) (i : ℕ) (d : Bor (List ℕ)) (os : List (List ℕ)) (why : Fault) → i < length texts
-    → AreNames mib (texts_at (take i texts)) os → NameFails mib.naming (get_or texts i d).now why
-    → IsFirstToFail (texts_at texts) (HasMeaning mib) (NameFails mib.naming) why
+pub first_unnamed : (mib : Contents) (texts : List (Bor (List ℕ))) (i : ℕ) (d : Bor (List ℕ)) (os : List (List ℕ)) (why : Fault) → i < length texts
+    → AreNames mib (texts_at (take i texts)) os → NameFails mib (get_or texts i d).now why
+    → IsFirstToFail (texts_at texts) (HasMeaning mib) (NameFails mib) why
 first_unnamed mib texts i d os why inside are fails = record {
   done = texts_at (take i texts);
   failed = (get_or texts i d).now;
@@ -98,7 +99,7 @@ first_unnamed mib texts i d os why inside are fails = record {
 }
 
 -- the name that can't be sent is the first
-pub first_unsent : (mib : Mib) (texts : List (Bor (List ℕ))) (os : List (List ℕ)) (i : ℕ) (text d : Bor (List ℕ)) (o e : List ℕ)
+pub first_unsent : (mib : Contents) (texts : List (Bor (List ℕ))) (os : List (List ℕ)) (i : ℕ) (text d : Bor (List ℕ)) (o e : List ℕ)
     → AreNames mib (texts_at texts) os → i < length os → text ≡ get_or texts i d → o ≡ get_or os i e
     → All (λ n. IsWire (wire n)) (take i os) → (IsWire (wire o) → ⊥)
     → IsFirstToFail (texts_at texts) (HasSendable mib) (HasUnsendable mib) (unsendable text.now)
@@ -143,7 +144,7 @@ module _ (words : AskWords) (files : Holdings) (why : Fault) where
         inr (shown are.version (orders.letters, are.letters) _ (later Done Fails why choices_step _ (chosen orders.choices, are.chosen)
         (later Done Fails why (asking community_step) _ are.short_community (later Done Fails why (asking agent_step) _ (address_of orders.agent, are.agent) (first Done Fails why mibs_step _ f)))))
 
-    module _ (mib : Mib) (known : IsMibOf (MayHold files) words.asking mib) where
+    module _ (mib : Contents) (known : IsMibOf (MayHold files) words.asking mib) where
       loading_done : AreDone Done loading_steps
       loading_done = (
         are.version,
@@ -175,7 +176,7 @@ module _ (words : AskWords) (files : Holdings) (why : Fault) where
       at_names : (request : Request) → NamesFail request mib why → (why ≡ out_of_memory) ⊎ RefusedBy (name_steps request)
       at_names (get texts) (inl e) = inl e
       at_names (get texts) (inr h) =
-          inr (mapped name_step (HasMeaning mib) DoneBy (λ text d. d) (NameFails mib.naming) FailsLater why (λ text f. f) texts h)
+          inr (mapped name_step (HasMeaning mib) DoneBy (λ text d. d) (NameFails mib) FailsLater why (λ text f. f) texts h)
       at_names (walk bulk letters after name) (inl f) = inr (first DoneBy FailsLater why (name_step (root_text name)) _ f)
       at_names (walk bulk letters after name) (inr f) =
           let rest : RefusedBy (name_step f.1.0 ∷ []) = first DoneBy FailsLater why (name_step f.1.0) [] f.1.2 in
@@ -202,16 +203,16 @@ module _ (words : AskWords) (files : Holdings) (why : Fault) where
 
       -- the name to go on after isn't below the root, or can't be sent
       resumed : (root after : List ℕ) (text : List ℕ) (given planned : Option (List ℕ)) → IsNameIfGiven mib given planned → planned ≡ Some after
-          → TextMeans mib.naming text (Ok root) → ResumeFails root after (unwrap_or given []) why
+          → TextMeans mib text (Ok root) → ResumeFails root after (unwrap_or given []) why
           → RefusedBy (goes_on_after (λ t. below_step text t ∷ sent_step t ∷ []) given)
       resumed root after text None planned h e means f = let no : ⊥ = cc in absurd no
       resumed root after text (Some t) planned h e means (inl f) =
           let same : h.0 ≡ after = cc in
-          first DoneBy FailsLater why (below_step text t) _ (root, after, means, subst (λ (n : List ℕ). TextMeans mib.naming t (Ok n)) same h.1, (f.0, f.1))
+          first DoneBy FailsLater why (below_step text t) _ (root, after, means, subst (λ (n : List ℕ). TextMeans mib t (Ok n)) same h.1, (f.0, f.1))
       resumed root after text (Some t) planned h e means (inr f) =
           let same : h.0 ≡ after = cc in
-          later DoneBy FailsLater why (below_step text t) _ (root, after, means, subst (λ (n : List ℕ). TextMeans mib.naming t (Ok n)) same h.1, f.0)
-          (first DoneBy FailsLater why (sent_step t) [] (after, subst (λ (n : List ℕ). TextMeans mib.naming t (Ok n)) same h.1, f.1, f.2))
+          later DoneBy FailsLater why (below_step text t) _ (root, after, means, subst (λ (n : List ℕ). TextMeans mib t (Ok n)) same h.1, f.0)
+          (first DoneBy FailsLater why (sent_step t) [] (after, subst (λ (n : List ℕ). TextMeans mib t (Ok n)) same h.1, f.1, f.2))
 
       at_sent : (request : Request) (choices : Choices) (question : planned.Question) → IsQuestionOf request choices mib (question_of question)
           → HasTextsOf request question → BeginFails question why → RefusedBy (sent_steps request)

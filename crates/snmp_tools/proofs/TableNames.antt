@@ -3,54 +3,55 @@ use Rattle.std.proofs.Common.{◌≡◌, ◌∙◌, ℕ, List, Option, Some, Non
 use Rattle.std.specs.Result.{result_ok}
 use Rattle.snmp_oid.specs.Identifier.{IsIdentifier}
 use Rattle.snmp_agent.specs.table.Format.{IsFrontRead, Names, bar, names_by, numeric_names}
-use Rattle.smi_show.specs.{name.Meaning.meaning, name.Meant.FrontMeans, name.Meant.TextMeans, name.Naming.Naming}
+use Rattle.smi_show.specs.{name.Meaning.meaning, name.Meant.FrontMeans, name.Meant.TextMeans}
 use Rattle.smi_show.specs.declared.name.error.NameError.{NameError}
-use Rattle.snmp_tools.specs.{private.Resolved.names_in, agent.TableFile.AreNamesIn}
+use Rattle.snmp_tools.specs.{private.Resolved.names_in, serve.TableFile.AreNamesIn}
+use Rattle.smi_tree.specs.{Tree.Contents}
 
 -- a text means one thing
 abbrev pub OneMeaning : Type 0
-OneMeaning = (naming : Naming) (text : List ℕ) (a b : Result (List ℕ) NameError) → TextMeans naming text a → TextMeans naming text b → a ≡ b
+OneMeaning = (tree : Contents) (text : List ℕ) (a b : Result (List ℕ) NameError) → TextMeans tree text a → TextMeans tree text b → a ≡ b
 
-pub one_name : OneMeaning → (naming : Naming) (text a b : List ℕ) → TextMeans naming text (Ok a) → TextMeans naming text (Ok b) → a ≡ b
-one_name one naming text a b h k = let same = one naming text (Ok a) (Ok b) h k in cc
+pub one_name : OneMeaning → (tree : Contents) (text a b : List ℕ) → TextMeans tree text (Ok a) → TextMeans tree text (Ok b) → a ≡ b
+one_name one tree text a b h k = let same = one tree text (Ok a) (Ok b) h k in cc
 
-pub no_name : OneMeaning → (naming : Naming) (text a : List ℕ) (error : NameError) → TextMeans naming text (Ok a) → TextMeans naming text (Err error) → ⊥
-no_name one naming text a error h k = let same = one naming text (Ok a) (Err error) h k in cc
+pub no_name : OneMeaning → (tree : Contents) (text a : List ℕ) (error : NameError) → TextMeans tree text (Ok a) → TextMeans tree text (Err error) → ⊥
+no_name one tree text a error h k = let same = one tree text (Ok a) (Err error) h k in cc
 
 -- a look-up that gives the same names is the same
-pub one_look_up : (naming : Naming) (a b : Names) → AreNamesIn naming a → AreNamesIn naming b → a ≡ b
-one_look_up naming numeric_names b h k = absurd h
-one_look_up naming (names_by f) numeric_names h k = absurd k
-one_look_up naming (names_by f) (names_by g) h k = ap names_by (λ i text. same text (f text) (g text) refl refl i)
+pub one_look_up : (tree : Contents) (a b : Names) → AreNamesIn tree a → AreNamesIn tree b → a ≡ b
+one_look_up tree numeric_names b h k = absurd h
+one_look_up tree (names_by f) numeric_names h k = absurd k
+one_look_up tree (names_by f) (names_by g) h k = ap names_by (λ i text. same text (f text) (g text) refl refl i)
   where
     same : (text : List ℕ) (x y : Option (List ℕ)) → f text ≡ x → g text ≡ y → f text ≡ g text
     same text (Some o) y e d = e ∙ sym ((k text o).1 ((h text o).0 e))
     same text None None e d = e ∙ sym d
     same text None (Some o) e d = let other = (h text o).1 ((k text o).0 d) in let no : ⊥ = cc in absurd no
 
-pub names_are_meant : ((naming : Naming) (text : List ℕ) → TextMeans naming text (meaning naming text)) → OneMeaning
-    → (naming : Naming) → AreNamesIn naming (names_in naming)
-names_are_meant found one naming text o =
-    (at (meaning naming text) (found naming text), λ h. ap result_ok (one naming text (meaning naming text) (Ok o) (found naming text) h))
+pub names_are_meant : ((tree : Contents) (text : List ℕ) → TextMeans tree text (meaning tree text)) → OneMeaning
+    → (tree : Contents) → AreNamesIn tree (names_in tree)
+names_are_meant found one tree text o =
+    (at (meaning tree text) (found tree text), λ h. ap result_ok (one tree text (meaning tree text) (Ok o) (found tree text) h))
   where
-    at : (read : Result (List ℕ) NameError) → TextMeans naming text read → result_ok read ≡ Some o → TextMeans naming text (Ok o)
-    at (Ok p) h e = let same : p ≡ o = cc in subst (λ (n : List ℕ). TextMeans naming text (Ok n)) same h
+    at : (read : Result (List ℕ) NameError) → TextMeans tree text read → result_ok read ≡ Some o → TextMeans tree text (Ok o)
+    at (Ok p) h e = let same : p ≡ o = cc in subst (λ (n : List ℕ). TextMeans tree text (Ok n)) same h
     at (Err why) h e = let no : ⊥ = cc in absurd no
 
-module _ (one : OneMeaning) (naming : Naming) (meant : AreNamesIn naming (names_in naming)) where
-  pub front_named : (text o : List ℕ) (size : ℕ) → IsIdentifier o → FrontMeans naming bar text (Ok (o, size))
-      → IsFrontRead (names_in naming) text (Some (o, size))
+module _ (one : OneMeaning) (tree : Contents) (meant : AreNamesIn tree (names_in tree)) where
+  pub front_named : (text o : List ℕ) (size : ℕ) → IsIdentifier o → FrontMeans tree bar text (Ok (o, size))
+      → IsFrontRead (names_in tree) text (Some (o, size))
   front_named text o size is h = record {
     front = h.0;
     place = h.1;
-    named = (((meant h.0 o).1 h.2, is), λ p k. one_name one naming h.0 p o ((meant h.0 p).0 k.0) h.2);
+    named = (((meant h.0 o).1 h.2, is), λ p k. one_name one tree h.0 p o ((meant h.0 p).0 k.0) h.2);
     size = h.3;
   }
 
-  pub front_unnamed : (text : List ℕ) (why : NameError) → FrontMeans naming bar text (Err why) → IsFrontRead (names_in naming) text None
+  pub front_unnamed : (text : List ℕ) (why : NameError) → FrontMeans tree bar text (Err why) → IsFrontRead (names_in tree) text None
   front_unnamed text why h = record {
     front = h.0;
     place = h.1;
-    named = λ p k. no_name one naming h.0 p why ((meant h.0 p).0 k.0) h.2;
+    named = λ p k. no_name one tree h.0 p why ((meant h.0 p).0 k.0) h.2;
     size = tt;
   }

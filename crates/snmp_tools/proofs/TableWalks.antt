@@ -15,19 +15,20 @@ use Rattle.snmp_walk.specs.{Link.Agents, Link.OneOf, Ordered.AreOrdered, Room.Ha
 use Rattle.snmp_walk.specs.Walk.{or_only, rest_of, rows_below}
 use Rattle.snmp_walk.specs.declared.mode.Method.TheVariants as method
 use Rattle.snmp_walk.specs.declared.mode.Mode.TheVariants as mode
-use Rattle.smi_show.specs.{name.Meant.TextMeans, name.Naming.Naming}
+use Rattle.smi_show.specs.{name.Meant.TextMeans}
 use Rattle.smi_tree.specs.{Bare.bare, Tree.IsTree}
 use Rattle.snmp_io.specs.{Files.Holdings, Count.HasRisen, Output.IsWritten, Output.Stream, Output.TakesFront, Output.extended, Streams.extended-nil}
 use Rattle.snmp_net.specs.Address.{Address, IsAgent, udp, table as table_at}
 use Rattle.snmp_words.specs.Words.{ServeWords, StateJob, WalkWords, snmpd, walk_line}
-use Rattle.snmp_tools.specs.{private.Resolved.names_in, agent.TableFile.AreNamesIn, Headline.IsAsk, Headline.IsMishap, Headline.WritesRowsOf}
-use Rattle.snmp_tools.specs.{Lines.AreLines, Mib.Mib, private.Planned.numeric_walk, RowText.row_line, Letters.HaveChosen, Letters.no_choices}
+use Rattle.snmp_tools.specs.{private.Resolved.names_in, serve.TableFile.AreNamesIn, Headline.IsAsk, Headline.IsMishap, Headline.WritesRowsOf}
+use Rattle.snmp_tools.specs.{Lines.AreLines, private.Planned.numeric_walk, RowText.row_line, Letters.HaveChosen, Letters.no_choices}
 use Rattle.snmp_tools.specs.{Answer.IsFeasible, Answer.agent_over, Answer.first_of, Asking.AreShown, Asking.IsNameIfGiven}
 use Rattle.snmp_tools.specs.Question.{AskFor, Plan, Walk, of_walk, root_text, subtree}
 use Rattle.snmp_tools.specs.BothEnds.{IsAskInNumbers, IsWalkInNumbers}
 use Rattle.snmp_tools.specs.TableWalk as page
 use Rattle.snmp_tools.specs.TableWalk.{AreRowsBelow, AreWalked, HoldsTableFile, IsGot, PrintsRows, table_walk}
 use Rattle.snmp_tools.proofs.BareNames.{bare_has_no_syntax, bare_is_loaded, bare_mib}
+use Rattle.smi_tree.specs.{Tree.Contents}
 use Rattle.snmp_tools.proofs.RowLines.{HasNoSyntax, lines_are, numeric_are, numeric_letters}
 
 -- ---- the words
@@ -58,7 +59,7 @@ file_plan path root = walk_plan (numeric_walk path root) root (table_at path)
 
 -- an identifier in numbers means itself
 abbrev pub NumbersAreRead : Type 0
-NumbersAreRead = (naming : Naming) (o : List ℕ) → IsIdentifier o → TextMeans naming (numeric_text o) (Ok o)
+NumbersAreRead = (tree : Contents) (o : List ℕ) → IsIdentifier o → TextMeans tree (numeric_text o) (Ok o)
 
 -- no letters of -C choose nothing: none is unknown, and each choice is the one without letters
 nothing_chosen : HaveChosen false [] no_choices
@@ -80,7 +81,7 @@ words_ask read words root agent version numeric short is none whole from identif
     mode = refl;
     method = refl;
     counts = refl;
-    root = subst (λ (n : Option (List ℕ)). TextMeans bare_mib.naming (root_text n) (Ok root)) (sym from) (read bare_mib.naming root identifier);
+    root = subst (λ (n : Option (List ℕ)). TextMeans bare_mib (root_text n) (Ok root)) (sym from) (read bare_mib root identifier);
     goes_on = subst (λ (a : Option (List ℕ)). IsNameIfGiven bare_mib a None) (sym whole) refl;
   };
 }
@@ -149,13 +150,13 @@ are_walked ls root got (row ∷ more) are is_got = page.below (λ e. cc) are
 -- ---- what is written
 
 -- the text begins the lines of all rows: it is the lines of the first of them, or of all
-front_is : (mib : Mib) (before after : Stream) (rows first rest : List VarBind) (text : List ℕ) → HasNoSyntax mib → rows ≡ first ++ rest
+front_is : (mib : Contents) (before after : Stream) (rows first rest : List VarBind) (text : List ℕ) → HasNoSyntax mib → rows ≡ first ++ rest
     → AreLines mib numeric_letters first text ⊎ ((shown : List ℕ) × AreLines mib numeric_letters rows shown × (text ≡ shown ++ []))
     → TakesFront before text after → TakesFront before (flat_map row_line rows) after
 front_is mib before after rows first rest text none parts (inl are) taken = grind (arith, common_steps, flat_map-append, lines_are, append_assoc)
 front_is mib before after rows first rest text none parts (inr (shown, are, whole)) taken = grind (arith, common_steps, append-nil, lines_are)
 
-all_are : (mib : Mib) (before after : Stream) (rows : List VarBind) (text : List ℕ) → HasNoSyntax mib
+all_are : (mib : Contents) (before after : Stream) (rows : List VarBind) (text : List ℕ) → HasNoSyntax mib
     → ((shown : List ℕ) × AreLines mib numeric_letters rows shown × (text ≡ shown ++ [])) → after ≡ extended before text
     → after ≡ extended before (flat_map row_line rows)
 all_are mib before after rows text none (shown, are, whole) written = grind (arith, common_steps, append-nil, lines_are)
@@ -216,19 +217,19 @@ feasible ls path root view got identifier sendable is is_view room short few = r
 -- the table of lines, and what a walk of it gives
 record Walked (ls : List (List ℕ)) (root : List ℕ) : Type 0 where
   view : MibView
-  by_names : IsTableOf (names_in bare_mib.naming) ls view
+  by_names : IsTableOf (names_in bare_mib) ls view
   in_lines : IsTableIn first_format ls view
   is_view : IsMibView view
   got : VarBind
   is_got : IsGet view (wire root) got
   gives : AreWalked ls root (or_only got (rows_below root (variables view)))
 
-module _ (loads : IsTree [] bare []) (read : NumbersAreRead) (named : AreNamesIn bare_mib.naming (names_in bare_mib.naming)) (law : BelowAreRows)
+module _ (loads : IsTree [] bare []) (read : NumbersAreRead) (named : AreNamesIn bare_mib (names_in bare_mib)) (law : BelowAreRows)
     (ordered : (view : MibView) (root : List ℕ) → IsMibView view → AreOrdered (rows_below root (variables view)))
     (one_get : (view : MibView) (o : List ℕ) → HasOne (IsGet view o))
-    (tables : (ls : List (List ℕ)) → AreTableBy (names_in bare_mib.naming) ls
-    → (view : MibView) × IsTableOf (names_in bare_mib.naming) ls view × IsMibView view)
-    (plain : (ls : List (List ℕ)) (view : MibView) → (IsMarked ls → ⊥) → (IsTableOf (names_in bare_mib.naming) ls view ↔ IsTableIn first_format ls view)) where
+    (tables : (ls : List (List ℕ)) → AreTableBy (names_in bare_mib) ls
+    → (view : MibView) × IsTableOf (names_in bare_mib) ls view × IsMibView view)
+    (plain : (ls : List (List ℕ)) (view : MibView) → (IsMarked ls → ⊥) → (IsTableOf (names_in bare_mib) ls view ↔ IsTableIn first_format ls view)) where
   walked : (files : Holdings) (path root text : List ℕ) → HoldsTableFile files path root text → Walked (lines text) root
   walked files path root text holds =
       let stated = tables (lines text) (first_format, holds.unmarked, holds.table) in
@@ -266,7 +267,7 @@ module _ (loads : IsTree [] bare []) (read : NumbersAreRead) (named : AreNamesIn
         text = text;
         held = holds.held;
         view = w.view;
-        names = names_in bare_mib.naming;
+        names = names_in bare_mib;
         named = named;
         table = w.by_names;
         are_rows = (w.got, w.is_got, refl);
@@ -313,7 +314,7 @@ module _ (loads : IsTree [] bare []) (read : NumbersAreRead) (named : AreNamesIn
           text = text;
           held = holds.held;
           view = w.view;
-          names = names_in bare_mib.naming;
+          names = names_in bare_mib;
           named = named;
           table = w.by_names;
           are_rows = (w.got, w.is_got, refl);

@@ -2,7 +2,7 @@
 use Rattle.std.proofs.Common.{arith, ◌≡◌, ◌∙◌, ◌+◌, ◌<◌, ap, ℕ, List, [], ◌∷◌, ◌++◌, Option, Some, None, inl, inr, Bor, sym, append_assoc, drop}
 use Rattle.std.proofs.Common.{get_or, length, take}
 use Rattle.std.proofs.{lemmas.Grind.common_steps, lemmas.List.drop_more, lemmas.List.map-append, lemmas.List.take-append-drop, lemmas.List.take_more}
-use Rattle.snmp_io.specs.{draft.Draft.Written, draft.Draft.Adds, Output.Stream, Output.extended}
+use Rattle.snmp_io.specs.{Draft.Written, Draft.Adds, Output.Stream, Output.extended}
 use Rattle.snmp_words.specs.Words.{texts_at}
 use Rattle.snmp_tools.specs.{Lines.IsTextPrinted, Lines.StopsAtText, Message.Fault}
 

@@ -1,14 +1,14 @@
 -- What the outcome says of the texts of all names.
 use Rattle.std.proofs.Common.{arith, ◌≡◌, ◌∙◌, ◌++◌, inl, inr, refl, sym, subst, ℕ, List, [], ◌∷◌, Option, Some, None, append_assoc, append-nil}
 use Rattle.std.proofs.lemmas.Grind.{common_steps}
-use Rattle.snmp_tools.specs.{loading.Loaded.IsLoaded, loading.Loaded.LoadFacts, Message.Fault, translation.Style.IsStyleOf}
-use Rattle.snmp_tools.specs.{translation.Text.DetailMib, translation.Text.detail_mib_of, declared.translation.style.Style.Style}
+use Rattle.snmp_tools.specs.{load.Loaded.IsLoaded, load.Loaded.LoadFacts, Message.Fault, translate.Style.IsStyleOf}
+use Rattle.snmp_tools.specs.{declared.translate.Style.Style}
 use Rattle.smi_text.specs.declared.trees.tree.Module.{Module}
 use Rattle.smi_tree.specs.Tree.{Contents}
 use Rattle.snmp_io.specs.{Files.Holdings, Files.MayHold, Output.Stream, Output.extended, Streams.front_after, Streams.whole_taken}
 use Rattle.snmp_words.specs.Words.{TranslateWords}
-use Rattle.snmp_tools.specs.translation.Headline.{AskForTranslation, IsByTree, IsFront, PrintsAll, PrintsFront}
-use Rattle.snmp_tools.specs.translation.Outcome.{AreNamesPrinted, IsPrinting, IsTranslateOutcome, StopsAtName, StopsWithin, ran, refused}
+use Rattle.snmp_tools.specs.translate.Headline.{AskForTranslation, IsByTree, IsFront, PrintsAll, PrintsFront}
+use Rattle.snmp_tools.specs.translate.Outcome.{AreNamesPrinted, IsPrinting, IsTranslateOutcome, StopsAtName, StopsWithin, ran, refused}
 use Rattle.snmp_tools.proofs.{Plans.OneList, Plans.one_reading, Printing.AreTextsOf-more}
 
 -- words state one style
@@ -17,8 +17,8 @@ one_style words a b p q = grind (arith, common_steps, one_reading)
 
 -- by the tree that was loaded
 by_tree : OneList → (words : TranslateWords) (files : Holdings) (style : Style) (modules : List Module) (tree : Contents) (err_before err_after : Stream)
-    (Printed : DetailMib → Type 0) → AskForTranslation words files style modules → IsLoaded (MayHold files) words.mibs tree err_before err_after
-    → Printed (detail_mib_of tree) → IsByTree modules Printed
+    (Printed : Contents → Type 0) → AskForTranslation words files style modules → IsLoaded (MayHold files) words.mibs tree err_before err_after
+    → Printed tree → IsByTree modules Printed
 by_tree one words files style modules tree err_before err_after Printed asked loaded printed = grind (arith, common_steps)
 
 pub all_printed : OneList → (Loads : LoadFacts) (words : TranslateWords) (files : Holdings) (before after err_before err_after : Stream) (fault : Option Fault) → fault ≡ None
@@ -26,12 +26,12 @@ pub all_printed : OneList → (Loads : LoadFacts) (words : TranslateWords) (file
 all_printed one Loads words files before after err_before err_after fault none (refused why refusal same same_too is) style modules asked =
     grind (arith, common_steps)
 all_printed one Loads words files before after err_before err_after fault none (ran own tree styled loaded made printing) style modules asked =
-    by_tree one words files style modules tree err_before err_after (λ (mib : DetailMib). AreNamesPrinted mib style words.names before after) asked loaded
-    (subst (λ (s : Style). AreNamesPrinted (detail_mib_of tree) s words.names before after) (one_style words own style styled asked.styled)
-    (subst (IsPrinting (detail_mib_of tree) own words.names before after) none printing))
+    by_tree one words files style modules tree err_before err_after (λ (mib : Contents). AreNamesPrinted mib style words.names before after) asked loaded
+    (subst (λ (s : Style). AreNamesPrinted tree s words.names before after) (one_style words own style styled asked.styled)
+    (subst (IsPrinting tree own words.names before after) none printing))
 
 -- a front of the texts of the names up to the one at which it stopped
-front_stopped : (mib : DetailMib) (style : Style) (names : List (List ℕ)) (before after : Stream) (why : Fault)
+front_stopped : (mib : Contents) (style : Style) (names : List (List ℕ)) (before after : Stream) (why : Fault)
     → (stopped : StopsWithin mib style names before after why) → StopsAtName mib style (extended before stopped.text) stopped.name after why
     → IsFront style names before after mib
 front_stopped mib style names before after why stopped (inl (nothing, same)) = grind (arith, common_steps)
@@ -46,11 +46,11 @@ front_stopped mib style names before after why stopped (inr (inr (output, (text,
 )
 
 -- all were printed
-front_whole : (mib : DetailMib) (style : Style) (names : List (List ℕ)) (before after : Stream) → AreNamesPrinted mib style names before after
+front_whole : (mib : Contents) (style : Style) (names : List (List ℕ)) (before after : Stream) → AreNamesPrinted mib style names before after
     → IsFront style names before after mib
 front_whole mib style names before after (text, texts, is) = (names, [], text, sym (append-nil names), texts, whole_taken before after text is)
 
-front_printing : (mib : DetailMib) (style : Style) (names : List (List ℕ)) (before after : Stream) (fault : Option Fault)
+front_printing : (mib : Contents) (style : Style) (names : List (List ℕ)) (before after : Stream) (fault : Option Fault)
     → IsPrinting mib style names before after fault → IsFront style names before after mib
 front_printing mib style names before after None printed = front_whole mib style names before after printed
 front_printing mib style names before after (Some why) stopped = front_stopped mib style names before after why stopped stopped.stops
@@ -60,5 +60,5 @@ pub front_printed : OneList → (Loads : LoadFacts) (words : TranslateWords) (fi
 front_printed one Loads words files before after err_before err_after fault (refused why refusal same same_too is) style modules asked = inl same
 front_printed one Loads words files before after err_before err_after fault (ran own tree styled loaded made printing) style modules asked =
     inr (by_tree one words files style modules tree err_before err_after (IsFront style words.names before after) asked loaded
-    (subst (λ (s : Style). IsFront s words.names before after (detail_mib_of tree)) (one_style words own style styled asked.styled)
-    (front_printing (detail_mib_of tree) own words.names before after fault printing)))
+    (subst (λ (s : Style). IsFront s words.names before after tree) (one_style words own style styled asked.styled)
+    (front_printing tree own words.names before after fault printing)))

@@ -2,13 +2,12 @@
 use Rattle.std.proofs.Common.{arith, ◌≡◌, ◌⊎◌, inl, inr, refl, ap, ℕ, List, Bor, Option, Some, Result, Ok, Err, subst, sym}
 use Rattle.std.proofs.lemmas.Grind.{common_steps}
 use Rattle.std.specs.{Prelude.IfErr, Result.IsErrAnd}
-use Rattle.smi_text.specs.{declared.trees.tree.Def.Def, declared.trees.tree.Module.Module}
-use Rattle.smi_show.specs.name.Naming.{Naming}
-use Rattle.smi_value.specs.Syntax.{ObjectSyntax}
+use Rattle.smi_text.specs.declared.trees.tree.Module.{Module}
+use Rattle.smi_tree.specs.Tree.{Contents}
 use Rattle.snmp_io.specs.{Files.Holdings, Files.Holds, Files.MayHold, Output.Stream}
-use Rattle.snmp_tools.specs.loading.Files.{AreModulesOf, IsFilesRefusal, Refusal, no_memory, texts}
-use Rattle.snmp_tools.specs.loading.Loaded.{AreLoadedAs, LoadFacts}
-use Rattle.snmp_tools.specs.{Asking.MibsFail, Mib.AreLoaded, private.Planned.mib_in, declared.failure.Failure.Failure}
+use Rattle.snmp_tools.specs.load.Files.{AreModulesOf, IsFilesRefusal, Refusal, no_memory, texts}
+use Rattle.snmp_tools.specs.load.Loaded.{IsLoaded, LoadFacts}
+use Rattle.snmp_tools.specs.{Asking.MibsFail, load.Loaded.AreLoaded, declared.failure.Failure.Failure}
 use Rattle.snmp_tools.specs.Message.{Fault, bad_modules, fault_of, modules_fault, out_of_memory, outcome_of}
 
 -- what the exit of a `?` returns
@@ -26,11 +25,10 @@ if_err P (Ok x) f h p = absurd h
 if_err P (Err e) f h p = subst P (sym h) p
 
 -- a load of the same files
-pub loads_from : (files : Holdings) (given paths : List (Bor (List ℕ))) (naming : Naming) (definition_at : List ℕ → Option Def)
-    (syntax_at : List ℕ → Option ObjectSyntax) (before after : Stream) → given ≡ paths
-    → AreLoadedAs (MayHold files) (texts given) naming definition_at syntax_at before after
-    → AreLoadedAs (MayHold files) (texts paths) naming definition_at syntax_at before after
-loads_from files given paths naming definition_at syntax_at before after same = grind (arith, common_steps)
+pub loads_from : (files : Holdings) (given paths : List (Bor (List ℕ))) (tree : Contents) (before after : Stream) → given ≡ paths
+    → IsLoaded (MayHold files) (texts given) tree before after → IsLoaded (MayHold files) (texts paths) tree before after
+loads_from files given paths tree before after same =
+    subst (λ (ps : List (Bor (List ℕ))). IsLoaded (MayHold files) (texts ps) tree before after) same
 
 pub loads_of : (Loads : LoadFacts) (given paths : List (Bor (List ℕ))) (before after : Stream) → given ≡ paths
     → Loads (texts given) before after → Loads (texts paths) before after
@@ -50,10 +48,3 @@ module _ (files : Holdings) (given paths : List (Bor (List ℕ))) (same : given 
       → (modules_fault why ≡ out_of_memory) ⊎ MibsFail files (texts paths) (modules_fault why)
   mibs_fail no_memory refused only = inl refl
   mibs_fail why refused only = by_fault why (λ e. let no : ⊥ = cc in no) refl refused only
-
--- what a load tells of its names and types: the tree that it names has them
-pub are_loaded : (files : Holdings) (paths : List (List ℕ)) (naming : Naming) (definition_at : List ℕ → Option Def)
-    (syntax_at : List ℕ → Option ObjectSyntax) (before after : Stream)
-    (is : AreLoadedAs (MayHold files) paths naming definition_at syntax_at before after)
-    → AreLoaded (MayHold files) paths (mib_in naming syntax_at) is.loaded.warnings
-are_loaded files paths naming definition_at syntax_at before after is = grind (arith, common_steps)

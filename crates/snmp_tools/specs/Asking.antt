@@ -2,19 +2,20 @@
 -- community, and the agent.
 use Rattle.std.specs.Prelude.{◌≡◌, ◌≢◌, ◌<◌, ◌≤◌, ℕ, List, length, Some, None, Option, Ok, Err}
 use Rattle.std.specs.Prelude.{codes}
-use Rattle.snmp_tools.specs.loading.Files.{AreModulesOf, FilesFail, Refusal}
+use Rattle.snmp_tools.specs.load.Files.{AreModulesOf, FilesFail, Refusal}
 use Rattle.smi_text.specs.declared.trees.tree.Module.{Module}
-use Rattle.smi_value.specs.declared.letters.letters.Letters.{Letters}
-use Rattle.smi_value.specs.letters.Letters.{AreLetters, first_other}
-use Rattle.smi_show.specs.{name.Meant.TextMeans, name.Naming.Naming}
+use Rattle.smi_value.specs.declared.letters.Letters.{Letters}
+use Rattle.smi_value.specs.Letters.{AreLetters, first_other}
+use Rattle.smi_show.specs.{name.Meant.TextMeans}
 use Rattle.smi_show.specs.declared.name.error.NameError.{NameError}
 use Rattle.snmp_io.specs.Files.{Holdings, Holds}
-use Rattle.snmp_tools.specs.{agent.TableFile.HasTable, agent.TableFile.TableFails, Mib.Mib}
+use Rattle.snmp_tools.specs.{serve.TableFile.HasTable, serve.TableFile.TableFails}
 use Rattle.snmp_agent.specs.table.Table.{MibView}
 use Rattle.snmp_net.specs.Address.{Address, IsAgent, table, udp}
 use Rattle.snmp_words.specs.Words.{AskingWords}
 use Rattle.snmp_tools.specs.Message.{Fault, bad_agent, bad_letter, bad_modules, bad_name}
 use Rattle.snmp_tools.specs.Message.{bad_version, long_community}
+use Rattle.smi_tree.specs.{Tree.Contents}
 
 -- ---- words before any file is read
 
@@ -60,22 +61,22 @@ MibsFail files paths why =
     × ((modules : List Module) → AreModulesOf (Holds files) paths modules → ⊥)
 
 -- a text that isn't the name of an identifier
-abbrev pub NameFails : Naming → List ℕ → Fault → Type 0
-NameFails naming text why =
-    (error : NameError) × TextMeans naming text (Err error) × (why ≡ bad_name error text)
+abbrev pub NameFails : Contents → List ℕ → Fault → Type 0
+NameFails tree text why =
+    (error : NameError) × TextMeans tree text (Err error) × (why ≡ bad_name error text)
 
 -- the name that a text states, where there is a text
-abbrev pub IsNameIfGiven : Mib → Option (List ℕ) → Option (List ℕ) → Type 0
+abbrev pub IsNameIfGiven : Contents → Option (List ℕ) → Option (List ℕ) → Type 0
 IsNameIfGiven mib None name = name ≡ None
 IsNameIfGiven mib (Some text) name =
-    (o : List ℕ) × TextMeans mib.naming text (Ok o) × (name ≡ Some o)
+    (o : List ℕ) × TextMeans mib text (Ok o) × (name ≡ Some o)
 
 -- the agent is over a table that its file states, or over the network
-abbrev pub IsReached : Holdings → Mib → Address → Type 0
-IsReached files mib (table path) = (view : MibView) × HasTable files mib.naming path view
+abbrev pub IsReached : Holdings → Contents → Address → Type 0
+IsReached files mib (table path) = (view : MibView) × HasTable files mib path view
 IsReached files mib (udp host port) = Unit {0}
 
 -- its file can't be read or states no table
-abbrev pub ReachFails : Holdings → Mib → Address → Fault → Type 0
-ReachFails files mib (table path) why = TableFails files mib.naming path why
+abbrev pub ReachFails : Holdings → Contents → Address → Fault → Type 0
+ReachFails files mib (table path) why = TableFails files mib path why
 ReachFails files mib (udp host port) why = ⊥

@@ -20,15 +20,16 @@ use Rattle.snmp_walk.specs.{Tries.Happens, declared.end.WalkEnd.WalkEnd}
 use Rattle.snmp_walk.specs.declared.link.Link.{Ghosts as LinkFacts}
 use Rattle.snmp_wire.specs.Message.{VarBind}
 use Rattle.snmp_words.specs.Words.{ServeWords, StateJob, WalkWords, snmpd}
-use Rattle.snmp_tools.specs.agent.Outcome.{counts_line, listening_line}
-use Rattle.snmp_tools.specs.agent.Service.{IsPlaced, served_agent}
-use Rattle.snmp_tools.specs.{agent.TableFile.AreNamesIn, Lines.IsTextPrinted, Message.Fault}
-use Rattle.snmp_tools.specs.{Mib.AreLoaded, Mib.Mib, Outcome.IsReported, Outcome.IsShown}
+use Rattle.snmp_tools.specs.serve.Outcome.{counts_line, listening_line}
+use Rattle.snmp_tools.specs.serve.Service.{IsPlaced, served_agent}
+use Rattle.snmp_tools.specs.{serve.TableFile.AreNamesIn, Lines.IsTextPrinted, Message.Fault}
+use Rattle.snmp_tools.specs.{load.Loaded.AreLoaded, Outcome.IsReported, Outcome.IsShown}
 use Rattle.snmp_tools.specs.{RowText.row_line, Seen.Seen, TableWalk.AreWalked}
 use Rattle.snmp_tools.specs.Answer.{AreRowsOf, HasFacts, IsAskedOver}
 use Rattle.snmp_tools.specs.Headline.{IsFrontWritten, IsWholeWritten}
 use Rattle.snmp_tools.specs.Question.{AskFor, AskWords, Plan, Question, names, of_walk as asking_of}
 use Rattle.snmp_tools.specs.Question.{subtree}
+use Rattle.smi_tree.specs.{Tree.Contents}
 
 -- ---- what is asked, and of which table
 
@@ -38,7 +39,7 @@ use Rattle.snmp_tools.specs.Question.{subtree}
 -- in common: an agent of another community drops what is asked.
 pub record IsAskOfServer (words : AskWords) (files : Holdings) (serving : ServeWords)
     (server_files : Holdings) (rows : List VarBind) : Type 0 where
-  pub mib : Mib
+  pub mib : Contents
   pub warnings : List Warning
   pub known : AreLoaded (Holds files) words.asking.mibs mib warnings
   pub plan : Plan
@@ -48,14 +49,14 @@ pub record IsAskOfServer (words : AskWords) (files : Holdings) (serving : ServeW
   pub over : plan.agent ≡ udp host port
   pub line : List (List ℕ)
   pub stated : StateJob line (snmpd serving)
-  pub nodes : Mib
+  pub nodes : Contents
   pub node_warnings : List Warning
   pub nodes_known : AreLoaded (Holds server_files) serving.mibs nodes node_warnings
   pub text : List ℕ
   pub held : Holds server_files serving.table text
   pub view : MibView
   pub names : Names
-  pub named : AreNamesIn nodes.naming names
+  pub named : AreNamesIn nodes names
   pub table : IsTableOf names (lines text) view
   pub are_rows : AreRowsOf plan.question view rows
 
@@ -73,7 +74,7 @@ events_of {W} facts link later tries plan (subtree w) given refused end run = ru
 -- there were none, since no link was opened or nothing can be sent, and then nothing is printed, at
 -- another status than 0.
 pub data IsAtAsker {N V D : Type 0} (net : Network N V D) (wire : LinkFacts V) (words : AskWords)
-    (mib : Mib) (plan : Plan) (before after : Seen N) (status : ℕ)
+    (mib : Contents) (plan : Plan) (before after : Seen N) (status : ℕ)
     (events : List (Event (Unit {0}))) : Type 0 where
   unasked : events ≡ [] → after.out ≡ before.out → status ≢ 0
       → IsAtAsker net wire words mib plan before after status events

@@ -3,11 +3,11 @@ use Rattle.std.specs.Prelude.{◌≡◌, ℕ, true, false, Option}
 use Rattle.snmp_walk.specs.declared.link.Link.{Ghosts as LinkFacts}
 use Rattle.snmp_net.specs.declared.links.Links.{Ghosts as Network}
 use Rattle.snmp_words.specs.Words.{Stated, snmpbulkwalk, snmpd, snmpget, snmptranslate, snmpwalk}
-use Rattle.snmp_tools.specs.{loading.Loaded.LoadFacts, Headline.WritesRowsOf, Message.Fault}
+use Rattle.snmp_tools.specs.{load.Loaded.LoadFacts, Headline.WritesRowsOf, Message.Fault}
 use Rattle.snmp_tools.specs.{Outcome.IsOutcome, Outcome.IsRun, Seen.Seen, Serving.IsServeRun}
-use Rattle.snmp_tools.specs.{Translating.IsTranslated, agent.Outcome.IsServeOutcome}
+use Rattle.snmp_tools.specs.{Translating.IsTranslated, serve.Outcome.IsServeOutcome}
 use Rattle.snmp_tools.specs.Question.{AskWords, of_get, of_walk}
-use Rattle.snmp_tools.specs.translation.Outcome.{IsTranslateOutcome}
+use Rattle.snmp_tools.specs.translate.Outcome.{IsTranslateOutcome}
 
 -- the job of these words, which ask an agent, was done over the world outside
 pub record IsAskDone {N V D : Type 0} (net : Network N V D) (wire : LinkFacts V)

@@ -6,8 +6,8 @@
 -- `AreLines` (Lines) are their lines, by `IsLine` (smi_show), and `count_text` is the count line.
 use Rattle.std.specs.Prelude.{◌≡◌, ◌⊎◌, ◌++◌, ℕ, List, length, codes}
 use Rattle.std.specs.Str.Lines.{lines}
-use Rattle.snmp_tools.specs.{loading.Warned.warning_lines, agent.TableFile.AreNamesIn}
-use Rattle.snmp_tools.specs.{Lines.AreLines, Lines.count_text, Mib.AreLoaded, Mib.Mib}
+use Rattle.snmp_tools.specs.{load.Warned.warning_lines, serve.TableFile.AreNamesIn}
+use Rattle.snmp_tools.specs.{Lines.AreLines, Lines.count_text, load.Loaded.AreLoaded}
 use Rattle.smi_names.specs.declared.nodes.warning.Warning.{Warning}
 use Rattle.snmp_agent.specs.{table.Format.Names, table.Stated.IsTableOf, table.Table.MibView}
 use Rattle.snmp_wire.specs.Message.{VarBind}
@@ -16,10 +16,11 @@ use Rattle.snmp_io.specs.Output.{IsWritten, Stream, TakesFront, extended}
 use Rattle.snmp_net.specs.Address.{table}
 use Rattle.snmp_tools.specs.Answer.{AreRowsOf, IsFeasible}
 use Rattle.snmp_tools.specs.Question.{AskFor, AskWords, Plan, counts_in}
+use Rattle.smi_tree.specs.{Tree.Contents}
 
 -- the words ask for this over the table of a file, and these are its rows
 pub record IsAsk (words : AskWords) (files : Holdings) (rows : List VarBind) : Type 0 where
-  pub mib : Mib
+  pub mib : Contents
   pub warnings : List Warning
   pub known : AreLoaded (Holds files) words.asking.mibs mib warnings
   pub plan : Plan
@@ -30,24 +31,26 @@ pub record IsAsk (words : AskWords) (files : Holdings) (rows : List VarBind) : T
   pub held : Holds files path text
   pub view : MibView
   pub names : Names
-  pub named : AreNamesIn mib.naming names
+  pub named : AreNamesIn mib names
   pub table : IsTableOf names (lines text) view
   pub are_rows : AreRowsOf plan.question view rows
 
 -- the lines of the rows, and with -Cp their number
-abbrev pub IsWholeText : Mib → Plan → (rows : List VarBind) → List ℕ → Type 0
+abbrev pub IsWholeText : Contents → Plan → (rows : List VarBind) → List ℕ → Type 0
 IsWholeText mib plan rows text = (shown : List ℕ) × AreLines mib plan.letters rows shown
     × (text ≡ shown ++ count_text (counts_in plan.question) (length rows))
 
 -- a front of the lines of the first of these rows is written, or of the whole text
-abbrev pub IsFrontWritten : Mib → Plan → (rows : List VarBind) → (before after : Stream) → Type 0
+abbrev pub IsFrontWritten : Contents → Plan → (rows : List VarBind) → (before after : Stream)
+    → Type 0
 IsFrontWritten mib plan rows before after =
     (first : List VarBind) × (rest : List VarBind) × (text : List ℕ) × (rows ≡ first ++ rest)
     × (AreLines mib plan.letters first text ⊎ IsWholeText mib plan rows text)
     × TakesFront before text after
 
 -- the whole text is
-abbrev pub IsWholeWritten : Mib → Plan → (rows : List VarBind) → (before after : Stream) → Type 0
+abbrev pub IsWholeWritten : Contents → Plan → (rows : List VarBind) → (before after : Stream)
+    → Type 0
 IsWholeWritten mib plan rows before after =
     (text : List ℕ) × IsWholeText mib plan rows text × (after ≡ extended before text)
 

@@ -1,22 +1,23 @@
 -- What a walk or a Get writes on an output.
 use Rattle.std.specs.Prelude.{◌≡◌, ◌⊎◌, ◌++◌, ℕ, Bool, List, [], ◌∷◌, Result, Ok, Err, codes}
 use Rattle.std.specs.Prelude.{Option, Some, None, decimal, if◌then◌else◌}
-use Rattle.smi_value.specs.declared.letters.letters.Letters.{Letters}
+use Rattle.smi_value.specs.declared.letters.Letters.{Letters}
 use Rattle.smi_show.specs.Line.{IsLine}
 use Rattle.snmp_wire.specs.Message.{VarBind}
 use Rattle.snmp_walk.specs.{declared.end.SinkFault.SinkFault, declared.end.WalkEnd.WalkEnd}
 use Rattle.snmp_walk.specs.declared.end.SinkFault.TheVariants as fault
 use Rattle.snmp_walk.specs.declared.end.WalkEnd.TheVariants as ending
 use Rattle.snmp_io.specs.Output.{FailsWithin, Stream, extended}
-use Rattle.snmp_tools.specs.{Message.Fault, Message.no_output, Message.out_of_memory, Mib.Mib}
+use Rattle.snmp_tools.specs.{Message.Fault, Message.no_output, Message.out_of_memory}
+use Rattle.smi_tree.specs.{Tree.Contents}
 
 -- the line of a binding, by the letters of -O
-abbrev pub IsLineOf : Mib → Letters → VarBind → List ℕ → Type 0
+abbrev pub IsLineOf : Contents → Letters → VarBind → List ℕ → Type 0
 IsLineOf mib letters binding line =
-    IsLine mib.naming letters (mib.syntax_at binding.name) binding.name binding.value line
+    IsLine mib letters binding.name binding.value line
 
 -- the lines of bindings, one after the other
-abbrev pub AreLines : Mib → Letters → List VarBind → List ℕ → Type 0
+abbrev pub AreLines : Contents → Letters → List VarBind → List ℕ → Type 0
 AreLines mib letters [] text = text ≡ []
 AreLines mib letters (binding ∷ more) text =
     (line : List ℕ) × (rest : List ℕ) × IsLineOf mib letters binding line
@@ -24,7 +25,7 @@ AreLines mib letters (binding ∷ more) text =
 
 -- The lines of the rows were written, whole, and where the output ended the walk a front of the
 -- line of the row that it refused.
-abbrev pub IsPrintedUpTo : Mib → Letters → Stream → (rows refused : List VarBind) → WalkEnd
+abbrev pub IsPrintedUpTo : Contents → Letters → Stream → (rows refused : List VarBind) → WalkEnd
     → Stream → Type 0
 IsPrintedUpTo mib letters before rows refused (ending.Sink fault.Output) after =
     (text : List ℕ) × (line : List ℕ) × AreLines mib letters rows text
@@ -63,14 +64,14 @@ TakesText before text (Err fault.Output) after = FailsWithin before text after
 TakesText before text (Err fault.Memory) after = after ≡ before
 
 -- what it took of the line of a binding; where memory for the line ran out, nothing
-abbrev pub TakesLine : Mib → Letters → Stream → VarBind → Result (Unit {0}) SinkFault → Stream
+abbrev pub TakesLine : Contents → Letters → Stream → VarBind → Result (Unit {0}) SinkFault → Stream
     → Type 0
 TakesLine mib letters before binding (Err fault.Memory) after = after ≡ before
 TakesLine mib letters before binding result after =
     (line : List ℕ) × IsLineOf mib letters binding line × TakesText before line result after
 
 -- rows of which these facts hold were given, and their lines printed, until it ended in this way
-pub record ArePrinted (mib : Mib) (letters : Letters) (before after : Stream) (end : WalkEnd)
+pub record ArePrinted (mib : Contents) (letters : Letters) (before after : Stream) (end : WalkEnd)
     (Facts : (rows refused : List VarBind) → Type 0) : Type 0 where
   pub rows : List VarBind
   pub refused : List VarBind

@@ -3,9 +3,9 @@ use Rattle.std.specs.Prelude.{ℕ, ℤ, pos, negsuc, List, [], ◌∷◌, ◌++�
 use Rattle.std.specs.Prelude.{Option, Result, Some, slice_index_or}
 use Rattle.std.specs.Fmt.{signed_decimal}
 use Rattle.snmp_oid.specs.Numeric.{numeric_text}
-use Rattle.snmp_tools.specs.loading.Files as files
-use Rattle.snmp_tools.specs.{loading.Files.Refusal, declared.failure.Failure.Failure}
-use Rattle.snmp_tools.specs.loading.Message.{refusal_of, refusal_text}
+use Rattle.snmp_tools.specs.load.Files as files
+use Rattle.snmp_tools.specs.{load.Files.Refusal, declared.failure.Failure.Failure}
+use Rattle.snmp_tools.specs.load.Message.{refusal_of, refusal_text}
 use Rattle.smi_show.specs.declared.name.error.NameError.{NameError}
 use Rattle.smi_show.specs.declared.name.error.NameError.TheVariants as name
 use Rattle.snmp_agent.specs.declared.table.error.TableError.{TableError}

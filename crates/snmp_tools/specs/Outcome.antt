@@ -1,20 +1,21 @@
 -- What a job that asks an agent writes, and what it reports.
 use Rattle.std.specs.Prelude.{◌≡◌, ◌⊎◌, ◌+◌, ◌++◌, ℕ, Bool, true, List, codes, Option, Some, None}
-use Rattle.snmp_tools.specs.{loading.Loaded.LoadFacts, loading.Warned.warning_lines}
-use Rattle.snmp_tools.specs.{agent.TableFile.HasTable, Mib.AreLoaded, Mib.Mib, Seen.Seen}
+use Rattle.snmp_tools.specs.{load.Loaded.LoadFacts, load.Warned.warning_lines}
+use Rattle.snmp_tools.specs.{serve.TableFile.HasTable, load.Loaded.AreLoaded, Seen.Seen}
 use Rattle.smi_names.specs.declared.nodes.warning.Warning.{Warning}
 use Rattle.snmp_agent.specs.table.Table.{MibView}
 use Rattle.snmp_wire.specs.Message.{VarBind}
 use Rattle.snmp_walk.specs.{declared.end.WalkEnd.WalkEnd, declared.link.Link.Ghosts as LinkFacts}
 use Rattle.snmp_walk.specs.declared.end.WalkEnd.TheVariants as ending
 use Rattle.snmp_io.specs.{Count.HasRisen, Output.IsWritten, Output.Stream, Files.MayHold}
-use Rattle.smi_value.specs.declared.letters.letters.Letters.{Letters}
+use Rattle.smi_value.specs.declared.letters.Letters.{Letters}
 use Rattle.snmp_tools.specs.Lines.{IsPrintedUpTo, IsTextPrinted, count_line}
 use Rattle.snmp_tools.specs.Message.{Fault, ended, fault_message, status_of}
 use Rattle.snmp_net.specs.{Address.table, Address.udp, declared.links.Links.Ghosts as Network}
 use Rattle.snmp_tools.specs.Answer.{CanBeSent, HasFacts, IsAsked}
 use Rattle.snmp_tools.specs.Question.{AskWords, IsEarlyRefusal, IsLastRefusal, IsLateRefusal}
 use Rattle.snmp_tools.specs.Question.{IsPlanFor, Plan, counts_in}
+use Rattle.smi_tree.specs.{Tree.Contents}
 
 -- ---- what is written
 
@@ -31,7 +32,7 @@ IsFinished agent (ending.Done count) true before after fault =
 IsFinished agent end counts before after fault = (after ≡ before) × (fault ≡ fault_at agent end)
 
 -- what a run gave was printed, of which such facts hold, and why not all of it, if not all was
-pub record IsPrinted (Facts : (given refused : List VarBind) → WalkEnd → Type 0) (mib : Mib)
+pub record IsPrinted (Facts : (given refused : List VarBind) → WalkEnd → Type 0) (mib : Contents)
     (letters : Letters) (counts : Bool) (agent : List ℕ) (before after : Stream)
     (fault : Option Fault) : Type 0 where
   pub given : List VarBind
@@ -43,7 +44,7 @@ pub record IsPrinted (Facts : (given refused : List VarBind) → WalkEnd → Typ
   pub finish : IsFinished agent end counts between after fault
 
 -- the same of the question of a plan
-abbrev pub IsShown : (Facts : (given refused : List VarBind) → WalkEnd → Type 0) → Mib → Plan
+abbrev pub IsShown : (Facts : (given refused : List VarBind) → WalkEnd → Type 0) → Contents → Plan
     → (agent : List ℕ) → (before after : Stream) → Option Fault → Type 0
 IsShown Facts mib plan agent before after fault =
     IsPrinted Facts mib plan.letters (counts_in plan.question) agent before after fault
@@ -60,7 +61,7 @@ pub record HasOpened {N V D : Type 0} (net : Network N V D) (host : List ℕ) (p
 -- Where no agent is reached, or the agent is over a table, the network is left as it was. What
 -- can't be sent isn't asked.
 pub data IsOutcomeBy {N V D : Type 0} (net : Network N V D) (wire : LinkFacts V) (words : AskWords)
-    (mib : Mib) (before after : Seen N) (fault : Option Fault) : Type 0 where
+    (mib : Contents) (before after : Seen N) (fault : Option Fault) : Type 0 where
   refused : (why : Fault) → IsLateRefusal words before.files mib why → after ≡ before
       → fault ≡ Some why → IsOutcomeBy net wire words mib before after fault
   -- the table was read, or the link opened, and then the start was refused
@@ -71,7 +72,7 @@ pub data IsOutcomeBy {N V D : Type 0} (net : Network N V D) (wire : LinkFacts V)
       × HasOpened net host port words.asking.seconds before after)
       → fault ≡ Some why → IsOutcomeBy net wire words mib before after fault
   asked : (plan : Plan) (path : List ℕ) (view : MibView) → IsPlanFor words before.files mib plan
-      → plan.agent ≡ table path → HasTable before.files mib.naming path view
+      → plan.agent ≡ table path → HasTable before.files mib path view
       → CanBeSent plan.question
       → IsShown (IsAsked plan plan.question view) mib plan words.asking.agent before.out after.out
       fault
@@ -100,7 +101,7 @@ pub data IsOutcome {N V D : Type 0} (net : Network N V D) (wire : LinkFacts V) (
     (words : AskWords) (before after : Seen N) (fault : Option Fault) : Type 0 where
   not_loaded : (why : Fault) → IsEarlyRefusal words before.files why → after ≡ before
       → fault ≡ Some why → IsOutcome net wire Loads words before after fault
-  loaded : (mib : Mib) (warnings : List Warning)
+  loaded : (mib : Contents) (warnings : List Warning)
       → AreLoaded (MayHold before.files) words.asking.mibs mib warnings
       → Loads words.asking.mibs before.err after.err
       → IsWritten before.err (warning_lines warnings) after.err

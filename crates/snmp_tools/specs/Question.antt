@@ -2,7 +2,7 @@
 use Rattle.std.specs.Prelude.{◌≡◌, ◌≤◌, ◌⊎◌, ◌++◌, ℕ, Bool, false, List, [], ◌∷◌, length, map}
 use Rattle.std.specs.Prelude.{Option, Some, None, Ok, codes, unwrap_or}
 use Rattle.std.specs.List.{AllZip}
-use Rattle.smi_value.specs.declared.letters.letters.Letters.{Letters}
+use Rattle.smi_value.specs.declared.letters.Letters.{Letters}
 use Rattle.smi_show.specs.name.Meant.{TextMeans}
 use Rattle.snmp_oid.specs.Identifier.{IsWire, wire}
 use Rattle.snmp_walk.specs.Ordered.{IsAtOrBelow, IsUnsendable}
@@ -16,7 +16,8 @@ use Rattle.snmp_tools.specs.Letters.{Choices, HaveChosen, IsFirstUnknown, method
 use Rattle.snmp_tools.specs.Letters.{no_choices}
 use Rattle.snmp_tools.specs.Message.{Fault, bad_letter, out_of_memory, outside_root, unsendable}
 use Rattle.snmp_io.specs.{Files.Holdings, Files.MayHold, Steps.AreDone, Steps.IsFirstToFail}
-use Rattle.snmp_tools.specs.Mib.{IsMibOf, Mib}
+use Rattle.snmp_tools.specs.load.Loaded.{IsMibOf}
+use Rattle.smi_tree.specs.{Tree.Contents}
 
 -- ---- the words
 
@@ -84,27 +85,27 @@ counts_in (names os) = false
 counts_in (subtree w) = w.counts
 
 -- the names that texts state, each at its text's place
-abbrev pub AreNames : Mib → (texts os : List (List ℕ)) → Type 0
-AreNames mib texts os = AllZip (λ text o. TextMeans mib.naming text (Ok o)) texts os
+abbrev pub AreNames : Contents → (texts os : List (List ℕ)) → Type 0
+AreNames mib texts os = AllZip (λ text o. TextMeans mib text (Ok o)) texts os
 
 -- the words of snmpwalk, or of snmpbulkwalk, state this walk
-pub record IsWalkOf (bulk : Bool) (choices : Choices) (after name : Option (List ℕ)) (mib : Mib)
-    (w : Walk) : Type 0 where
+pub record IsWalkOf (bulk : Bool) (choices : Choices) (after name : Option (List ℕ))
+    (mib : Contents) (w : Walk) : Type 0 where
   pub mode : w.mode ≡ mode_of choices
   pub method : w.method ≡ method_of bulk choices
   pub counts : w.counts ≡ choices.counts
-  pub root : TextMeans mib.naming (root_text name) (Ok w.root)
+  pub root : TextMeans mib (root_text name) (Ok w.root)
   pub goes_on : IsNameIfGiven mib after w.after
 
 -- the words state this question
-abbrev pub IsQuestionOf : Request → Choices → Mib → Question → Type 0
+abbrev pub IsQuestionOf : Request → Choices → Contents → Question → Type 0
 IsQuestionOf (get texts) choices mib (names os) = AreNames mib texts os
 IsQuestionOf (walk bulk letters after name) choices mib (subtree w) =
     IsWalkOf bulk choices after name mib w
 IsQuestionOf request choices mib _ = ⊥
 
 -- the words ask for this, by these names
-pub record AskFor (words : AskWords) (mib : Mib) (plan : Plan) : Type 0 where
+pub record AskFor (words : AskWords) (mib : Contents) (plan : Plan) : Type 0 where
   pub version : words.asking.protocol ≡ codes "2c"
   pub letters : AreShown words.asking.letters plan.letters
   pub choices : Choices
@@ -116,10 +117,11 @@ pub record AskFor (words : AskWords) (mib : Mib) (plan : Plan) : Type 0 where
   pub question : IsQuestionOf words.request choices mib plan.question
 
 -- the words ask for this plan, by names that the job knows, and for no other agent
-pub record IsPlanFor (words : AskWords) (files : Holdings) (mib : Mib) (plan : Plan) : Type 0 where
-  pub known : IsMibOf (MayHold files) words.asking mib
-  pub asked : AskFor words mib plan
-  pub only : HasAgent words.asking.agent plan.agent
+pub record IsPlanFor (words : AskWords) (files : Holdings) (mib : Contents) (plan : Plan) : Type 0
+  where
+    pub known : IsMibOf (MayHold files) words.asking mib
+    pub asked : AskFor words mib plan
+    pub only : HasAgent words.asking.agent plan.agent
 
 -- ---- why not
 
@@ -162,24 +164,24 @@ sent_steps (walk bulk letters after name) = sent_step (root_text name)
     ∷ goes_on_after (λ text. below_step (root_text name) text ∷ sent_step text ∷ []) after
 
 -- the text states a name
-abbrev pub HasMeaning : Mib → (text : List ℕ) → Type 0
-HasMeaning mib text = (name : List ℕ) × TextMeans mib.naming text (Ok name)
+abbrev pub HasMeaning : Contents → (text : List ℕ) → Type 0
+HasMeaning mib text = (name : List ℕ) × TextMeans mib text (Ok name)
 
 -- the text states a name that can be sent
-abbrev pub HasSendable : Mib → (text : List ℕ) → Type 0
+abbrev pub HasSendable : Contents → (text : List ℕ) → Type 0
 HasSendable mib text =
-    (name : List ℕ) × TextMeans mib.naming text (Ok name) × IsWire (wire name)
+    (name : List ℕ) × TextMeans mib text (Ok name) × IsWire (wire name)
 
 -- the text states a name that can't be sent
-abbrev pub HasUnsendable : Mib → (text : List ℕ) → Fault → Type 0
-HasUnsendable mib text why = (name : List ℕ) × TextMeans mib.naming text (Ok name)
+abbrev pub HasUnsendable : Contents → (text : List ℕ) → Fault → Type 0
+HasUnsendable mib text why = (name : List ℕ) × TextMeans mib text (Ok name)
     × IsUnsendable name × (why ≡ unsendable text)
 
 -- the texts state a root and a name of which this is true
-abbrev pub HaveNames : Mib → (root_text text : List ℕ) → (List ℕ → List ℕ → Type 0) → Type 0
+abbrev pub HaveNames : Contents → (root_text text : List ℕ) → (List ℕ → List ℕ → Type 0) → Type 0
 HaveNames mib root_text text Is =
-    (root : List ℕ) × (after : List ℕ) × TextMeans mib.naming root_text (Ok root)
-    × TextMeans mib.naming text (Ok after) × Is root after
+    (root : List ℕ) × (after : List ℕ) × TextMeans mib root_text (Ok root)
+    × TextMeans mib text (Ok after) × Is root after
 
 -- this is true of the agent of the words
 abbrev pub OfAgent : AskWords → (Address → Type 0) → Type 0
@@ -190,7 +192,7 @@ abbrev pub IsDoneFor : AskWords → Holdings → LoadingStep → Type 0
 IsDoneFor words files (asking step) = IsAskingDone words.asking step
 IsDoneFor words files choices_step =
     (choices : Choices) × HasChosen words.request choices
-IsDoneFor words files mibs_step = (mib : Mib) × IsMibOf (MayHold files) words.asking mib
+IsDoneFor words files mibs_step = (mib : Contents) × IsMibOf (MayHold files) words.asking mib
 
 -- it fails for this reason
 abbrev pub FailsFor : AskWords → Holdings → LoadingStep → Fault → Type 0
@@ -200,7 +202,7 @@ FailsFor words files choices_step why =
 FailsFor words files mibs_step why = MibsFail files words.asking.mibs why
 
 -- by the names that were loaded, the later step is done: what it looks for is there
-abbrev pub IsDoneBy : AskWords → Holdings → Mib → LaterStep → Type 0
+abbrev pub IsDoneBy : AskWords → Holdings → Contents → LaterStep → Type 0
 IsDoneBy words files mib (name_step text) = HasMeaning mib text
 IsDoneBy words files mib reach_step = OfAgent words (IsReached files mib)
 IsDoneBy words files mib (sent_step text) = HasSendable mib text
@@ -208,8 +210,8 @@ IsDoneBy words files mib (below_step root_text text) =
     HaveNames mib root_text text (λ root after. IsAtOrBelow after root)
 
 -- by the names that were loaded, it fails for this reason
-abbrev pub FailsBy : AskWords → Holdings → Mib → LaterStep → Fault → Type 0
-FailsBy words files mib (name_step text) why = NameFails mib.naming text why
+abbrev pub FailsBy : AskWords → Holdings → Contents → LaterStep → Fault → Type 0
+FailsBy words files mib (name_step text) why = NameFails mib text why
 FailsBy words files mib reach_step why = OfAgent words (λ agent. ReachFails files mib agent why)
 FailsBy words files mib (sent_step text) why = HasUnsendable mib text why
 FailsBy words files mib (below_step root_text text) why =
@@ -224,19 +226,19 @@ IsEarlyRefusal words files why =
 
 -- why no agent is reached by the names that were loaded, after all steps up to the modules: memory
 -- ran out, or a later step up to the agent failed
-pub record IsLateRefusal (words : AskWords) (files : Holdings) (mib : Mib) (why : Fault) : Type 0
-  where
-    pub loaded : AreDone (IsDoneFor words files) loading_steps
-    pub fails : (why ≡ out_of_memory)
-        ⊎ IsFirstToFail (reaching_steps words.request) (IsDoneBy words files mib)
-        (FailsBy words files mib) why
+pub record IsLateRefusal (words : AskWords) (files : Holdings) (mib : Contents) (why : Fault)
+    : Type 0 where
+  pub loaded : AreDone (IsDoneFor words files) loading_steps
+  pub fails : (why ≡ out_of_memory)
+      ⊎ IsFirstToFail (reaching_steps words.request) (IsDoneBy words files mib)
+      (FailsBy words files mib) why
 
 -- why the agent that was reached by these names isn't asked: the first of the last steps that
 -- fails
-pub record IsLastRefusal (words : AskWords) (files : Holdings) (mib : Mib) (why : Fault) : Type 0
-  where
-    pub loaded : AreDone (IsDoneFor words files) loading_steps
-    pub named : AreDone (IsDoneBy words files mib) (name_steps words.request)
-    pub reached : IsDoneBy words files mib reach_step
-    pub fails : IsFirstToFail (sent_steps words.request) (IsDoneBy words files mib)
-        (FailsBy words files mib) why
+pub record IsLastRefusal (words : AskWords) (files : Holdings) (mib : Contents) (why : Fault)
+    : Type 0 where
+  pub loaded : AreDone (IsDoneFor words files) loading_steps
+  pub named : AreDone (IsDoneBy words files mib) (name_steps words.request)
+  pub reached : IsDoneBy words files mib reach_step
+  pub fails : IsFirstToFail (sent_steps words.request) (IsDoneBy words files mib)
+      (FailsBy words files mib) why

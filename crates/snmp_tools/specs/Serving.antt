@@ -3,8 +3,8 @@ use Rattle.std.specs.Prelude.{ℕ, Option}
 use Rattle.snmp_io.specs.Output.{Stream}
 use Rattle.snmp_net.specs.declared.links.Links.{Ghosts as Network}
 use Rattle.snmp_words.specs.Words.{ServeWords}
-use Rattle.snmp_tools.specs.{loading.Loaded.LoadFacts, Message.Fault, Outcome.IsReported, Seen.Seen}
-use Rattle.snmp_tools.specs.agent.Outcome.{IsServeOutcome}
+use Rattle.snmp_tools.specs.{load.Loaded.LoadFacts, Message.Fault, Outcome.IsReported, Seen.Seen}
+use Rattle.snmp_tools.specs.serve.Outcome.{IsServeOutcome}
 
 -- the outcome of the words of snmpd, which is reported after the modules' warnings
 pub record IsServeRun {N V D : Type 0} (net : Network N V D) (Loads : LoadFacts)

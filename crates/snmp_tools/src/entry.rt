@@ -1,15 +1,14 @@
 //! From words to status.
 ghost use Rattle.std.specs.{Prelude.◌≡◌, Prelude.ℕ, Prelude.List, Prelude.codes, Str.Lines.lines};
 ghost use Rattle.snmp_words.specs.Words.{AreFaulty, StateJob, Stated, texts_at};
-ghost use Rattle.snmp_tools.specs.{Done.IsJobDone, Seen.seen};
+ghost use Rattle.snmp_tools.specs.{Done.IsJobDone, Seen.seen, load.Loaded.any_load};
 ghost use Rattle.snmp_tools.specs.TableWalk.{HoldsTableFile, PrintsRows, table_walk};
 ghost use Rattle.snmp_tools.specs.Usage.{AreFaultless, IsHelpOrMistake, PrintsHelp};
 
-use crate::error_output::ErrorOutput;
 use crate::job::run_job;
 use crate::laws::table_walks;
-use crate::loading::ModuleFiles;
-use snmp_io::{Output, write_all};
+use crate::messages::Messages;
+use snmp_io::{Files, Output, write_all};
 use snmp_net::Links;
 use snmp_words::{UsageError, one_job, read_words};
 use std::alloc::Global;
@@ -20,7 +19,7 @@ use std::alloc::Global;
 /// It is 0 where that was done, 2 where an agent replied with an error status, and 1 in any other
 /// case. A failure is one line on `err`, except that a mistake in the command line's syntax may
 /// take several.
-pub fn tool<F: ModuleFiles<E>, L: Links, O: Output, E: ErrorOutput>(
+pub fn tool<F: Files, L: Links, O: Output, E: Output>(
     alloc: Global,
     words: &[&str],
     files: &F,
@@ -38,7 +37,7 @@ pub fn tool<F: ModuleFiles<E>, L: Links, O: Output, E: ErrorOutput>(
     // The job that the words state is done, or refused as its steps say.
     ensures done { (job : Stated) → AreFaultless (texts_at words.now)
         → StateJob (texts_at words.now) job
-        → IsJobDone L.Links L.Wire.Link (F.loads files.now) job
+        → IsJobDone L.Links L.Wire.Link any_load job
         (seen (F.text_at files.now) links.old (O.stream out.old) (E.stream err.old))
         (seen (F.text_at files.now) links.new (O.stream out.new) (E.stream err.new)) result }
     // Words with a fault give status 1 and a message, or ask for help or the version, which is
@@ -64,7 +63,7 @@ pub fn tool<F: ModuleFiles<E>, L: Links, O: Output, E: ErrorOutput>(
 }
 
 /// Prints the help that was asked for, and returns the status.
-fn print_help<O: Output, E: ErrorOutput>(text: &str, out: &mut O, err: &mut E) -> u8
+fn print_help<O: Output, E: Messages>(text: &str, out: &mut O, err: &mut E) -> u8
     ensures { PrintsHelp text.now (O.stream out.old) (O.stream out.new)
         (E.stream err.old) (E.stream err.new) result }
 {

@@ -2,14 +2,14 @@
 ghost use Rattle.std.specs.Prelude.{◌≡◌, ◌++◌, ◌∷◌, codes, OnOk, OnErr};
 ghost use Rattle.std.specs.Fmt.{signed_decimal};
 ghost use Rattle.snmp_oid.specs.Numeric.{numeric_text};
-ghost use Rattle.snmp_io.specs.draft.Draft.{Adds};
+ghost use Rattle.snmp_io.specs.Draft.{Adds};
 ghost use Rattle.snmp_tools.specs.Message.{end_message, error_status_text, name_fault, status_name};
 ghost use Rattle.snmp_tools.specs.Message.{table_message, fault_of, fault_message, status_of};
 ghost use Rattle.snmp_tools.specs.Message.{modules_fault};
-ghost use Rattle.snmp_tools.specs.loading.Message.{refusal_of};
+ghost use Rattle.snmp_tools.specs.load.Message.{refusal_of};
 ghost use Rattle.snmp_tools.specs.declared.failure.Failure.TheVariants.{Memory};
 
-use crate::loading::{FilesError, at_line, unreadable_text};
+use crate::load::{FilesError, at_line, unreadable_text};
 use smi_show::NameError;
 use snmp_agent::TableError;
 use snmp_io::Draft;

@@ -3,19 +3,19 @@ ghost use Rattle.std.specs.Prelude.{◌≡◌, ◌++◌, codes, IfOk};
 ghost use Rattle.snmp_words.specs.Words.{job_words};
 ghost use Rattle.snmp_tools.specs.Done.{IsJobDone, IsJobOutcome};
 ghost use Rattle.snmp_tools.specs.Message.{fault_of, fault_message, outcome_of};
-ghost use Rattle.snmp_tools.specs.{Outcome.IsReported, Seen.seen};
+ghost use Rattle.snmp_tools.specs.{Outcome.IsReported, Seen.seen, load.Loaded.any_load};
 
-use crate::agent::serve_table;
-use crate::ask::ask;
-use crate::error_output::ErrorOutput;
 use crate::failure::Failure;
-use crate::loading::{ModuleFiles, one_list_of_modules};
-use crate::request::AskJob;
-use crate::translation::translate;
+use crate::load::{ModuleLoader, one_list_of_modules};
+use crate::messages::Messages;
+use crate::plan::AskJob;
+use crate::run::ask;
+use crate::serve::serve_table;
+use crate::translate::translate;
 use smi_show::one_meaning;
 use smi_tree::one_tree;
 use snmp_agent::{no_fault, one_table};
-use snmp_io::Output;
+use snmp_io::{Files, Output};
 use snmp_net::Links;
 use snmp_words::Job;
 use std::alloc::{AllocError, Global};
@@ -25,7 +25,23 @@ use std::alloc::{AllocError, Global};
 ///
 /// The lines of a reply are written to `out` together, as it comes. A failure is one line on `err`;
 /// an `err` that fails itself changes nothing else.
-pub fn run_job<F: ModuleFiles<E>, L: Links, O: Output, E: ErrorOutput>(
+pub fn run_job<F: Files, L: Links, O: Output, E: Output>(
+    alloc: Global,
+    job: &Job<'_>,
+    files: &F,
+    links: &mut L,
+    out: &mut O,
+    err: &mut E,
+) -> u8
+    ensures { IsJobDone L.Links L.Wire.Link any_load (job_words job.now)
+        (seen (F.text_at files.now) links.old (O.stream out.old) (E.stream err.old))
+        (seen (F.text_at files.now) links.new (O.stream out.new) (E.stream err.new)) result }
+{
+    do_job(alloc, job, files, links, out, err)
+}
+
+/// Does a job, and reports why not all of it was done, if it wasn't.
+fn do_job<F: ModuleLoader<E>, L: Links, O: Output, E: Messages>(
     alloc: Global,
     job: &Job<'_>,
     files: &F,
@@ -47,7 +63,7 @@ pub fn run_job<F: ModuleFiles<E>, L: Links, O: Output, E: ErrorOutput>(
 }
 
 /// Does a job, and returns why not all of it was done, if it wasn't.
-fn try_job<'a, F: ModuleFiles<E>, L: Links, O: Output, E: ErrorOutput>(
+fn try_job<'a, F: ModuleLoader<E>, L: Links, O: Output, E: Messages>(
     alloc: Global,
     job: &Job<'a>,
     files: &F,
@@ -71,7 +87,7 @@ fn try_job<'a, F: ModuleFiles<E>, L: Links, O: Output, E: ErrorOutput>(
 
 /// Reports on `err` why a job wasn't done, if it wasn't, and returns the exit status. Where memory
 /// for the message runs out, that is reported.
-fn report<E: ErrorOutput>(alloc: Global, done: Result<(), Failure<'_>>, err: &mut E) -> u8
+fn report<E: Messages>(alloc: Global, done: Result<(), Failure<'_>>, err: &mut E) -> u8
     ensures { IsReported (outcome_of done.entry) (E.stream err.old) (E.stream err.new) result }
 {
     let failure = match done {

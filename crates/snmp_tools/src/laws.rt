@@ -9,11 +9,11 @@ ghost use Rattle.snmp_tools.specs.BothEnds.{IsAskInNumbers, IsAskOfServer, IsWal
 ghost use Rattle.snmp_tools.specs.BothEnds.{PrintsServed, ServesInTurn};
 ghost use Rattle.snmp_tools.specs.{Done.IsAskDone, Headline.WritesRowsOf, Question.AskWords};
 ghost use Rattle.snmp_tools.specs.{Question.of_walk, Seen.Seen, Serving.IsServeRun};
+ghost use Rattle.snmp_tools.specs.load.Loaded.{any_load};
 ghost use Rattle.snmp_tools.specs.private.Planned.{numeric_walk};
 ghost use Rattle.snmp_tools.specs.TableWalk.{HoldsTableFile, PrintsRows, table_walk};
 
-use crate::error_output::ErrorOutput;
-use crate::loading::{ModuleFiles, one_list_of_modules};
+use crate::load::one_list_of_modules;
 use crate::table_names::names_are_meant;
 use smi_show::{numbers_are_read, one_meaning};
 use smi_tree::{bare_tree, one_tree};
@@ -61,22 +61,14 @@ pub(crate) fn table_walks()
 /// Nothing is said of when status 0 comes. That snmpd serves in turn at its doors is what `M` says
 /// of them. Of the machine's own network nothing is known of its turns (its `serves` says nothing),
 /// so this is about networks that say what they serve, for example those in memory.
-pub fn served_tables<
-    F: ModuleFiles<E>,
-    E: ErrorOutput,
-    L: Links,
-    G: ModuleFiles<H>,
-    H: ErrorOutput,
-    M: Links,
-    D: Endpoint,
->()
-    ensures printed { (endpoint_at : M.Door → D) (files : F) (words : AskWords)
-        (before after : Seen L) (status : ℕ) (server_files : G) (serving : ServeWords)
+pub fn served_tables<L: Links, M: Links, D: Endpoint>()
+    ensures printed { (endpoint_at : M.Door → D) (words : AskWords)
+        (before after : Seen L) (status : ℕ) (serving : ServeWords)
         (server_before server_after : Seen M) (server_status : ℕ) (rows : List VarBind)
         (ask : IsAskOfServer words before.files serving server_before.files rows)
         → ServesInTurn M.Links endpoint_at D.happens
-        → IsAskDone L.Links L.Wire.Link (F.loads files) words before after status
-        → IsServeRun M.Links (G.loads server_files) serving server_before server_after
+        → IsAskDone L.Links L.Wire.Link any_load words before after status
+        → IsServeRun M.Links any_load serving server_before server_after
         server_status
         → PrintsServed L.Links L.Wire.Link M.Links endpoint_at D.happens words before after
         status serving server_before server_after server_status rows ask }

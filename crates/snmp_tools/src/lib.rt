@@ -20,33 +20,31 @@
 //! ```
 #![tactic(auto)]
 
-mod agent;
-mod ask;
-mod choices;
 mod entry;
-mod error_output;
 mod failure;
 mod job;
-mod judge;
 mod laws;
-mod letters;
-mod lines;
-mod loading;
+mod load;
+mod messages;
 mod names;
 mod plan;
-mod request;
-mod start;
+mod run;
+mod serve;
 mod table_names;
-mod translation;
+mod translate;
 
-pub use crate::loading::{FilesError, ModuleFiles, WithoutModules, load_tree};
 pub use entry::tool;
-pub use error_output::ErrorOutput;
-pub use failure::Failure;
 pub use job::run_job;
-pub use laws::{served_tables, served_walks_in_numbers};
 pub use snmp_io::{FileFault, Files, Output, OutputFault};
 pub use snmp_net::Links;
 pub use snmp_words::{
     Asking, GetJob, Job, ServeJob, TranslateJob, UsageError, WalkJob, read_words,
 };
+
+// Why a job wasn't done, and a load of module files by itself: for tests, and for messages of a
+// caller's own.
+pub use failure::Failure;
+pub use load::{FilesError, load_tree};
+
+// Laws: calls that do nothing, for proofs.
+pub use laws::{served_tables, served_walks_in_numbers};

@@ -5,19 +5,21 @@ ghost use Rattle.smi_show.specs.name.Meant.{TextMeans};
 ghost use Rattle.snmp_oid.specs.Identifier.{IsWire, wire};
 ghost use Rattle.snmp_words.specs.Words.{texts_at};
 ghost use Rattle.snmp_tools.specs.{Asking.IsNameIfGiven, Asking.NameFails, Message.fault_of};
-ghost use Rattle.snmp_tools.specs.{Message.out_of_memory, Mib.Mib, private.Planned.mib_in};
+ghost use Rattle.snmp_tools.specs.{Message.out_of_memory};
 ghost use Rattle.snmp_tools.specs.Question.{AreNames, HasMeaning, HasSendable, HasUnsendable};
 ghost use Rattle.snmp_io.specs.Steps.{IsFirstToFail};
+ghost use Rattle.smi_tree.specs.{Tree.Contents};
 
 use crate::failure::Failure;
-use smi_show::{NameTree, ShowTree, resolve, resolve_into};
+use smi_show::{resolve, resolve_into};
+use smi_tree::Tree;
 use snmp_oid::Oid;
 use std::alloc::Global;
 
 /// The name that a text states.
-pub(crate) fn name<'a, T: NameTree>(tree: &T, text: &'a str) -> Result<Oid, Failure<'a>>
-    ensures ok { IfOk result (λ o. TextMeans (T.naming tree.now) text.entry.now (Ok o)) }
-    ensures err { IfErr result (λ e. NameFails (T.naming tree.now) text.entry.now (fault_of e)) }
+pub(crate) fn name<'a>(tree: &Tree, text: &'a str) -> Result<Oid, Failure<'a>>
+    ensures ok { IfOk result (λ o. TextMeans tree.now text.entry.now (Ok o)) }
+    ensures err { IfErr result (λ e. NameFails tree.now text.entry.now (fault_of e)) }
 {
     match resolve(tree, text.as_bytes()) {
         Ok(name) => Ok(name),
@@ -26,13 +28,9 @@ pub(crate) fn name<'a, T: NameTree>(tree: &T, text: &'a str) -> Result<Oid, Fail
 }
 
 /// Reads the name that a text states into an identifier that is there.
-pub(crate) fn read_name<'a, T: NameTree>(
-    tree: &T,
-    text: &'a str,
-    oid: &mut Oid,
-) -> Result<(), Failure<'a>>
-    ensures ok { OnOk result (TextMeans (T.naming tree.now) text.entry.now (Ok oid.new)) }
-    ensures err { IfErr result (λ e. NameFails (T.naming tree.now) text.entry.now (fault_of e)) }
+pub(crate) fn read_name<'a>(tree: &Tree, text: &'a str, oid: &mut Oid) -> Result<(), Failure<'a>>
+    ensures ok { OnOk result (TextMeans tree.now text.entry.now (Ok oid.new)) }
+    ensures err { IfErr result (λ e. NameFails tree.now text.entry.now (fault_of e)) }
 {
     match resolve_into(tree, text.as_bytes(), oid) {
         Ok(()) => Ok(()),
@@ -41,15 +39,14 @@ pub(crate) fn read_name<'a, T: NameTree>(
 }
 
 /// The name that a text states, where there is a text.
-pub(crate) fn name_if_given<'a, T: NameTree>(
-    tree: &T,
+pub(crate) fn name_if_given<'a>(
+    tree: &Tree,
     text: Option<&'a str>,
 ) -> Result<Option<Oid>, Failure<'a>>
-    ensures ok { (mib : Mib) → mib.naming ≡ T.naming tree.now
-        → IfOk result (IsNameIfGiven mib (option_map (λ t. t.now) text.entry)) }
+    ensures ok { IfOk result (IsNameIfGiven tree.now (option_map (λ t. t.now) text.entry)) }
     ensures err { IfErr result (λ e.
         (t : List ℕ) × (option_map (λ t. t.now) text.entry ≡ Some t)
-        × NameFails (T.naming tree.now) t (fault_of e)) }
+        × NameFails tree.now t (fault_of e)) }
 {
     match text {
         None => Ok(None),
@@ -58,17 +55,15 @@ pub(crate) fn name_if_given<'a, T: NameTree>(
 }
 
 /// The names that texts state, in order, or the first of the texts that states none.
-pub(crate) fn read_names<'a, T: ShowTree>(
+pub(crate) fn read_names<'a>(
     alloc: Global,
-    tree: &T,
+    tree: &Tree,
     texts: &[&'a str],
 ) -> Result<Vec<Oid>, Failure<'a>>
-    ensures named { IfOk result (λ names. AreNames
-        (mib_in (T.naming tree.now) (T.syntax_at tree.now)) (texts_at texts.now) names.items) }
+    ensures named { IfOk result (λ names. AreNames tree.now (texts_at texts.now) names.items) }
     ensures err { IfErr result (λ e. (fault_of e ≡ out_of_memory)
-        ⊎ IsFirstToFail (texts_at texts.now)
-        (HasMeaning (mib_in (T.naming tree.now) (T.syntax_at tree.now)))
-        (NameFails (T.naming tree.now)) (fault_of e)) }
+        ⊎ IsFirstToFail (texts_at texts.now) (HasMeaning tree.now) (NameFails tree.now)
+        (fault_of e)) }
 {
     let mut names = Vec::new(alloc);
     'texts: for text in texts {
@@ -85,7 +80,7 @@ pub(crate) fn read_names<'a, T: ShowTree>(
 pub(crate) fn check_names<'a>(texts: &[&'a str], names: &[Oid]) -> Result<(), Failure<'a>>
     requires { length names.now ≡ length texts.now }
     ensures sendable { OnOk result (All (λ o. IsWire (wire o)) names.now) }
-    ensures err { (mib : Mib) → AreNames mib (texts_at texts.now) names.now
+    ensures err { (mib : Contents) → AreNames mib (texts_at texts.now) names.now
         → IfErr result (λ e. IsFirstToFail (texts_at texts.now) (HasSendable mib)
         (HasUnsendable mib) (fault_of e)) }
 {

@@ -1,13 +1,61 @@
-//! The plan that is made of the words of a job that asks an agent.
-ghost use Rattle.std.specs.Prelude.{◌≡◌, ◌≤◌, length};
+//! The plan that is made of the words of a job that asks an agent: they are judged in order, up to
+//! the first that has no meaning, and its names are looked up.
+ghost use Rattle.std.specs.Prelude.{◌≡◌, ◌≤◌, length, IfErr, IfOk};
 ghost use Rattle.snmp_walk.specs.Walker.{IsMethod};
-ghost use Rattle.snmp_tools.specs.Letters.{IsMethod-prop};
+ghost use Rattle.snmp_tools.specs.{Asking.HasAgent, Letters.IsMethod-prop, Message.fault_of};
+ghost use Rattle.snmp_io.specs.Files.{Holdings};
+ghost use Rattle.snmp_tools.specs.Question.{AskFor, HasChosen, IsEarlyRefusal, IsQuestionOf};
+ghost use Rattle.snmp_tools.specs.Question.{counts_in};
 
-use crate::choices::Choices;
+mod choices;
+mod judge;
+mod request;
+
+use crate::failure::Failure;
+use crate::names::{name, name_if_given, read_names};
+pub(crate) use choices::Choices;
+use judge::{read_agent, read_shown};
+pub(crate) use request::{AskJob, Request};
 use smi_show::Letters;
+use smi_tree::Tree;
 use snmp_net::AgentAddress;
 use snmp_oid::Oid;
 use snmp_walk::{Method, Mode};
+use std::alloc::Global;
+
+/// A question, to whom, and how the answer is shown.
+#[derive(Debug, Drop)]
+pub(crate) struct Plan<'j, 'a> {
+    /// To whom, and how the answer is shown.
+    pub(crate) orders: Orders<'a>,
+    /// What is asked.
+    pub(crate) question: Question<'j, 'a>,
+}
+
+impl<'j, 'a> Plan<'j, 'a> {
+    ghost use Rattle.snmp_tools.specs.private.Planned.{AreOrdersOf, HasTextsOf, NamesFail};
+    ghost use Rattle.snmp_tools.specs.private.Planned.{ask_words, plan_of};
+
+    /// What the words ask for, by the names of a tree.
+    pub(crate) fn read(
+        alloc: Global,
+        job: AskJob<'j, 'a>,
+        orders: Orders<'a>,
+        tree: &Tree,
+    ) -> Result<Plan<'j, 'a>, Failure<'a>>
+        requires { AreOrdersOf (ask_words job) orders }
+        ensures asked { IfOk result (λ plan. AskFor (ask_words job.entry) tree.now (plan_of plan)) }
+        ensures only { IfOk result (λ plan.
+            HasAgent (ask_words job.entry).asking.agent (plan_of plan).agent) }
+        ensures texts { IfOk result (λ plan.
+            HasTextsOf (ask_words job.entry).request plan.question) }
+        ensures refused { IfErr result (λ e. NamesFail (ask_words job.entry).request
+            tree.now (fault_of e)) }
+    {
+        let question = Question::read(alloc, job.request, orders.choices, tree)?;
+        Ok(Plan { orders, question })
+    }
+}
 
 /// What the words say, before any file is read and names are looked up.
 #[derive(Clone, Copy, Debug)]
@@ -25,6 +73,94 @@ pub(crate) struct Orders<'a> {
     ghost short_community: { length community.now ≤ 255 },
     ghost some_size: { 1 ≤ max_size },
     ghost datagram_size: { max_size ≤ 65507 },
+}
+
+impl<'a> Orders<'a> {
+    ghost use Rattle.snmp_tools.specs.private.Planned.{AreOrdersOf, ask_words};
+
+    /// What the words say before names are looked up.
+    pub(crate) fn read(job: AskJob<'_, 'a>) -> Result<Orders<'a>, Failure<'a>>
+        ensures orders { IfOk result (AreOrdersOf (ask_words job.entry)) }
+        ensures refused { (files : Holdings)
+            → IfErr result (λ e. IsEarlyRefusal (ask_words job.entry) files (fault_of e)) }
+    {
+        let letters = read_shown(job.asking)?;
+        let choices = match Choices::of(job.request) {
+            Ok(choices) => choices,
+            Err(letter) => return Err(Failure::Letter(letter)),
+        };
+        let agent = read_agent(job.asking)?;
+        Ok(Orders {
+            letters,
+            choices,
+            community: job.asking.community.as_bytes(),
+            max_size: job.asking.max_size as usize,
+            agent,
+        })
+    }
+}
+
+/// A Get of names, or a walk.
+#[derive(Debug, Drop)]
+pub(crate) enum Question<'j, 'a> {
+    /// The names.
+    Get(Names<'j, 'a>),
+    /// The walk.
+    Walk(Walk<'a>),
+}
+
+impl<'j, 'a> Question<'j, 'a> {
+    ghost use Rattle.snmp_tools.specs.private.Chosen.{chosen};
+    ghost use Rattle.snmp_tools.specs.private.Planned.{HasTextsOf, NamesFail, question_of, request_of};
+
+    /// Whether the number of bindings is printed after them.
+    pub(crate) fn counts(&self) -> bool
+        ensures { result ≡ counts_in (question_of self.now) }
+    {
+        match self {
+            Question::Get(_) => false,
+            Question::Walk(walk) => walk.counts,
+        }
+    }
+
+    // What a request asks for, by the names of a tree.
+    fn read(
+        alloc: Global,
+        request: Request<'j, 'a>,
+        choices: Choices,
+        tree: &Tree,
+    ) -> Result<Question<'j, 'a>, Failure<'a>>
+        requires { HasChosen (request_of request) (chosen choices) }
+        ensures stated { IfOk result (λ question. IsQuestionOf (request_of request.entry)
+            (chosen choices) tree.now (question_of question)) }
+        ensures texts { IfOk result (HasTextsOf (request_of request.entry)) }
+        ensures refused { IfErr result (λ e. NamesFail (request_of request.entry)
+            tree.now (fault_of e)) }
+    {
+        match request {
+            Request::Get(texts) => Ok(Question::Get(Names {
+                texts,
+                oids: read_names(alloc, tree, texts)?,
+            })),
+            Request::Walk {
+                bulk,
+                after,
+                name: root,
+                ..
+            } => {
+                let (root_text, after_text) = (root.unwrap_or(MIB_2), after.unwrap_or(""));
+                Ok(Question::Walk(Walk {
+                    root_text,
+                    root: name(tree, root_text)?,
+                    after_text,
+                    after: name_if_given(tree, after)?,
+                    mode: choices.mode(),
+                    method: choices.method(bulk),
+                    counts: choices.counts,
+                }))
+            }
+        }
+    }
 }
 
 /// The names of a Get.
@@ -57,20 +193,5 @@ pub(crate) struct Walk<'a> {
     ghost good_method: { IsMethod method } by { IsMethod-prop method },
 }
 
-/// A Get of names, or a walk.
-#[derive(Debug, Drop)]
-pub(crate) enum Question<'j, 'a> {
-    /// The names.
-    Get(Names<'j, 'a>),
-    /// The walk.
-    Walk(Walk<'a>),
-}
-
-/// A question, to whom, and how the answer is shown.
-#[derive(Debug, Drop)]
-pub(crate) struct Plan<'j, 'a> {
-    /// To whom, and how the answer is shown.
-    pub(crate) orders: Orders<'a>,
-    /// What is asked.
-    pub(crate) question: Question<'j, 'a>,
-}
+/// The root of a walk where no name is given: `mib-2` (RFC 1213).
+const MIB_2: &str = "1.3.6.1.2.1";

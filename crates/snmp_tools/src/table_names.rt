@@ -1,29 +1,30 @@
 //! The table that a file states, and the names in it, by the nodes of a tree.
 ghost use Rattle.std.specs.Prelude.{◌≡◌, ◌⊎◌, IfErr, IfOk};
-ghost use Rattle.smi_show.specs.name.Naming.{Naming};
 ghost use Rattle.snmp_tools.specs.private.Resolved.{names_in};
 ghost use Rattle.snmp_tools.specs.Message.{fault_of, out_of_memory};
-ghost use Rattle.snmp_tools.specs.agent.TableFile.{AreNamesIn, HasTable, TableFails};
+ghost use Rattle.snmp_tools.specs.serve.TableFile.{AreNamesIn, HasTable, TableFails};
 ghost use Rattle.snmp_agent.specs.table.Format.{IsFrontRead};
+ghost use Rattle.smi_tree.specs.{Tree.Contents};
 
 use crate::failure::Failure;
-use smi_show::{NameTree, meanings_are_computed, one_meaning, resolve_front_into};
+use smi_show::{meanings_are_computed, one_meaning, resolve_front_into};
+use smi_tree::Tree;
 use snmp_agent::{Resolver, Table};
 use snmp_io::{FileFault, Files};
 use snmp_oid::Oid;
 use std::alloc::Global;
 
 /// The table that the file at a path states, by the names of a tree.
-pub(crate) fn table_at<'a, T: NameTree, F: Files>(
+pub(crate) fn table_at<'a, F: Files>(
     alloc: Global,
-    tree: &T,
+    tree: &Tree,
     files: &F,
     path: &'a str,
 ) -> Result<Table, Failure<'a>>
     ensures table { IfOk result
-        (HasTable (F.text_at files.now) (T.naming tree.now) path.now) }
+        (HasTable (F.text_at files.now) tree.now path.now) }
     ensures err { IfErr result (λ e. (fault_of e ≡ out_of_memory)
-        ⊎ TableFails (F.text_at files.now) (T.naming tree.now) path.now (fault_of e)) }
+        ⊎ TableFails (F.text_at files.now) tree.now path.now (fault_of e)) }
 {
     let text = match files.read(alloc, path) {
         Ok(text) => text,
@@ -39,15 +40,15 @@ pub(crate) fn table_at<'a, T: NameTree, F: Files>(
 
 /// The names that texts have by a tree.
 #[derive(Drop)]
-struct TreeNames<'a, T: NameTree> {
-    tree: &'a T,
+struct TreeNames<'a> {
+    tree: &'a Tree,
 }
 
-impl<'a, T: NameTree> Resolver for TreeNames<'a, T> {
-    ghost names = { λ n. names_in (T.naming n.tree.now) };
+impl<'a> Resolver for TreeNames<'a> {
+    ghost names = { λ n. names_in n.tree.now };
 
     fn front(&self, text: &[u8]) -> Option<(Oid, usize)>
-        ensures { IsFrontRead (names_in (T.naming self.now.tree.now)) text.now result }
+        ensures { IsFrontRead (names_in self.now.tree.now) text.now result }
     {
         names_are_meant();
         one_meaning();
@@ -65,7 +66,7 @@ impl<'a, T: NameTree> Resolver for TreeNames<'a, T> {
 
 /// The names that are looked up are those that texts mean.
 pub(crate) fn names_are_meant()
-    ensures { (naming : Naming) → AreNamesIn naming (names_in naming) }
+    ensures { (tree : Contents) → AreNamesIn tree (names_in tree) }
 {
     meanings_are_computed();
     one_meaning();

@@ -19,6 +19,8 @@ mod network;
 #[cfg(test)]
 mod opened;
 #[cfg(test)]
+mod own;
+#[cfg(test)]
 mod pages;
 #[cfg(test)]
 mod run;

@@ -1,11 +1,12 @@
 //! What a load of module files gives.
 
 use crate::tiny::{ACROSS, TINY, WELL};
-use smi_tree::{NameHash, Tree};
-use snmp_io::Output;
+use smi_tree::Tree;
 use snmp_io::memory::{MemoryFiles, MemoryOutput};
+use snmp_io::{KeyedFiles, Output};
 use snmp_tools::{FilesError, load_tree};
 use std::alloc::Global;
+use std::hash::RandomState;
 use std::process::Abort;
 use std::test::Fail;
 
@@ -23,7 +24,7 @@ fn load<'a>(
     err: &mut MemoryOutput,
 ) -> Result<Tree, FilesError<'a>> {
     let files = MemoryFiles { files: HELD };
-    load_tree(alloc, NameHash::Fixed, &files, paths, err)
+    load_tree(alloc, &files, paths, err)
 }
 
 // Asserts what the tree of `across.txt` and `well.txt` holds.
@@ -57,5 +58,17 @@ fn a_tree_is_loaded_though_the_output_fails(rt: HostRuntime) -> Result<(), Fail>
     let mut err = MemoryOutput::with_limit(rt.alloc(), 20);
     let tree = load(rt.alloc(), &["tiny.txt"], &mut err)?;
     assert_cut_off(&rt, &tree, &err);
+    Ok(())
+}
+
+#[test]
+fn a_tree_is_the_same_whatever_the_key(rt: HostRuntime) -> Result<(), Fail> {
+    let mut err = MemoryOutput::new(rt.alloc());
+    let files = KeyedFiles {
+        files: MemoryFiles { files: HELD },
+        key: RandomState::new(&rt).ok(),
+    };
+    let tree = load_tree(rt.alloc(), &files, &["across.txt", "well.txt"], &mut err)?;
+    assert_across(&rt, &tree);
     Ok(())
 }

@@ -4,8 +4,9 @@ use Rattle.std.proofs.Common.{Option}
 use Rattle.snmp_wire.specs.{Message.VarBind, Canon.canon}
 use Rattle.snmp_agent.specs.{table.Table.MibView, table.Table.IsMibView, table.Table.IsGet, table.Table.IsNext, table.Listing.variables}
 use Rattle.snmp_walk.specs.{declared.end.WalkEnd.WalkEnd, Walker.Walker, Walker.IsWalker, Standing.Reaches, Standing.IsPartOfWalk}
-use Rattle.snmp_walk.specs.{Standing.IsWholeWalk, Link.Agents, Link.OneOf, Link.IsNextFrom, Link.IsGotFrom, Link.AreViews, private.Codec.Codec}
-use Rattle.snmp_walk.specs.{Trail.last_name, Tables.HoldsNames, Walk.rest_of, Room.HasRoomForEach, Run.IsEachSent, Run.Try, Run.sent_by}
+use Rattle.snmp_walk.specs.{Standing.IsWholeWalk, Link.Agents, Link.IsNextFrom, Link.IsGotFrom, Link.AreViews, private.Codec.Codec}
+use Rattle.snmp_walk.specs.{Trail.last_name, Run.IsEachSent, Run.Try, Run.sent_by}
+use Rattle.snmp_walk.specs.Tables.{CountsNames, of_table, of_tables}
 use Rattle.snmp_walk.specs.{Request.request_of, Request.asked_for, Traffic.Traffic, Traffic.Lost, Names.comes_after}
 use Rattle.snmp_walk.specs.declared.end.WalkEnd.TheVariants as ending
 use Rattle.snmp_walk.specs.Facts.{IsFresh, IsLastSent, IsEndedBy, IsLawfulEnd, HasNoReply, HasNone, IsDone, GivenFacts, WalkFacts, SendFacts, gets}
@@ -56,21 +57,15 @@ pub lawful_by : (agents : Agents) (Silent Other : Walker → Type 0) (first : Wa
 lawful_by agents Silent Other first rows ending.NoResponse by h = (h.0, h.1, h.2, by h.0 h.3)
 lawful_by agents Silent Other first rows _ by h = h
 
--- there is room for each binding of the one table
-only_room : (agents : Agents) (first : Walker) (view : MibView) → agents.tables ≡ view ∷ [] → HasRoomForEach agents view first → (v : MibView)
-    → OneOf agents.tables v → HasRoomForEach agents v first
-only_room agents first view e rooms v one = subst (λ (u : MibView). HasRoomForEach agents u first) (sym (only_one view v agents.tables e one)) rooms
-
--- a trail has no more rows than the one table has below the root, or than there are names
-module _ (codec : Codec) (agents : Agents) (views : AreViews agents.tables) (first : Walker) (fresh : IsFresh first) where
-  pub in_table : (view : MibView) → agents.tables ≡ view ∷ []
-      → HasFew (IsNextFrom agents) first (length (rest_of first.root first.asked (variables view)))
-  in_table view e =
-      let got = codec.got view first.asked in
-      trail_in_rest agents first view got.0 (one_table codec agents first view got.0 views e got.1) fresh.begins.0 fresh.begins.1
-
-  pub in_names : (names : List (List ℕ)) → HoldsNames agents first names → HasFew (IsNextFrom agents) first (length names)
-  in_names = few_rows codec agents views first fresh.begins.0 fresh.begins.1
+-- a trail has no more rows than there are names below the root
+pub counted_few : Codec → (agents : Agents) → AreViews agents.tables → (first : Walker) → IsFresh first → (k : ℕ) → CountsNames agents first k
+    → HasFew (IsNextFrom agents) first k
+counted_few codec agents views first fresh k (of_table view e is) =
+    let got = codec.got view first.asked in
+    subst (HasFew (IsNextFrom agents) first) (sym is)
+    (trail_in_rest agents first view got.0 (one_table codec agents first view got.0 views e got.1) fresh.begins.0 fresh.begins.1)
+counted_few codec agents views first fresh k (of_tables names all is) =
+    subst (HasFew (IsNextFrom agents) first) (sym is) (few_rows codec agents views first fresh.begins.0 fresh.begins.1 names all)
 
 module _ (codec : Codec) (agents : Agents) (Silent : Walker → Type 0) (first : Walker) (rows refused : List VarBind) (end : WalkEnd)
     (fresh : IsFresh first) (views : AreViews agents.tables) (part : IsPartOfWalk (IsNextFrom agents) (IsGotFrom agents) first (rows ++ refused))
@@ -93,9 +88,6 @@ module _ (codec : Codec) (agents : Agents) (Silent : Walker → Type 0) (first :
         all_at_done = λ view got e answer done.
             whole_is (variables view) got (IsNextFrom agents) (IsGotFrom agents) first
             (one_table codec agents first view got views e answer) s begins rows (whole done);
-        done_unless_lost = λ view e rooms ids.
-            left_end codec agents first views (only_room agents first view e rooms) (length (rest_of first.root first.asked (variables view)))
-            (in_table codec agents views first fresh view e) ids Silent rows end lawful;
         from_tables = part_from codec agents views first s begins (rows ++ refused) part;
         common_names = λ name of each front last e passed. once rows name rising
             (common_in codec agents views first s begins rows given name of each
@@ -104,8 +96,8 @@ module _ (codec : Codec) (agents : Agents) (Silent : Walker → Type 0) (first :
             ∙ false_from_ne_true (comes_after last.name name) (λ after. passed (after_precedes codec last.name name after))));
         common_at_done = λ done name of each. once rows name rising (common_in_whole codec agents views first s begins rows (whole done) name of each);
         some_at_done = λ done plain. whole_some (IsNextFrom agents) (IsGotFrom agents) first rows (whole done) plain;
-        done_unless_lost_in_tables = λ names all rooms ids.
-            left_end codec agents first views rooms (length names) (in_names codec agents views first fresh names all) ids Silent rows end lawful;
+        done_unless_lost = λ k counts rooms ids.
+            left_end codec agents first views rooms k (counted_few codec agents views first fresh k counts) ids Silent rows end lawful;
       }
 
 module _ (codec : Codec) (agents : Agents) (tries : ℕ) (old new : Traffic) (first : Walker) (rows refused : List VarBind) (end : WalkEnd) (some : 0 < tries)
@@ -122,11 +114,8 @@ module _ (codec : Codec) (agents : Agents) (tries : ℕ) (old new : Traffic) (fi
     given = given_facts codec agents (HasNoReply agents tries old new) first rows refused end fresh views part lawful;
     last_request = last;
     replied = replied;
-    done_unless_stopped = λ view e rooms ids none.
-        swift_end codec agents first views (only_room agents first view e rooms) (length (rest_of first.root first.asked (variables view)))
-        (in_table codec agents views first fresh view e) ids rows end (replied none);
-    done_unless_stopped_in_tables = λ names all rooms ids none.
-        swift_end codec agents first views rooms (length names) (in_names codec agents views first fresh names all) ids rows end (replied none);
+    done_unless_stopped = λ k counts rooms ids none.
+        swift_end codec agents first views rooms k (counted_few codec agents views first fresh k counts) ids rows end (replied none);
   }
 
 -- what a run sent
@@ -149,10 +138,8 @@ send_facts codec agents honest Roomy tries old new first w rows given end fresh 
   used = λ k.
       let u = (honestly k).0 in
       (u.0, u.1, omega (arith, u.2, ap length h.sent, length-append old.sent (sent_by h.requests)));
-  few_of_table = λ k view e. few k _ (in_table codec agents (honestly k).1 first fresh view e);
-  few_of_tables = λ k names all. few k _ (in_names codec agents (honestly k).1 first fresh names all);
-  few_of_table_where_all_fit = λ k room view e. fast k room _ (in_table codec agents (honestly k).1 first fresh view e);
-  few_of_tables_where_all_fit = λ k room names all. fast k room _ (in_names codec agents (honestly k).1 first fresh names all);
+  few_of_names = λ is k counts. few is k (counted_few codec agents (honestly is).1 first fresh k counts);
+  few_where_all_fit = λ is room k counts. fast is room k (counted_few codec agents (honestly is).1 first fresh k counts);
 }
   where
     few : honest → (n : ℕ) → HasFew (IsNextFrom agents) first n → length h.requests ≤ n + 1 + gets first.mode

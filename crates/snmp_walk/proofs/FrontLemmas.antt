@@ -3,7 +3,7 @@ use Rattle.std.proofs.{lemmas.Grind.common_steps, lemmas.Bool.le-ltb, lemmas.Boo
 use Rattle.std.proofs.Common.{◌≡◌, ℕ, ◌+◌, Bool, true, false, cond, List, [], ◌∷◌, length, take, refl, sym, ◌∙◌, ap, subst, arith}
 use Rattle.std.specs.Prelude.{◌||◌}
 use Rattle.snmp_wire.specs.Message.{VarBind}
-use Rattle.snmp_walk.specs.declared.phase.Phase.TheVariants as phase
+use Rattle.snmp_walk.specs.declared.mode.Phase.TheVariants as phase
 use Rattle.snmp_walk.specs.declared.end.WalkEnd.TheVariants as walk_end
 use Rattle.snmp_walk.specs.{Names.is_inside, Names.comes_after, Walker.Walker, Request.asked_for, declared.walker.Ending.Ending}
 use Rattle.snmp_walk.specs.private.Taken.{stops, goes_on, closes, reads, reads_as, reads_next}

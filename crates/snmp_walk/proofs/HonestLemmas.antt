@@ -5,7 +5,7 @@ use Rattle.std.proofs.Common.{pos, negsuc, length-append, append-nil, true, fals
 use Rattle.std.specs.{Prelude.FitsSigned, Prelude.unsigned_abs, Int.w32, List.list_any}
 use Rattle.snmp_wire.specs.declared.kind.Kind.TheVariants as kind
 use Rattle.snmp_wire.specs.{Message.VarBind, Message.Message, Message.null_value, Name.asking, Spelling.Spells, Canon.canon, Range.IsMessageInRange}
-use Rattle.snmp_walk.specs.{private.Codec.Codec, declared.mode.Method.Method, declared.phase.Phase.Phase, private.Taken.is_over, Judged.IsResponseTo}
+use Rattle.snmp_walk.specs.{private.Codec.Codec, declared.mode.Method.Method, declared.mode.Phase.Phase, private.Taken.is_over, Judged.IsResponseTo}
 use Rattle.snmp_walk.specs.{Names.is_end, Run.IsFull, Run.IsFullReply, private.Heard.IsAsked, private.Heard.IsEarlier, Tries.IsNotAwaited}
 use Rattle.snmp_walk.specs.{Tries.IsTried, declared.link.Link.Ghosts as LinkFacts, Responses.IsResponseFrom, Responses.MayRespond, Walker.Walker}
 use Rattle.snmp_walk.specs.{Walker.HasRange, Walker.IsMethod, Walker.IsWalker, Request.request_of, Request.request_kind, Request.request_repetitions}
@@ -15,7 +15,7 @@ use Rattle.snmp_agent.specs.declared.config.Why.TheVariants as why
 use Rattle.snmp_agent.specs.Reply.{Agent, IsDropped, IsServed, response, AreAnswers, got, got_next, unwritten, Fits, IsBulk, IsLongestFront}
 use Rattle.snmp_agent.specs.Reply.{IsResponse, whole, shortened, bulk, no_error}
 use Rattle.snmp_walk.specs.declared.mode.Method.TheVariants as method
-use Rattle.snmp_walk.specs.declared.phase.Phase.TheVariants as phase
+use Rattle.snmp_walk.specs.declared.mode.Phase.TheVariants as phase
 use Rattle.snmp_walk.specs.Link.{Agents, OneOf, agent_in, full_response, AreLawful, IsNextFrom, IsGotFrom, IsTooLarge, IsReplyFrom}
 use Rattle.snmp_walk.proofs.{RequestLemmas.name_short, RowLemmas.view_of, RoomLemmas.longer_full, LostLemmas.reply_of}
 use Rattle.snmp_walk.proofs.BulkLemmas.{IsOneBulk, one_bulk, chain_front, chain_by}

@@ -9,10 +9,10 @@ use Rattle.std.specs.Cmp.Lexicographic.{pointwise, slice_cmp, bytes_decides}
 use Rattle.snmp_oid.specs.Identifier.{Precedes}
 use Rattle.snmp_wire.specs.{declared.kind.Kind.Kind, Message.VarBind, Message.Message, Spelling.Spells}
 use Rattle.snmp_wire.specs.declared.kind.Kind.TheVariants as kind
-use Rattle.snmp_walk.specs.{declared.mode.Mode.Mode, declared.phase.Phase.Phase, declared.rows.Step.Step, Link.OneOf, Trail.last_name, Walker.Walker}
+use Rattle.snmp_walk.specs.{declared.mode.Mode.Mode, declared.mode.Phase.Phase, declared.rows.Step.Step, Link.OneOf, Trail.last_name, Walker.Walker}
 use Rattle.snmp_walk.specs.{Request.asked_for, Instances.IsInside, Instances.IsMissing, Names.is_end, Names.is_missing, Names.comes_after}
 use Rattle.snmp_walk.specs.declared.mode.Mode.TheVariants as mode
-use Rattle.snmp_walk.specs.declared.phase.Phase.TheVariants as phase
+use Rattle.snmp_walk.specs.declared.mode.Phase.TheVariants as phase
 use Rattle.snmp_walk.specs.declared.end.WalkEnd.TheVariants as ending
 use Rattle.snmp_walk.specs.private.Reading.{After, nothing, leaving, falling, ReadFront, before, front_of}
 use Rattle.snmp_walk.specs.private.Taken.{is_over, is_response, awaits, is_awaited, is_plain, stops, goes_on, closes, reads, reads_as, reads_next}

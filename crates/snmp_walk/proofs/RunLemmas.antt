@@ -4,7 +4,7 @@ use Rattle.std.proofs.Common.{◌≡◌, inl, inr, ℕ, ◌+◌, ◌^◌, ◌<�
 use Rattle.std.proofs.Common.{append_assoc, Option, Some, None, replicate}
 use Rattle.std.specs.Prelude.{◌≢◌, not, Result, Ok, Err}
 use Rattle.snmp_wire.specs.{Canon.canon, Message.VarBind, Message.Message, Spelling.Spells}
-use Rattle.snmp_walk.specs.declared.phase.Phase.TheVariants as phase
+use Rattle.snmp_walk.specs.declared.mode.Phase.TheVariants as phase
 use Rattle.snmp_walk.specs.{declared.end.WalkEnd.WalkEnd, declared.end.SinkFault.SinkFault, declared.rows.Step.Step, Walker.Walker, Walker.IsWalker}
 use Rattle.snmp_walk.specs.{Request.request_of, Judged.MeansBy, private.Taken.awaits, private.Taken.is_over, private.Taken.take_of, Link.Agents}
 use Rattle.snmp_walk.specs.{Link.AreLawful, Link.IsNextFrom, Link.IsGotFrom, Link.IsTooLarge, Link.Outcome, Sink.Given, Sink.Took, Run.Try}
@@ -28,7 +28,7 @@ use Rattle.snmp_walk.proofs.{FreshLemmas.lawful_reply, GivenLemmas.given_by, Ful
 use Rattle.snmp_walk.proofs.{FullLemmas.fast_on, SinkLemmas.given-append, JoinLemmas.after_precedes, MemberLemmas.one_left, MemberLemmas.one_right}
 use Rattle.snmp_walk.proofs.MoveLemmas.{sent_all, IsSent, moved_of, sent_of, tries_as, Suits, agrees}
 use Rattle.snmp_walk.proofs.StandingLemmas.{taken, part_of_stage, part_of_step, waiting, Small, taken_any, rising_answers}
-use Rattle.snmp_walk.proofs.FactLemmas.{in_table, in_names, facts as facts_of, send_facts}
+use Rattle.snmp_walk.proofs.FactLemmas.{counted_few, facts as facts_of, send_facts}
 use Rattle.snmp_walk.proofs.SendLemmas.{Sends, sends_more, earlier_first, earlier_more, HasMoved, moved_first, moved_more, moved_fine}
 
 -- what replies end with leaves the sink as it was given
@@ -311,10 +311,7 @@ module _ {S L : Type 0} {facts : LinkFacts L} {takes : S → VarBind → Result 
                 let shown = done.honestly h in
                 facts_of codec agents tries (facts.traffic link) (facts.traffic after) first all done.refused end some fresh (lawful link h.0).views
                 shown.0 shown.1 shown.2;
-            ready = record {
-              over_table = λ h view one ready. fine_in h _ (in_table codec agents (lawful link h.0).views first fresh view one) ready;
-              over_tables = λ h names all ready. fine_in h _ (in_names codec agents (lawful link h.0).views first fresh names all) ready;
-            };
+            ready = λ h k counts ready. fine_in h k (counted_few codec agents (lawful link h.0).views first fresh k counts) ready;
             moved = moved.by;
             happened = given_by codec facts tries first fresh link after (IsSentLast end) all done.refused end takes before t done.sink done.reason;
           };

@@ -3,10 +3,10 @@ use Rattle.std.proofs.{lemmas.Grind.common_steps, Math.Nat.mul-le-mul_left, Math
 use Rattle.std.proofs.Common.{◌≡◌, ◌⊎◌, inl, inr, ℕ, ◌+◌, ◌^◌, ◌<◌, ◌≤◌, false, List, [], ◌∷◌, ◌++◌, length, replicate, refl, sym, ◌∙◌, ap, subst}
 use Rattle.std.proofs.Common.{arith, append-nil, append_assoc, length-append, ◌-◌, ◌*◌}
 use Rattle.snmp_wire.specs.{Message.VarBind, Canon.canon}
-use Rattle.snmp_walk.specs.{declared.phase.Phase.Phase, Trail.last_name, Walker.Walker, Walker.IsWalker, Request.request_of, private.Taken.is_over}
+use Rattle.snmp_walk.specs.{declared.mode.Phase.Phase, Trail.last_name, Walker.Walker, Walker.IsWalker, Request.request_of, private.Taken.is_over}
 use Rattle.snmp_walk.specs.{Link.OneOf, Traffic.Traffic, private.Heard.IsSentBefore, private.Heard.IsEarlier, Standing.IsStage, Standing.IsPaced}
 use Rattle.snmp_walk.specs.{Standing.Reaches, Standing.Rises, Standing.Named, Moves.octets_in, declared.link.Link.Ghosts as LinkFacts}
-use Rattle.snmp_walk.specs.declared.phase.Phase.TheVariants as phase
+use Rattle.snmp_walk.specs.declared.mode.Phase.TheVariants as phase
 use Rattle.snmp_walk.specs.Run.{Try, sent_by, IsNameIn, AsksFor, Asks, AreTries, IsEachSent}
 use Rattle.snmp_walk.proofs.MemberLemmas.{one_append, one_same}
 use Rattle.snmp_walk.specs.Moved.{IsMoved, IsMovedByTries, IsMovedByRequests}

@@ -7,11 +7,11 @@ use Rattle.std.proofs.lemmas.List.{flat_map_more, length_push, nil_from_length}
 use Rattle.std.specs.{Prelude.◌==◌, Prelude.◌&&◌, Prelude.flat_map, Prelude.not, Bool.nat_eq, List.list_any, Ordering.int_eq}
 use Rattle.std.specs.Cmp.Lexicographic.{pointwise, nat_list_eq_equiv, same_text}
 use Rattle.snmp_wire.specs.Message.{VarBind, Message, end_of_mib_view}
-use Rattle.snmp_walk.specs.{declared.mode.Mode.Mode, declared.phase.Phase.Phase, declared.rows.Step.Step, Trail.last_name, Trail.IsTrail}
+use Rattle.snmp_walk.specs.{declared.mode.Mode.Mode, declared.mode.Phase.Phase, declared.rows.Step.Step, Trail.last_name, Trail.IsTrail}
 use Rattle.snmp_walk.specs.{Trail.IsAtEnd, Walker.Walker, Request.asked_for, Read.rows_in, declared.end.WalkEnd.WalkEnd}
 use Rattle.snmp_walk.specs.Names.{is_missing, is_end, comes_after}
 use Rattle.snmp_walk.specs.declared.mode.Mode.TheVariants as mode
-use Rattle.snmp_walk.specs.declared.phase.Phase.TheVariants as phase
+use Rattle.snmp_walk.specs.declared.mode.Phase.TheVariants as phase
 use Rattle.snmp_walk.specs.declared.end.WalkEnd.TheVariants as ending
 use Rattle.snmp_walk.specs.declared.rows.Step.TheVariants as step
 use Rattle.snmp_walk.proofs.{JudgedLemmas.response_to_decided, RowLemmas.AreLawfulReplies, FrontLemmas.front_taken, FrontLemmas.fronts_by}
@@ -23,7 +23,7 @@ use Rattle.snmp_walk.specs.Standing.{IsChain, IsLarge, IsReplyContent, IsReplyTo
 use Rattle.snmp_walk.specs.Standing.{Reaches, Advances, Rises, Named, IsReplyEnd, CountsAll, AdvancesAnyhow}
 use Rattle.snmp_walk.specs.private.Reading.{After, nothing, leaving, falling, front_of, is_misplaced}
 use Rattle.snmp_walk.proofs.TrailLemmas.{last_name-append, trail-append, EndsChain, IsFront, chain_front, chain_has_values, few_replies}
-use Rattle.snmp_walk.specs.declared.phase.Phase.TheVariants as phase
+use Rattle.snmp_walk.specs.declared.mode.Phase.TheVariants as phase
 use Rattle.snmp_walk.specs.declared.end.WalkEnd.TheVariants as ending
 use Rattle.snmp_oid.specs.Identifier.{Precedes}
 

@@ -3,7 +3,7 @@ use Rattle.std.proofs.lemmas.Grind.{common_steps}
 use Rattle.std.proofs.Common.{◌≡◌, ◌≢◌, ◌⊎◌, ◌≤ℤ◌, inl, inr, ℕ, ◌+◌, ◌≤◌, false, List, [], ◌∷◌, ◌++◌, length, refl, sym, ◌∙◌, ap, subst, arith, pos}
 use Rattle.std.proofs.Common.{length-append}
 use Rattle.snmp_wire.specs.{Message.VarBind, Message.Message, Message.end_of_mib_view, Canon.canon}
-use Rattle.snmp_walk.specs.{private.Codec.Codec, declared.mode.Mode.Mode, declared.mode.Method.Method, declared.phase.Phase.Phase}
+use Rattle.snmp_walk.specs.{private.Codec.Codec, declared.mode.Mode.Mode, declared.mode.Method.Method, declared.mode.Phase.Phase}
 use Rattle.snmp_walk.specs.{declared.end.WalkEnd.WalkEnd, Trail.last_name, Trail.IsTrail, Walker.Walker, Walker.IsMethod, Walker.IsWalker}
 use Rattle.snmp_walk.specs.{Walk.rest_of, Request.request_of, Request.request_kind, Request.request_repetitions, private.Taken.is_over, Room.HasRoom}
 use Rattle.snmp_walk.specs.{Room.HasRoomForEach, Facts.IsLawfulEnd, Facts.HasNone, Facts.IsDoneOrStopped, Facts.IsDoneOrCutOff, Facts.gets}
@@ -13,7 +13,7 @@ use Rattle.snmp_agent.specs.Reply.{IsServed, response, IsWhole, got, got_next, u
 use Rattle.snmp_agent.specs.Reply.{IsDropped, no_error}
 use Rattle.snmp_walk.specs.declared.mode.Mode.TheVariants as mode
 use Rattle.snmp_walk.specs.declared.mode.Method.TheVariants as method
-use Rattle.snmp_walk.specs.declared.phase.Phase.TheVariants as phase
+use Rattle.snmp_walk.specs.declared.mode.Phase.TheVariants as phase
 use Rattle.snmp_walk.specs.declared.end.WalkEnd.TheVariants as ending
 use Rattle.snmp_walk.specs.Standing.{IsChain, IsLarge, IsStage, IsReplyTooLarge, opening_gets, Reaches}
 use Rattle.snmp_walk.specs.Link.{Agents, OneOf, agent_in, IsNextFrom, IsGotFrom, IsTooLarge, AreViews}

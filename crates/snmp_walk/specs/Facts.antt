@@ -3,7 +3,7 @@ use Rattle.std.specs.Prelude.{◌≡◌, ℕ, ◌+◌, ◌*◌, ◌≤◌, ◌<�
 use Rattle.std.specs.Prelude.{flat_map, replicate, Option}
 use Rattle.snmp_walk.specs.{declared.mode.Mode.Mode, Traffic.Traffic, Traffic.Lost}
 use Rattle.snmp_walk.specs.{declared.end.WalkEnd.WalkEnd, declared.rows.Step.Step, Read.rows_in}
-use Rattle.snmp_walk.specs.{Ordered.AreOrdered, Walk.walk_from, Walk.rest_of, Judged.MeansBy}
+use Rattle.snmp_walk.specs.{Ordered.AreOrdered, Walk.walk_from, Judged.MeansBy}
 use Rattle.snmp_walk.specs.{Walker.Walker, Walker.IsWalker}
 use Rattle.snmp_walk.specs.declared.mode.Mode.TheVariants as mode
 use Rattle.snmp_walk.specs.Run.{Try, sent_by, AreTries, IsEachSent}
@@ -12,14 +12,14 @@ use Rattle.snmp_wire.specs.{Message.VarBind, Canon.canon}
 use Rattle.snmp_walk.specs.declared.end.WalkEnd.TheVariants as ending
 use Rattle.snmp_agent.specs.{table.Table.MibView, table.Table.IsGet, table.Listing.variables}
 use Rattle.snmp_walk.specs.declared.rows.Step.TheVariants as step
-use Rattle.snmp_walk.specs.declared.phase.Phase.TheVariants as phase
+use Rattle.snmp_walk.specs.declared.mode.Phase.TheVariants as phase
 use Rattle.snmp_walk.specs.Request.{asked_for, request_of, first_phase}
 use Rattle.snmp_walk.specs.Standing.{Reaches, IsPartOfWalk, Ends, Rises, Named, CountsAll}
 use Rattle.snmp_walk.specs.Standing.{IsReplyEnd}
 use Rattle.snmp_walk.specs.Link.{Agents, OneOf, IsNextFrom, IsGotFrom, IsTooLarge, IsUnanswered}
 use Rattle.snmp_walk.specs.Link.{Outcome, answered, missed, cut_off}
-use Rattle.snmp_walk.specs.Room.{HasRoomForEach, HasRoomForAll, HasIds}
-use Rattle.snmp_walk.specs.Tables.{IsOfWalk, AreFromTables, IsInEach, IsGivenOnce, HoldsNames}
+use Rattle.snmp_walk.specs.Room.{HasRoomForAll}
+use Rattle.snmp_walk.specs.Tables.{IsOfWalk, AreFromTables, IsInEach, IsGivenOnce, CountsNames}
 use Rattle.snmp_walk.specs.Tables.{HasRoomInEach, HasIdsFor}
 
 -- a walk that has taken no reply yet, and asks for the root or after a name that begins with it
@@ -218,10 +218,6 @@ pub record GivenFacts (agents : Agents) (Silent : Walker → Type 0) (first : Wa
   pub all_at_done : (view : MibView) (got : VarBind) → agents.tables ≡ view ∷ []
       → IsGet view first.asked got → IsDone end
       → rows ≡ walk_at first view got
-  -- Over one table, where there is room for each single binding and there are enough ids, a walk is
-  -- done unless the link or the sink stops it or no reply comes.
-  pub done_unless_lost : (view : MibView) → agents.tables ≡ view ∷ []
-      → HasRoomForEach agents view first → HasIds first view → IsDoneOrCutOff end
   -- over several tables each binding given is that of one of them
   pub from_tables : AreFromTables agents first (rows ++ refused)
   -- each name of the walk that all tables have, and that doesn't come after the last name given, is
@@ -234,11 +230,10 @@ pub record GivenFacts (agents : Agents) (Silent : Walker → Type 0) (first : Wa
       → IsGivenOnce rows name
   -- a plain walk that is done gave a binding at least
   pub some_at_done : IsDone end → first.mode ≡ mode.Plain → rows ≢ []
-  -- Where there is room for each single binding of each table, and enough ids for the names that
-  -- the tables have together, a walk is done unless the link or the sink stops it or no reply
-  -- comes.
-  pub done_unless_lost_in_tables : (names : List (List ℕ)) → HoldsNames agents first names
-      → HasRoomInEach agents first → HasIdsFor first names → IsDoneOrCutOff end
+  -- If each single binding of each table has room, and there are enough ids for the names below the
+  -- root, a walk is done unless the link or the sink stops it or no reply comes.
+  pub done_unless_lost : (k : ℕ) → CountsNames agents first k → HasRoomInEach agents first
+      → HasIdsFor first k → IsDoneOrCutOff end
 
 -- What is promised of a run over an honest link over which nothing was sent before. It gave these
 -- rows to the sink, and then the one that was refused, if any was.
@@ -253,13 +248,10 @@ pub record WalkFacts (agents : Agents) (tries : ℕ) (old : Traffic) (first : Wa
   -- where each receive gives the reply to the latest datagram, no reply comes only where one of the
   -- agents has none
   pub replied : old.ahead ≡ [] → IsLawfulEnd agents (HasNone agents) first rows end
-  -- and over one table, where there is room for each single binding and there are enough ids, a
-  -- walk is done unless the link or the sink stops it,
-  pub done_unless_stopped : (view : MibView) → agents.tables ≡ view ∷ []
-      → HasRoomForEach agents view first → HasIds first view → old.ahead ≡ [] → IsDoneOrStopped end
-  -- as it is over several, where there are enough for the names that they have together
-  pub done_unless_stopped_in_tables : (names : List (List ℕ)) → HoldsNames agents first names
-      → HasRoomInEach agents first → HasIdsFor first names → old.ahead ≡ [] → IsDoneOrStopped end
+  -- and where there is room for each single binding of each table, and there are enough ids for the
+  -- names below the root, a walk is done unless the link or the sink stops it
+  pub done_unless_stopped : (k : ℕ) → CountsNames agents first k → HasRoomInEach agents first
+      → HasIdsFor first k → old.ahead ≡ [] → IsDoneOrStopped end
 
 -- how many Gets a walk of this mode may send besides the requests for the next instances
 abbrev pub gets : Mode → ℕ
@@ -285,43 +277,17 @@ pub record SendFacts (agents : Agents) (honest : Type 0) (tries : ℕ) (old : Tr
   -- at most 64 deliveries are used for each datagram sent
   pub used : honest → (used : List (Option ℕ)) × (old.ahead ≡ used ++ new.ahead)
       × (length used ≤ 64 * length (sent_by requests))
-  -- over one table there is at most one request for each row below the root, one more, and a Get
-  pub few_of_table : honest → (view : MibView) → agents.tables ≡ view ∷ []
-      → length requests
-      ≤ length (rest_of first.root first.asked (variables view)) + 1 + gets first.mode
-  -- over several tables there is at most one request for each name that they have together below
-  -- the root, one more, and a Get
-  pub few_of_tables : honest → (names : List (List ℕ)) → HoldsNames agents first names
-      → length requests ≤ length names + 1 + gets first.mode
-  -- Where there is room for all bindings that each request for the next instances asks for, a walk
-  -- by GetBulk of r repetitions sends at most k / r + 1 of them over one table, k being the number
-  -- of rows below the root,
-  pub few_of_table_where_all_fit : honest
+  -- there is at most one request for each of k names below the root, one more, and a Get
+  pub few_of_names : honest → (k : ℕ) → CountsNames agents first k
+      → length requests ≤ k + 1 + gets first.mode
+  -- where there is room for all bindings that each request for the next instances asks for, a walk
+  -- by GetBulk of r repetitions sends at most k / r + 1 of them
+  pub few_where_all_fit : honest
       → ((t : Try) → OneOf requests t → t.by.phase ≡ phase.Rows → HasRoomForAll agents t.by)
-      → (view : MibView) → agents.tables ≡ view ∷ []
-      → (n : ℕ) × (asked_for first.method * n
-      ≤ length (rest_of first.root first.asked (variables view)))
-      × (length requests ≤ n + 1 + gets first.mode)
-  -- and over several tables, k being the number of names that they have together
-  pub few_of_tables_where_all_fit : honest
-      → ((t : Try) → OneOf requests t → t.by.phase ≡ phase.Rows → HasRoomForAll agents t.by)
-      → (names : List (List ℕ)) → HoldsNames agents first names
-      → (n : ℕ) × (asked_for first.method * n ≤ length names)
-      × (length requests ≤ n + 1 + gets first.mode)
+      → (k : ℕ) → CountsNames agents first k
+      → (n : ℕ) × (asked_for first.method * n ≤ k) × (length requests ≤ n + 1 + gets first.mode)
 
 -- ready for each try of as many requests as a walk of k names may send, and one more: each has at
 -- most 1,000 octets
 abbrev pub IsReadyForAll : (ℕ → ℕ → Type 0) → (tries k : ℕ) → Type 0
 IsReadyForAll Ready tries k = Ready ((k + 3) * tries) ((k + 3) * tries * 1000)
-
--- What is promised of a run over an honest link over which nothing was sent before, and which is
--- ready for so many sends: the link doesn't stop it.
-pub record ReadyFacts (agents : Agents) (honest : Type 0) (Ready : ℕ → ℕ → Type 0) (tries : ℕ)
-    (first : Walker) (end : WalkEnd) : Type 0 where
-  -- over one table, k being the number of rows below the root,
-  pub over_table : honest → (view : MibView) → agents.tables ≡ view ∷ []
-      → IsReadyForAll Ready tries (length (rest_of first.root first.asked (variables view)))
-      → end ≢ ending.Link
-  -- and over several tables, k being the number of names that they have together
-  pub over_tables : honest → (names : List (List ℕ)) → HoldsNames agents first names
-      → IsReadyForAll Ready tries (length names) → end ≢ ending.Link

@@ -6,10 +6,10 @@ use Rattle.snmp_wire.specs.declared.kind.Kind.TheVariants as kind
 use Rattle.snmp_wire.specs.Message.{VarBind, Message, end_of_mib_view}
 use Rattle.snmp_wire.specs.Spelling.{Spells}
 use Rattle.snmp_walk.specs.declared.mode.Mode.TheVariants as mode
-use Rattle.snmp_walk.specs.{declared.phase.Phase.Phase, declared.end.WalkEnd.WalkEnd}
+use Rattle.snmp_walk.specs.{declared.mode.Phase.Phase, declared.end.WalkEnd.WalkEnd}
 use Rattle.snmp_walk.specs.{declared.rows.Step.Step, Link.OneOf, Instances.IsInside}
 use Rattle.snmp_walk.specs.{Instances.IsMissing, Request.asked_for, Trail.last_name, Walker.Walker}
-use Rattle.snmp_walk.specs.declared.phase.Phase.TheVariants as phase
+use Rattle.snmp_walk.specs.declared.mode.Phase.TheVariants as phase
 use Rattle.snmp_walk.specs.declared.end.WalkEnd.TheVariants as ending
 use Rattle.snmp_walk.specs.declared.rows.Step.TheVariants as step
 

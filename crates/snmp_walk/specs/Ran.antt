@@ -8,8 +8,8 @@ use Rattle.snmp_walk.specs.{Moved.IsMovedByRequests, Network.AreReplies}
 use Rattle.snmp_walk.specs.{Network.AreRepliesOrErrors, Sink.Took, Walker.Walker}
 use Rattle.snmp_walk.specs.declared.end.WalkEnd.TheVariants as ending
 use Rattle.snmp_walk.specs.declared.link.Link.{Ghosts as LinkFacts}
-use Rattle.snmp_walk.specs.Facts.{EndFacts, GivenFacts, IsLastSent, ReadyFacts, SendFacts}
-use Rattle.snmp_walk.specs.Facts.{WalkFacts}
+use Rattle.snmp_walk.specs.Facts.{EndFacts, GivenFacts, IsLastSent, IsReadyForAll, SendFacts}
+use Rattle.snmp_walk.specs.{Facts.WalkFacts, Tables.CountsNames}
 use Rattle.snmp_walk.specs.Get.{AreForNames, GetFacts, GotFacts, IsBrought, IsReasonOfGet}
 use Rattle.snmp_walk.specs.Get.{get_request}
 use Rattle.snmp_walk.specs.Standing.{IsPartOfWalk, Named, Rises}
@@ -63,9 +63,9 @@ pub record IsWalkedOver {W : Type 0} (facts : LinkFacts W) (link after : W) (tri
   pub judged : IsFreshAndHonest facts link
       → WalkFacts (facts.agents link) tries (facts.traffic link) first given refused end
       (facts.traffic after)
-  -- and that it doesn't fail where it is ready for all that is sent
-  pub ready : ReadyFacts (facts.agents link) (IsFreshAndHonest facts link) (facts.ready link) tries
-      first end
+  -- and that it doesn't fail where it is ready for all that is sent for the k names below the root
+  pub ready : IsFreshAndHonest facts link → (k : ℕ) → CountsNames (facts.agents link) first k
+      → IsReadyForAll (facts.ready link) tries k → end ≢ ending.Link
   -- its requests moved the link, which failed where the walk ends because of it
   pub moved : IsMovedByRequests facts tries first given link (end ≡ ending.Link) after
   -- what happened over any link, and what it gave where replies of agents are all that came

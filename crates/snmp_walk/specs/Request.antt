@@ -3,11 +3,11 @@ use Rattle.std.specs.Prelude.{ℕ, ℤ, pos, unsigned_abs, List, [], ◌∷◌}
 use Rattle.snmp_oid.specs.Identifier.{wire}
 use Rattle.snmp_wire.specs.{declared.kind.Kind.Kind, Message.Message, Name.asking}
 use Rattle.snmp_wire.specs.declared.kind.Kind.TheVariants as kind
-use Rattle.snmp_walk.specs.{declared.mode.Mode.Mode, declared.phase.Phase.Phase, Walker.Walker}
+use Rattle.snmp_walk.specs.{declared.mode.Mode.Mode, declared.mode.Phase.Phase, Walker.Walker}
 use Rattle.snmp_walk.specs.declared.mode.Mode.TheVariants as mode
 use Rattle.snmp_walk.specs.declared.mode.Method.{Method}
 use Rattle.snmp_walk.specs.declared.mode.Method.TheVariants as method
-use Rattle.snmp_walk.specs.declared.phase.Phase.TheVariants as phase
+use Rattle.snmp_walk.specs.declared.mode.Phase.TheVariants as phase
 
 -- a walk that includes its root begins with a Get of it, and any other with the instances after it
 abbrev pub first_phase : Mode → Phase
@@ -40,27 +40,20 @@ resumed root after method community id = record {
   count = 0;
 }
 
--- the PDU that asks for the next instances
-abbrev pub next_kind : Method → Kind
-next_kind method.Next = kind.GetNextRequest
-next_kind (method.Bulk repetitions) = kind.GetBulkRequest
-
--- its max-repetitions, and 0 where it has none
-abbrev pub repetitions_of : Method → ℤ
-repetitions_of method.Next = pos 0
-repetitions_of (method.Bulk repetitions) = repetitions
-
 -- how many bindings a request for the next instances asks for
 abbrev pub asked_for : Method → ℕ
 asked_for method.Next = 1
 asked_for (method.Bulk repetitions) = unsigned_abs repetitions
 
+-- the PDU of the waiting request: for the next instances by the method, and else a Get
 abbrev pub request_kind : Phase → Method → Kind
-request_kind phase.Rows method = next_kind method
+request_kind phase.Rows method.Next = kind.GetNextRequest
+request_kind phase.Rows (method.Bulk repetitions) = kind.GetBulkRequest
 request_kind _ method = kind.GetRequest
 
+-- its max-repetitions, and 0 where it has none
 abbrev pub request_repetitions : Phase → Method → ℤ
-request_repetitions phase.Rows method = repetitions_of method
+request_repetitions phase.Rows (method.Bulk repetitions) = repetitions
 request_repetitions _ method = pos 0
 
 -- the request that is waiting: one name, with the value Null

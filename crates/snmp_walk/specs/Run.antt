@@ -3,9 +3,9 @@ use Rattle.std.specs.Prelude.{◌≡◌, ℕ, ◌+◌, ◌^◌, ◌<◌, ◌≤�
 use Rattle.std.specs.Prelude.{pos, replicate}
 use Rattle.snmp_wire.specs.{Message.VarBind, Message.Message, Canon.canon}
 use Rattle.snmp_walk.specs.declared.mode.Mode.TheVariants as mode
-use Rattle.snmp_walk.specs.{declared.phase.Phase.Phase, Walker.Walker, declared.mode.Method.Method}
+use Rattle.snmp_walk.specs.{declared.mode.Phase.Phase, Walker.Walker, declared.mode.Method.Method}
 use Rattle.snmp_walk.specs.{Names.is_end, Room.HasRoomForAll, Link.Agents, Link.OneOf}
-use Rattle.snmp_walk.specs.declared.phase.Phase.TheVariants as phase
+use Rattle.snmp_walk.specs.declared.mode.Phase.TheVariants as phase
 use Rattle.snmp_walk.specs.Request.{asked_for, request_of}
 use Rattle.std.specs.List.{list_any}
 

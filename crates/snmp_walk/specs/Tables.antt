@@ -2,9 +2,9 @@
 use Rattle.std.specs.Prelude.{◌≡◌, ℕ, ◌+◌, ◌≤◌, ◌⊎◌, List, [], ◌∷◌, ◌++◌, length}
 use Rattle.snmp_oid.specs.Identifier.{IsBelow, Precedes}
 use Rattle.snmp_wire.specs.Message.{VarBind}
-use Rattle.snmp_agent.specs.table.Table.{MibView, IsRow}
+use Rattle.snmp_agent.specs.{table.Table.MibView, table.Table.IsRow, table.Listing.variables}
 use Rattle.snmp_walk.specs.declared.mode.Mode.TheVariants as mode
-use Rattle.snmp_walk.specs.{Run.IsNameIn, Walker.Walker, Room.HasRoomForEach}
+use Rattle.snmp_walk.specs.{Run.IsNameIn, Walk.rest_of, Walker.Walker, Room.HasRoomForEach}
 use Rattle.snmp_walk.specs.Link.{Agents, OneOf, IsGotFrom}
 
 -- the name is below the root of the walk, and comes after the name that the walk begins from
@@ -52,11 +52,19 @@ abbrev pub HoldsNames : Agents → Walker → List (List ℕ) → Type 0
 HoldsNames agents first names = (view : MibView) → OneOf agents.tables view
     → (p : VarBind) → IsRow view p → IsBelowRoot first p.name → OneOf names p.name
 
+-- The number k counts the names below the root: those of the rows that the one table has there, or
+-- a list that holds those of several tables.
+pub data CountsNames (agents : Agents) (first : Walker) (k : ℕ) : Type 0 where
+  of_table : (view : MibView) → agents.tables ≡ view ∷ []
+      → k ≡ length (rest_of first.root first.asked (variables view)) → CountsNames agents first k
+  of_tables : (names : List (List ℕ)) → HoldsNames agents first names → k ≡ length names
+      → CountsNames agents first k
+
 -- there is room for each single binding of each table
 abbrev pub HasRoomInEach : Agents → Walker → Type 0
 HasRoomInEach agents first = (view : MibView) → OneOf agents.tables view
     → HasRoomForEach agents view first
 
--- There are enough ids for a request for each of these names, one more, and a Get.
-abbrev pub HasIdsFor : Walker → List (List ℕ) → Type 0
-HasIdsFor first names = first.id + length names + 2 ≤ 2147483647
+-- there are enough ids for a request for each of k names, one more, and a Get
+abbrev pub HasIdsFor : Walker → ℕ → Type 0
+HasIdsFor first k = first.id + k + 2 ≤ 2147483647

@@ -2,7 +2,7 @@
 use Rattle.std.specs.Int.{w32}
 use Rattle.std.specs.Prelude.{FitsSigned, All, ℕ, pos, ◌≤ℤ◌, ◌*◌, ◌^◌, ◌<◌, ◌≤◌, List, length}
 use Rattle.snmp_oid.specs.Identifier.{IsIdentifier, IsWire}
-use Rattle.snmp_walk.specs.{declared.mode.Mode.Mode, declared.phase.Phase.Phase}
+use Rattle.snmp_walk.specs.{declared.mode.Mode.Mode, declared.mode.Phase.Phase}
 use Rattle.snmp_walk.specs.declared.mode.Method.{Method}
 use Rattle.snmp_walk.specs.declared.mode.Method.TheVariants.{Next, Bulk}
 

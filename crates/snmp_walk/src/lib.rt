@@ -33,7 +33,6 @@ mod memory;
 mod memory_network;
 mod mode;
 mod network;
-mod phase;
 mod root;
 mod rows;
 mod run;
@@ -43,16 +42,18 @@ mod walker;
 
 pub use end::{LinkFault, SinkFault, StartError, WalkEnd};
 pub use get::run_get;
-pub use laws::{
-    honest_networks, instances_below, messages_mean, rest_of_a_walk, short_rows_have_room,
-};
 pub use link::Link;
 pub use memory::MemoryLink;
-pub use memory_network::{Delivery, MemoryNetwork};
-pub use mode::{Method, Mode};
-pub use network::{Network, walk_served};
-pub use phase::Phase;
+pub use mode::{Method, Mode, Phase};
 pub use rows::{Rows, Step};
 pub use run::run_walk;
 pub use sink::Sink;
 pub use walker::WalkCore;
+
+// Laws, which only proofs call, and a walk at one end of a network with the agent at the other,
+// which only tests run.
+pub use laws::{
+    honest_networks, instances_below, messages_mean, rest_of_a_walk, short_rows_have_room,
+};
+pub use memory_network::{Delivery, MemoryNetwork};
+pub use network::{Network, walk_served};

@@ -1,4 +1,4 @@
-//! The mode of a walk, and the method by which it asks for instances.
+//! What a walk asks for: its mode, its method, and the phase that it is in.
 
 /// What a walk gives besides the instances below its root.
 #[derive(Clone, Copy, Debug, PartialEq, Eq)]
@@ -20,4 +20,17 @@ pub enum Method {
     /// GetBulk (RFC 3416, section 4.2.3) with this number of repetitions, 1 to 2147483647: it asks
     /// for as many instances.
     Bulk(i32),
+}
+
+/// Which request of a walk is waiting for its reply.
+#[derive(Clone, Copy, Debug, PartialEq, Eq)]
+pub enum Phase {
+    /// The Get of the root, the first request of a walk that includes it.
+    First,
+    /// The request for the next instances.
+    Rows,
+    /// The Get of the root, the last request of a walk that found nothing below it.
+    Last,
+    /// None: the walk has ended.
+    Over,
 }

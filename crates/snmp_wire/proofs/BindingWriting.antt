@@ -3,7 +3,7 @@ use Rattle.std.proofs.lemmas.Grind.{common_steps}
 use Rattle.std.proofs.Common.{◌≡◌, ℕ, ◌+◌, ◌-◌, ◌<◌, ◌≤◌, List, [], ◌∷◌, ◌++◌, length, drop, refl, sym, ap, ◌∙◌, arith, length-append}
 use Rattle.std.specs.List.{flat_map}
 use Rattle.snmp_wire.specs.{declared.binding.Binding.Binding, Canon.canon_binding, Canon.canon_bindings, Message.VarBind, Message.var_bind}
-use Rattle.snmp_wire.specs.{Message.var_binds, ber.Value.object_id, ber.Value.null_value, ber.Spelling.sequence_tag, private.ber.Writing.Writes}
+use Rattle.snmp_wire.specs.{Message.var_binds, ber.Value.object_id, ber.Value.null_value, ber.Spelling.sequence_tag, ber.Writing.Writes}
 use Rattle.snmp_wire.specs.ber.Canon.{canon_content, canon_element, canon_header, canon_length, canon_value}
 use Rattle.snmp_wire.proofs.ElementLaws.{header_short, content_fits, element_size, header_fits, sizes_value, writes_element}
 use Rattle.snmp_wire.proofs.WritingLaws.{writes_then}

@@ -11,7 +11,7 @@ use mir.Syntax.{w32}
 use lib.IntN.{nat_abs}
 use Rattle.snmp_wire.specs.ber.Canon.{canon_length, canon_number, digit_count, length_size, magnitude_of, number_size, octets, digits}
 use Rattle.snmp_wire.proofs.{ElementLaws.canon_length_short, ElementLaws.header_short, WritingLaws.writes_same, WritingLaws.writes_then}
-use Rattle.snmp_wire.specs.private.ber.Writing.{Writes}
+use Rattle.snmp_wire.specs.ber.Writing.{Writes}
 use Rattle.snmp_wire.proofs.Digits.{digits-add, length-digits, digits-suc}
 
 pub count_taken : (base limit more n : ℕ) → n < limit → digit_count base limit (suc more) n ≡ 1

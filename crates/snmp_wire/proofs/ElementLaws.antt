@@ -3,7 +3,7 @@
 use Rattle.std.proofs.{lemmas.Grind.common_steps, lemmas.Bool.lt-ltb}
 use Rattle.std.proofs.Common.{◌≡◌, ℕ, ℤ, ◌+◌, ◌-◌, ◌<◌, ◌≤◌, List, [], ◌∷◌, ◌++◌, length, refl, ap, arith, length-append}
 use Rattle.snmp_wire.specs.ber.Canon.{canon_content, canon_element, canon_header, canon_length, canon_number, canon_value}
-use Rattle.snmp_wire.specs.{ber.Value.Datum, ber.Value.integer_value, ber.Value.octet_string, ber.Spelling.value_tag, private.ber.Writing.Writes}
+use Rattle.snmp_wire.specs.{ber.Value.Datum, ber.Value.integer_value, ber.Value.octet_string, ber.Spelling.value_tag, ber.Writing.Writes}
 use Rattle.snmp_wire.proofs.WritingLaws.{writes_same, writes_then}
 
 -- ---- headers

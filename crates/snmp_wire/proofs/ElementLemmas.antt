@@ -2,7 +2,7 @@
 use Rattle.std.proofs.Common.{◌≡◌, ℕ, ℤ, ◌-◌, ◌<◌, ◌≤◌, List, [], ◌∷◌, length, sym, ap, subst, arith, append-nil, length-append}
 use Rattle.snmp_wire.specs.ber.Canon.{canon_element, canon_header, canon_length, canon_number}
 use Rattle.snmp_wire.proofs.ElementLaws.{header_fits, writes_element}
-use Rattle.snmp_wire.specs.private.ber.Writing.{Writes}
+use Rattle.snmp_wire.specs.ber.Writing.{Writes}
 use Rattle.snmp_wire.proofs.{WritingLaws.writes_same, WritingLaws.writes_then, Shortest.length-number}
 
 -- a tag before a length

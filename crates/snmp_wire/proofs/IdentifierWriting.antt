@@ -9,7 +9,7 @@ use Rattle.std.proofs.lemmas.List.Elements.{All-from_recursion, recursion_from_A
 use Rattle.std.specs.{Int.Bits.bit_or, List.AllByRecursion, List.flat_map}
 use Rattle.snmp_oid.specs.Identifier.{IsWire, IsIdentifier}
 use Rattle.snmp_wire.specs.ber.Canon.{AreShort, canon_content, canon_subidentifier, digits, eight_from, septets, subidentifier_size}
-use Rattle.snmp_wire.specs.{ber.Value.object_id, private.ber.Writing.Writes, ber.Number.number_of}
+use Rattle.snmp_wire.specs.{ber.Value.object_id, ber.Writing.Writes, ber.Number.number_of}
 use Rattle.snmp_wire.proofs.WritingLaws.{length-flat_map_drop, writes_same, writes_then}
 use Rattle.snmp_wire.specs.ber.Identifier.{AreSubidentifiers, IsObjectId, IsSubidentifier, subidentifiers}
 use Rattle.snmp_wire.proofs.CanonLemmas.{count_left, count_taken, digit_most, digit_some, digits_needed, sized}

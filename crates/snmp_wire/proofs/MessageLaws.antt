@@ -5,7 +5,7 @@ use Rattle.std.proofs.Common.{append_assoc, ◌+◌, ◌-◌, get_or, take, drop
 use Rattle.std.proofs.lemmas.List.{nil_from_length, append-nil, length-append, append_cancel_right, length-drop, length-take-le, take-append-drop}
 use Rattle.std.specs.Result.{result_unwrap_or}
 use Rattle.snmp_wire.specs.declared.ber.error.BerError.{BerError}
-use Rattle.snmp_wire.specs.{ber.Value.Datum, ber.Value.integer_value, Lent.binding_with, Message.VarBind, Message.Message, declared.kind.Kind.Kind}
+use Rattle.snmp_wire.specs.{ber.Value.Datum, ber.Value.integer_value, Reading.binding_with, Message.VarBind, Message.Message, declared.kind.Kind.Kind}
 use Rattle.snmp_wire.specs.{ber.Number.lenient, ber.Length.IsElement, ber.Spelling.value_tag, ber.Spelling.SpellsValue}
 use Rattle.snmp_wire.specs.ber.Reading.{◌>>=◌, checked, identifier_of, typed_value, content_at, inner_at, element_at, integer_at}
 use Rattle.snmp_wire.specs.Reading.{Fields, fields_of, fields_at, binding_of, binding_at, bindings_within, bindings_of, bindings_in, kind_of}

@@ -3,7 +3,7 @@ use Rattle.std.proofs.{lemmas.Grind.common_steps, Math.Nat.add_assoc}
 use Rattle.std.proofs.Common.{◌≡◌, ℕ, ◌+◌, ◌-◌, ◌≤◌, List, ◌++◌, length, sym, ap, ◌∙◌, arith, append_assoc, length-append}
 use Rattle.snmp_wire.specs.Canon.{canon, canon_bindings, canon_fields, canon_front, canon_head, canon_opening}
 use Rattle.snmp_wire.specs.ber.Canon.{canon_element, canon_header, canon_length, canon_value}
-use Rattle.snmp_wire.specs.{Message.Message, Spelling.kind_tag, ber.Spelling.sequence_tag, private.ber.Writing.Writes, ber.Sizes.ElementSizes}
+use Rattle.snmp_wire.specs.{Message.Message, Spelling.kind_tag, ber.Spelling.sequence_tag, ber.Writing.Writes, ber.Sizes.ElementSizes}
 pub use Rattle.snmp_wire.specs.Sizes.{pdu_size}
 use Rattle.snmp_wire.specs.ber.Value.{integer_value, octet_string}
 use Rattle.snmp_wire.proofs.{ElementLaws.length-canon_header, WritingLaws.writes_same, WritingLaws.writes_then}

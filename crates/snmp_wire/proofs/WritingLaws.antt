@@ -4,7 +4,7 @@ use Rattle.std.proofs.{lemmas.Grind.common_steps, lemmas.List.take-take, lemmas.
 use Rattle.std.proofs.Common.{◌≡◌, ℕ, ◌+◌, ◌-◌, ◌<◌, ◌≤◌, suc, zero, List, [], ◌∷◌, ◌++◌, length, take, drop, get_or, sym, ap, ◌∙◌, arith}
 use Rattle.std.proofs.Common.{append_assoc, length-append}
 use Rattle.std.specs.List.{flat_map}
-use Rattle.snmp_wire.specs.private.ber.Writing.{Writes}
+use Rattle.snmp_wire.specs.ber.Writing.{Writes}
 
 -- where the front stays as it was, so does each front of it
 pub kept : (k start : ℕ) (old new : List ℕ)

@@ -3,7 +3,7 @@ use Rattle.std.proofs.{lemmas.Grind.common_steps, Math.Nat.div-div-eq-div-mul, M
 use Rattle.std.proofs.Common.{◌≡◌, ℕ, suc, ◌+◌, ◌-◌, ◌/◌, ◌^◌, ◌<◌, ◌≤◌, List, [], ◌∷◌, ◌++◌, length, take, drop, set, refl, sym, ap, subst, ◌∙◌}
 use Rattle.std.proofs.Common.{arith, length-drop}
 use Rattle.std.proofs.lemmas.List.{append-nil, drop-set, drop_all, drop_at, length-take-le, take-set, take_all, take_at}
-use Rattle.snmp_wire.specs.private.ber.Writing.{Writes}
+use Rattle.snmp_wire.specs.ber.Writing.{Writes}
 use Rattle.snmp_wire.proofs.WritingLaws.{kept, writes_same}
 
 -- nothing written

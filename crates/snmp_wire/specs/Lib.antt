@@ -2,7 +2,6 @@ pub mod Canon
 pub mod Encoded
 pub mod Fault
 pub mod Laws
-pub mod Lent
 pub mod Message
 pub mod Name
 pub mod Parts
@@ -12,10 +11,5 @@ pub mod Shortest
 pub mod Sizes
 pub mod Spelling
 pub use Rattle.snmp_wire.specs.ber.Identifier
-pub use Rattle.snmp_wire.specs.ber.Length
 pub use Rattle.snmp_wire.specs.ber.Number
-pub use Rattle.snmp_wire.specs.ber.Owned
-pub use Rattle.snmp_wire.specs.ber.Value
-pub use Rattle.snmp_wire.specs.private.ber.Writing
 pub mod ber
-pub mod private

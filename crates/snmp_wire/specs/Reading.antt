@@ -5,7 +5,8 @@ use Rattle.std.specs.Prelude.{Ok, Err}
 use Rattle.std.specs.Result.{result_unwrap_or}
 use Rattle.snmp_wire.specs.declared.ber.error.BerError.{BerError}
 use Rattle.snmp_wire.specs.declared.ber.error.BerError.TheVariants as error
-use Rattle.snmp_wire.specs.{declared.kind.Kind.Kind, Message.VarBind, Message.Message}
+use Rattle.snmp_wire.specs.{declared.kind.Kind.Kind, Message.Message, Message.VarBind}
+use Rattle.snmp_wire.specs.Message.{null_value}
 use Rattle.snmp_wire.specs.declared.kind.Kind.TheVariants as kind
 use Rattle.snmp_wire.specs.declared.binding.Fields as Lent
 use Rattle.snmp_wire.specs.ber.Reading.{fault_or, content_at, element_at, identifier_of, inner_at}
@@ -41,6 +42,11 @@ binding_of fields = do
   name ← identifier_of fields.name
   value ← typed_value fields.tag fields.content
   Ok (record { name = name; value = value })
+
+-- the binding of fields that are known to be a binding's
+abbrev pub binding_with : Fields → VarBind
+binding_with fields =
+    result_unwrap_or (binding_of fields) (record { name = []; value = null_value })
 
 unfoldable pub binding_at : List ℕ → Result (VarBind × List ℕ) BerError
 binding_at octets = do

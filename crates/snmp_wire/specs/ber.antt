@@ -8,3 +8,4 @@ pub mod Reading
 pub mod Sizes
 pub mod Spelling
 pub mod Value
+pub mod Writing

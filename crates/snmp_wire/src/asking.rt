@@ -2,7 +2,7 @@
 ghost use Rattle.std.specs.Prelude.{◌≡◌, ℕ, ◌≤◌, ◌↔◌, ◌++◌, drop, length, take, IfNone, IfSome};
 ghost use Rattle.std.specs.Prelude.{IsSome};
 ghost use Rattle.snmp_oid.specs.Identifier.{IsIdentifier, IsWire};
-ghost use Rattle.snmp_wire.specs.{Canon.canon_binding, Name.asking, private.ber.Writing.Writes};
+ghost use Rattle.snmp_wire.specs.{Canon.canon_binding, Name.asking, ber.Writing.Writes};
 
 use crate::ber::tag::{NULL, OBJECT_IDENTIFIER, SEQUENCE};
 use crate::ber::{header_size, put_header, put_text};

@@ -5,7 +5,6 @@
 
 mod error;
 mod identifier;
-mod laws;
 mod length;
 mod number;
 mod owned;
@@ -15,7 +14,6 @@ mod writing;
 
 pub use error::BerError;
 pub use identifier::{check_identifier, identifier_size, push_identifier, put_identifier};
-pub use laws::element_sizes;
 pub use length::{content_at, element_at, header_size, inner_at, put_header, put_short_header};
 pub use number::{integer_at, integer_size, put_integer};
 pub use owned::{OctetString, Value};

@@ -2,21 +2,20 @@
 ghost use Rattle.std.specs.Prelude.{◌≡◌, ℕ, List, [], ◌∷◌, true, false, length, IsOk, Ok, ◌+◌, ◌^◌};
 ghost use Rattle.std.specs.Prelude.{◌<◌, ◌≤◌, ◌↔◌, ◌++◌, drop, IfSome, IfNone, IsSome, ⊤};
 ghost use Rattle.snmp_wire.specs.{Message.var_bind, ber.Reading.AgreesBy, ber.Reading.checked};
-ghost use Rattle.snmp_wire.specs.{ber.Canon.canon_value, private.ber.Writing.Writes};
+ghost use Rattle.snmp_wire.specs.{ber.Canon.canon_value, ber.Spelling.value_tag};
+ghost use Rattle.snmp_wire.specs.ber.Writing.{Writes};
 ghost use Rattle.snmp_wire.specs.ber.Value.{datum, null_value, object_id};
 ghost use Rattle.snmp_wire.specs.Reading as reading;
 ghost use Rattle.snmp_oid.specs.Identifier.{IsWire};
 ghost use Rattle.snmp_wire.specs.Canon.{IsEncodable, canon_binding};
 
-mod lent;
-
+use crate::EncodedName;
 use crate::ber::tag::{OBJECT_IDENTIFIER, SEQUENCE};
 use crate::ber::{
     BerError, ValueRef, check_identifier, check_value, content_size, element_at, header_size,
     identifier_size, inner_at, push_identifier, put_header, put_identifier, put_short_header,
     put_value, read_value,
 };
-pub use lent::BindingRef;
 use snmp_oid::Oid;
 use std::alloc::AllocError;
 use std::marker::Model;
@@ -106,6 +105,21 @@ impl<'a> Bindings<'a> {
         read_binding(fields, into);
         true
     }
+
+    /// The next binding, none of whose parts is read yet.
+    // Hot: each binding of a message.
+    #[inline(always)]
+    pub fn next_ref(&mut self) -> Option<BindingRef<'a>>
+        ensures some { IfSome result (λ binding. self.old ≡ binding ∷ self.new) }
+        ensures none { IfNone result ((self.old ≡ []) × (self.new ≡ [])) }
+    {
+        if self.rest.is_empty() {
+            return None;
+        }
+        let (fields, rest) = fields_in(self.rest);
+        self.rest = rest;
+        Some(BindingRef { fields })
+    }
 }
 
 impl<'a> Clone for Bindings<'a> {
@@ -136,6 +150,51 @@ impl<'a> Iterator for Bindings<'a> {
         } else {
             None
         }
+    }
+}
+
+/// A variable binding as it lies in a datagram: its name is compared as it is encoded, and its
+/// value is read when it is wanted.
+#[derive(Drop)]
+pub struct BindingRef<'a> {
+    fields: Fields<'a>,
+}
+
+impl<'a> Model for BindingRef<'a> {
+    ghost use Rattle.std.specs.Prelude.{IsOk};
+    ghost use Rattle.snmp_wire.specs.Message.{VarBind};
+    ghost use Rattle.snmp_wire.specs.Reading as reading;
+
+    ghost Value = { VarBind };
+
+    ghost view = { λ b. reading.binding_with (reading.fields b.fields) };
+
+    ghost invariant = { λ b. IsOk (reading.binding_of (reading.fields b.fields)) };
+}
+
+impl<'a> BindingRef<'a> {
+    /// The name of the instance.
+    #[inline]
+    pub fn name(&self) -> EncodedName<'a>
+        ensures { result ≡ self.now.name }
+    {
+        EncodedName::of(self.fields.name)
+    }
+
+    /// The tag of its value, or of the exception in place of one (RFC 3416, section 3).
+    #[inline]
+    pub fn tag(&self) -> u8
+        ensures { result ≡ value_tag self.now.value }
+    {
+        self.fields.tag
+    }
+
+    /// Reads the binding into an existing one.
+    #[inline]
+    pub fn read_into(&self, into: &mut Binding<'a>)
+        ensures { var_bind into.new ≡ self.now }
+    {
+        read_binding(self.fields, into);
     }
 }
 

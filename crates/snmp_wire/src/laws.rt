@@ -1,12 +1,11 @@
 //! Laws of messages and their encodings, for proofs above and for readers: each is a call that does
 //! nothing, and whose caller knows what it states.
 ghost use Rattle.std.specs.Prelude.{ℕ, List};
-ghost use Rattle.snmp_wire.specs.{declared.ber.error.BerError.BerError, Fault.IsFault};
+ghost use Rattle.snmp_wire.specs.{ber.Sizes.ElementSizes, declared.ber.error.BerError.BerError};
+ghost use Rattle.snmp_wire.specs.Fault.{IsFault};
 ghost use Rattle.snmp_wire.specs.{Message.Message, Sizes.MessageSizes, Spelling.Spells};
 ghost use Rattle.snmp_wire.specs.Laws.{EncodingIsShortest, EncodingIsStrict, HasPieces, OneMessage};
 ghost use Rattle.snmp_wire.specs.Laws.{OneShortestEncoding, SpeltIsOfType, StrictIsRead};
-
-use crate::ber::element_sizes;
 
 /// Octets encode at most one message, and no encoding is the front of another.
 #[inline]
@@ -61,6 +60,12 @@ pub fn one_shortest_encoding()
 #[tactic(auto, using(crate::proofs::MessageWriting::canon_parts))]
 pub fn pieces()
     ensures { HasPieces }
+{}
+
+/// How many octets the shortest encodings of lengths, whole numbers and elements take.
+#[inline]
+pub fn element_sizes()
+    ensures { ElementSizes }
 {}
 
 /// How many octets the parts of a message's shortest encoding take.

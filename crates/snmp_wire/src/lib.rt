@@ -40,17 +40,20 @@ mod laws;
 mod message;
 mod name;
 
-pub use crate::ber::{BerError, OctetString, Value, ValueRef, element_sizes, tag};
+pub use crate::ber::{BerError, OctetString, Value, ValueRef, tag};
 pub use asking::{NameBuffer, asking_size, encode_asking};
 pub use binding::{Binding, BindingRef, Bindings, binding_size, encode_binding};
 pub use encoded::EncodedBinding;
 pub use kind::Kind;
-pub use laws::{
-    encoding_is_shortest, encoding_is_strict, message_sizes, no_fault, one_shortest_encoding,
-    one_spelling, pieces, spelt_is_of_type, strict_is_read,
-};
 pub use message::{
     MAX_DATAGRAM, MessageRef, Parts, decode, encode, encode_head, head_size, seal, size,
 };
-pub use name::{EncodedName, MAX_CONTENT, encoded_names};
+pub use name::{EncodedName, MAX_CONTENT};
 pub use snmp_oid::{Oid, OidError, OidTextError, parse_numeric, read_numeric, write_numeric};
+
+// Laws, for proofs and readers.
+pub use laws::{
+    element_sizes, encoding_is_shortest, encoding_is_strict, message_sizes, no_fault,
+    one_shortest_encoding, one_spelling, pieces, spelt_is_of_type, strict_is_read,
+};
+pub use name::encoded_names;

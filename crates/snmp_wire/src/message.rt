@@ -4,7 +4,7 @@ ghost use Rattle.std.specs.Prelude.{length, drop, take, IfSome, IfNone, IsSome, 
 ghost use Rattle.snmp_wire.specs.{Fault.IsFault, ber.Value.integer_value, ber.Value.octet_string};
 ghost use Rattle.snmp_wire.specs.{ber.Reading.AgreesBy, Spelling.Spells, ber.Canon.canon_value};
 ghost use Rattle.snmp_wire.specs.{Parts.parts_message, Parts.with_bindings, Range.IsMessageInRange};
-ghost use Rattle.snmp_wire.specs.{Shortest.IsShortestEncoding, private.ber.Writing.Writes};
+ghost use Rattle.snmp_wire.specs.{Shortest.IsShortestEncoding, ber.Writing.Writes};
 ghost use Rattle.snmp_wire.specs.Message.{Message, VarBind, var_bind, var_binds};
 ghost use Rattle.snmp_wire.specs.Reading as reading;
 ghost use Rattle.snmp_wire.specs.Canon.{IsEncodable, canon, canon_bindings, canon_front};

@@ -5,7 +5,8 @@ ghost use Rattle.snmp_wire.specs.Fault.{IsFault};
 
 use crate::recorded::{REQUEST, RESPONSE};
 use snmp_wire::{
-    BerError, Binding, Bindings, Kind, MessageRef, Oid, Value, ValueRef, decode, no_fault,
+    BerError, Binding, Bindings, Kind, MessageRef, OctetString, Oid, Value, ValueRef, decode,
+    no_fault,
 };
 use std::alloc::{AllocError, Global};
 use std::process::Abort;
@@ -514,6 +515,13 @@ fn assert_wes(rt: &impl Abort, value: &Value) {
 fn owned_string(rt: HostRuntime) -> Result<(), Fail> {
     let value = Value::from_ref(rt.alloc(), &ValueRef::Octets(b"wes"))?;
     assert_wes(&rt, &value);
+    Ok(())
+}
+
+#[test]
+fn octets_of_a_string_are_given_back(rt: HostRuntime) -> Result<(), Fail> {
+    let string = OctetString::from_slice(rt.alloc(), b"wes")?;
+    assert!(rt; string.into_vec().as_slice() == b"wes".as_slice());
     Ok(())
 }
 

@@ -1,6 +1,7 @@
 -- Words that the command takes, or that have no fault, name a subcommand and state a job.
 use Rattle.std.proofs.Common.{◌≡◌, ◌∙◌, ◌⊎◌, ◌&&◌, ◌||◌, ap, refl, sym, inl, inr, true, false, not, true≢false, Bool, List, [], ◌∷◌, Option, Some}
 use Rattle.std.proofs.Common.{None, is_some}
+use Rattle.std.proofs.lemmas.Bool.{and_parts}
 use Rattle.std.specs.List.{list_all, list_any}
 use Rattle.clap.specs.{Facts.explicit_source, Kinds.Kinds, Kinds.check_kinds, Kinds.or_else}
 use Rattle.clap.specs.Faults.{check_fault, defaults_fault, entered_fault, fault_of, level_fault, settle_fault, walk_fault}
@@ -9,14 +10,6 @@ use Rattle.clap.specs.Takes.{default_passes, entered_passes, is_given, is_valid,
 use Rattle.clap.specs.Walk.{Held, Names, Row, Text, finished, nothing_held, settled, walk, walk_from}
 use Rattle.snmp_words.specs.{Command.faults_of, Command.is_taken, Command.snmp_app, Words.StateJob, Words.Stated, Words.stated_in}
 use Rattle.snmp_words.proofs.{CommandLemmas.stated_or_none, GivenLemmas.states}
-
-left : (a b : Bool) → (a && b) ≡ true → a ≡ true
-left true b e = refl
-left false b e = absurd (true≢false (sym e))
-
-right : (a b : Bool) → (a && b) ≡ true → b ≡ true
-right true b e = e
-right false b e = absurd (true≢false (sym e))
 
 -- where a subcommand is required, a check that passes found one
 met_if_required : (required met : Bool) → required ≡ true → (not required || met) ≡ true → met ≡ true
@@ -32,16 +25,16 @@ met_by_valid : (s : Shape) (rows : List Row) (has : Bool) → s.subcommand_requi
     → is_valid s rows has ≡ true → has ≡ true
 met_by_valid s rows has required valid =
     let help = not s.arg_required_else_help || (has || list_any (λ r. explicit_source r.source) rows) in
-    let later = right help _ valid in
-    met_if_required _ _ required (left (not s.subcommand_required || has) _ later)
+    let later = (and_parts help _ valid).1 in
+    met_if_required _ _ required (and_parts (not s.subcommand_required || has) _ later).0
 
 met_by_level : (s : Shape) (names : Names) (h : Held) (words : List Text) (has : Bool) → s.subcommand_required ≡ true
     → level_passes s names h words has ≡ true → has ≡ true
 met_by_level s names h words has required passes =
     let end = (walk s.rules names h words).held in
-    let settles = right (walk_passes s names (walk_from h) words) _ passes in
-    let defaults = right (settle_passes s.rules s.args_override_self end) _ settles in
-    met_by_valid s (finished s.rules end) has required (right (list_all default_passes s.rules) _ defaults)
+    let settles = (and_parts (walk_passes s names (walk_from h) words) _ passes).1 in
+    let defaults = (and_parts (settle_passes s.rules s.args_override_self end) _ settles).1 in
+    met_by_valid s (finished s.rules end) has required (and_parts (list_all default_passes s.rules) _ defaults).1
 
 -- words that a command takes name a subcommand, where it requires one
 met_by_taken : (app : App) (words : List Text) → (built app).top.subcommand_required ≡ true → takes app words ≡ true
@@ -50,7 +43,7 @@ met_by_taken app words required taken =
     let a = built app in
     let said = argument_words app words in
     let stop = (walk a.top.rules (names_of a) nothing_held said).stopped in
-    let level = right (entered_passes a stop) _ (right (is_simple app) _ taken) in
+    let level = (and_parts (entered_passes a stop) _ (and_parts (is_simple app) _ taken).1).1 in
     met_by_level a.top (names_of a) nothing_held said (is_some (entered a stop)) required level
 
 none_after : (first next : Kinds) → or_else first next ≡ [] → next ≡ []

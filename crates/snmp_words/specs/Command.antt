@@ -1,5 +1,5 @@
 -- The commands of the program in clap's terms: each has rules for its words.
-use Rattle.std.specs.Prelude.{◌++◌, ◌≡◌, ℕ, Bool, true, false, List, [], ◌∷◌, Some, codes, Result}
+use Rattle.std.specs.Prelude.{◌≡◌, ℕ, Bool, true, false, List, [], ◌∷◌, Some, codes, Result}
 use Rattle.std.specs.Prelude.{IfOk}
 use Rattle.clap.specs.{Faults.fault_of, Kinds.Kinds, Takes.takes, Walk.Rule, Walk.Text}
 use Rattle.clap.specs.{Walk.rule_of, Words.app_of, declared.builder.arg.Arg.Arg}
@@ -95,53 +95,32 @@ abbrev pub with_rules : App → List Rule → App
 with_rules app [] = app
 with_rules app (rule ∷ rules) = with_rules (with_rule app rule) rules
 
--- the files of modules, how names are shown, what is shown in place of them, and the names
-abbrev pub translating_rules : List Rule
-translating_rules = mib_rule ∷ letters_rule ∷ details_rule ∷ names_rule ∷ []
-
--- the files of modules, how names and values are shown, and the version and community of requests
-abbrev pub showing_rules : List Rule
-showing_rules = mib_rule ∷ letters_rule ∷ protocol_rule ∷ community_rule ∷ []
-
--- how often a request is sent again, how long a reply is waited for, and the size of messages
-abbrev pub sending_rules : List Rule
-sending_rules = retries_rule ∷ seconds_rule ∷ size_rule ∷ []
-
+-- what each command that asks an agent takes: the files of modules, how lines are shown, the version
+-- and community of requests, how often one is sent again, how long a reply is waited for, and the
+-- size of messages
 abbrev pub asking_rules : List Rule
-asking_rules = showing_rules ++ sending_rules
-
--- the agent, and the names
-abbrev pub getting_rules : List Rule
-getting_rules = agent_rule ∷ names_rule ∷ []
-
--- the letters of -C, the name to go on after, the agent, and the name of the root
-abbrev pub walking_rules : List Rule
-walking_rules = walk_letters_rule ∷ after_rule ∷ agent_rule ∷ name_rule ∷ []
-
--- the table that is served, the community, and where requests arrive
-abbrev pub place_rules : List Rule
-place_rules = table_rule ∷ community_rule ∷ listen_rule ∷ []
-
--- an agent's options: the files of modules, the three above, the size of replies, and the number of
--- turns
-abbrev pub serving_rules : List Rule
-serving_rules = mib_rule ∷ place_rules ++ size_rule ∷ turns_rule ∷ []
+asking_rules = mib_rule ∷ letters_rule ∷ protocol_rule ∷ community_rule ∷ retries_rule
+    ∷ seconds_rule ∷ size_rule ∷ []
 
 -- snmptranslate OPTION.. NAME..
 abbrev pub translate_app : App
-translate_app = with_rules (new_app (codes "snmptranslate")) translating_rules
+translate_app = with_rules (new_app (codes "snmptranslate"))
+    (mib_rule ∷ letters_rule ∷ details_rule ∷ names_rule ∷ [])
 
 -- snmpget OPTION.. AGENT NAME..
 abbrev pub get_app : App
-get_app = with_rules (with_rules (new_app (codes "snmpget")) asking_rules) getting_rules
+get_app = with_rules (with_rules (new_app (codes "snmpget")) asking_rules)
+    (agent_rule ∷ names_rule ∷ [])
 
 -- snmpwalk OPTION.. AGENT [NAME], and snmpbulkwalk with the same words
 abbrev pub walk_app : Text → App
-walk_app name = with_rules (with_rules (new_app name) asking_rules) walking_rules
+walk_app name = with_rules (with_rules (new_app name) asking_rules)
+    (walk_letters_rule ∷ after_rule ∷ agent_rule ∷ name_rule ∷ [])
 
 -- snmpd OPTION..
 abbrev pub serve_app : App
-serve_app = with_rules (new_app (codes "snmpd")) serving_rules
+serve_app = with_rules (new_app (codes "snmpd"))
+    (mib_rule ∷ table_rule ∷ community_rule ∷ listen_rule ∷ size_rule ∷ turns_rule ∷ [])
 
 -- snmp without its subcommands
 abbrev pub top_app : App
@@ -156,13 +135,9 @@ abbrev pub with_commands : App → List App → App
 with_commands app [] = app
 with_commands app (command ∷ commands) = with_commands (with_subcommand app command.top) commands
 
--- the commands of snmp
-abbrev pub commands : List App
-commands = translate_app ∷ get_app ∷ walk_app (codes "snmpwalk") ∷ walk_app (codes "snmpbulkwalk")
-    ∷ serve_app ∷ []
-
 abbrev pub snmp_app : App
-snmp_app = with_commands top_app commands
+snmp_app = with_commands top_app (translate_app ∷ get_app ∷ walk_app (codes "snmpwalk")
+    ∷ walk_app (codes "snmpbulkwalk") ∷ serve_app ∷ [])
 
 -- the command takes the words: they name options and subcommands that it has, with as many texts as
 -- these need, each number in its range, and no option twice that may be given once; and they don't

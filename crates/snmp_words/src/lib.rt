@@ -26,11 +26,7 @@ ghost use Rattle.std.specs.Prelude.{◌≡◌, [], ◌∷◌, List, ℕ, codes, 
 ghost use Rattle.clap.specs.{Walk.Text, Walk.texts, Words.kind_of};
 ghost use Rattle.snmp_words.specs.Command.{faults_of, is_taken};
 ghost use Rattle.snmp_words.specs.Words.{HasFaultOf, IsMemory, StandsFor, StateJob, Stated};
-ghost use Rattle.snmp_words.specs.Words.{bulk_walk_line, get_line, job_words, serve_line};
-ghost use Rattle.snmp_words.specs.Words.{snmpbulkwalk, snmpd, snmpget, snmptranslate, snmpwalk};
-ghost use Rattle.snmp_words.specs.Words.{translate_line, walk_line, words_of_bulk_walk};
-ghost use Rattle.snmp_words.specs.Words.{words_of_get, words_of_server, words_of_translation};
-ghost use Rattle.snmp_words.specs.Words.{words_of_walk};
+ghost use Rattle.snmp_words.specs.Words.{job_words, snmpwalk, walk_line, words_of_walk};
 
 use clap::error::ErrorKind;
 use command::snmp_command;
@@ -77,64 +73,16 @@ pub fn read_words<'a>(alloc: Global, words: &'a [&'a str]) -> Result<Job<'a>, Us
     }
 }
 
-/// The words of a walk of any table file from any numeric name, with `-On` or with `-O n`, are
-/// taken and state that walk.
+/// The words of a walk of any table file from any numeric name, with `-On`, are taken and state that
+/// walk.
 ///
 /// A law: the call does nothing, and its caller may use what it ensures.
 pub fn walks_are_taken()
     ensures joined { (path numbers : List ℕ) →
         is_taken (walk_line (codes "-On" ∷ []) path numbers) ≡ true }
-    ensures apart { (path numbers : List ℕ) →
-        is_taken (walk_line (codes "-O" ∷ codes "n" ∷ []) path numbers) ≡ true }
     ensures joined_job { (path numbers : List ℕ) →
         StateJob (walk_line (codes "-On" ∷ []) path numbers)
         (snmpwalk (words_of_walk path numbers)) }
-    ensures apart_job { (path numbers : List ℕ) →
-        StateJob (walk_line (codes "-O" ∷ codes "n" ∷ []) path numbers)
-        (snmpwalk (words_of_walk path numbers)) }
-{}
-
-/// The words of a bulk walk of an agent on any host, from any numeric name, are taken, and state
-/// that walk.
-///
-/// A law: the call does nothing, and its caller may use what it ensures.
-pub fn bulk_walks_are_taken()
-    ensures taken { (host numbers : List ℕ) → is_taken (bulk_walk_line host numbers) ≡ true }
-    ensures job { (host numbers : List ℕ) →
-        StateJob (bulk_walk_line host numbers) (snmpbulkwalk (words_of_bulk_walk host numbers)) }
-{}
-
-/// The words of an agent that serves any table file at any place are taken, and state that.
-///
-/// A law: the call does nothing, and its caller may use what it ensures.
-pub fn servers_are_taken()
-    ensures taken { (path place : List ℕ) → is_taken (serve_line path place) ≡ true }
-    ensures job { (path place : List ℕ) →
-        StateJob (serve_line path place) (snmpd (words_of_server path place)) }
-{}
-
-/// The details of any numeric name, with any two files of modules, are asked for by words that are
-/// taken and state that translation: the files in their order.
-///
-/// A law: the call does nothing, and its caller may use what it ensures.
-pub fn translations_are_taken()
-    ensures taken { (first second name : List ℕ) →
-        is_taken (translate_line first second name) ≡ true }
-    ensures job { (first second name : List ℕ) →
-        StateJob (translate_line first second name)
-        (snmptranslate (words_of_translation first second name)) }
-{}
-
-/// The instances of any two numeric names, of an agent on any host, with any file of modules, are
-/// asked for by words that are taken and state that get: the names in their order.
-///
-/// A law: the call does nothing, and its caller may use what it ensures.
-pub fn gets_are_taken()
-    ensures taken { (modules host first second : List ℕ) →
-        is_taken (get_line modules host first second) ≡ true }
-    ensures job { (modules host first second : List ℕ) →
-        StateJob (get_line modules host first second)
-        (snmpget (words_of_get modules host first second)) }
 {}
 
 /// Words state at most one job.

@@ -8,7 +8,7 @@ use Rattle.smi_text.specs.declared.trees.tree.Import.{Import}
 use Rattle.smi_names.specs.{chains.Chain.HasEnd, chains.Order.next_at, chains.Order.at_place}
 use Rattle.smi_names.specs.meaning.Meaning.{QualifiedName, Decision, defined, imported, root}
 use Rattle.smi_names.specs.meaning.Meaning.{decision, module_named}
-use Rattle.smi_names.specs.meaning.Known.{KnownNames, content_named}
+use Rattle.smi_names.specs.meaning.Scopes.{KnownNames, content_named}
 
 -- the name to which a name leads, by what decides it; `leads` says it of definitions
 abbrev pub next_by : (Def → Option (List ℕ)) → QualifiedName → Option Decision

@@ -33,6 +33,7 @@ pub data Decision : Type 0 where
   imported : Import → Decision
   root : ℕ → Decision
 
+-- the first of the two that there is
 abbrev pub or_else : {A : Type 0} → Option A → Option A → Option A
 or_else None d = d
 or_else (Some x) d = Some x

@@ -3,11 +3,10 @@ use Rattle.std.specs.Prelude.{◌≡◌, ℕ, List, [], length, Option, Some, No
 use Rattle.std.specs.List.{slice_get}
 use Rattle.smi_text.specs.{declared.trees.tree.Def.Def, trees.Lookup.identifier_value_of}
 use Rattle.smi_names.specs.chains.Chain.{Origin, next_of, nowhere}
-use Rattle.smi_names.specs.{chains.Resolution.ComesTo, chains.Resolving.resolution_at}
-use Rattle.smi_names.specs.declared.chains.resolution.Resolution.{Resolution}
+use Rattle.smi_names.specs.{chains.Resolution.ComesTo, chains.Resolution.resolution_at}
+use Rattle.smi_names.specs.declared.chains.shared.Resolution.{Resolution}
 use Rattle.smi_names.specs.meaning.Meaning.{QualifiedName, origin, origin_by, origin_of_value}
-use Rattle.smi_names.specs.meaning.Scopes.{Content, qualified}
-use Rattle.smi_names.specs.meaning.Known.{KnownNames, content_named}
+use Rattle.smi_names.specs.meaning.Scopes.{Content, qualified, KnownNames, content_named}
 
 -- The name of its own module to which a definition's identifier value leads, if each part after it
 -- has a number. The home doesn't matter here: only the name is taken.

@@ -3,7 +3,7 @@ use Rattle.std.specs.Prelude.{◌≡◌, ℕ, List, map}
 use Rattle.smi_text.specs.declared.trees.tree.Module.{Module}
 use Rattle.smi_names.specs.meaning.Scopes.{place_in, content_of}
 use Rattle.smi_names.specs.meaning.Names.{AreEach, module_place}
-use Rattle.smi_names.specs.{meaning.Known.KnownNames, meaning.Parents.parent_of}
+use Rattle.smi_names.specs.{meaning.Scopes.KnownNames, meaning.Parents.parent_of}
 use Rattle.smi_names.specs.meaning.Directory.{next_place}
 use Rattle.smi_names.specs.declared.meaning.directory.Directory.{Directory}
 

@@ -5,7 +5,7 @@ use Rattle.indexmap.specs.IndexMap.{IndexMap, get}
 use Rattle.smi_text.specs.{declared.trees.tree.Module.Module, declared.trees.tree.Def.Def}
 use Rattle.smi_names.specs.{declared.hash.NameHash.NameHash, declared.meaning.entry.Entry.Entry}
 use Rattle.smi_names.specs.meaning.Meaning.{QualifiedName, Decision, defined, imported, root}
-use Rattle.smi_names.specs.meaning.Meaning.{or_else, decision}
+use Rattle.smi_names.specs.meaning.Meaning.{or_else, decision, module_named}
 use Rattle.smi_names.specs.declared.meaning.entry.Decider.{Decider}
 use Rattle.smi_names.specs.declared.meaning.entry.Decider.TheVariants as D
 
@@ -56,6 +56,16 @@ IsDefinedAt e = (d : Def) → decision_of e.decider ≡ defined d
 -- what an entry says is what decides its name in its module
 abbrev pub IsDecided : Entry → Type 0
 IsDecided e = decision e.«module».now e.name.now ≡ Some (decision_of e.decider)
+
+-- names by their places, with the modules that they are of
+pub record KnownNames : Type 0 where
+  pub modules : List Module
+  pub names : List Content
+
+-- what decides what a name means, if it has a meaning
+abbrev pub content_named : List Module → QualifiedName → Option Content
+content_named ms a =
+    option_and_then (λ m. decided_as m a.name (decision m a.name)) (module_named ms a.home)
 
 -- ---- for private functions
 

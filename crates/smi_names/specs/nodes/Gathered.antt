@@ -1,14 +1,14 @@
 -- What is gathered, as nodes.
 use Rattle.std.specs.Prelude.{◌≡◌, ℕ, List, [], ◌∷◌, ◌++◌, length, Option, Some, None}
 use Rattle.std.specs.List.{slice_get}
-use Rattle.smi_names.specs.declared.chains.resolution.Resolution.{Resolution}
-use Rattle.smi_names.specs.declared.chains.resolution.Resolution.TheVariants as R
+use Rattle.smi_names.specs.declared.chains.shared.Resolution.{Resolution}
+use Rattle.smi_names.specs.declared.chains.shared.Resolution.TheVariants as R
 use Rattle.smi_text.specs.{declared.trees.tree.Module.Module, declared.trees.tree.Def.Def}
-use Rattle.smi_names.specs.{meaning.Meaning.root_label, declared.nodes.source.Source.Source}
+use Rattle.smi_names.specs.{meaning.Meaning.root_label, declared.nodes.gather.Source.Source}
 use Rattle.smi_names.specs.nodes.Nodes.{Node, node_of, warnings_by, roots, GivesNodes, Gathers}
 use Rattle.smi_names.specs.nodes.Nodes.{Brings, Loads}
 use Rattle.smi_names.specs.declared.nodes.warning.Warning.{Warning}
-use Rattle.smi_names.specs.declared.nodes.source.Source.TheVariants as S
+use Rattle.smi_names.specs.declared.nodes.gather.Source.TheVariants as S
 use Rattle.smi_names.specs.declared.nodes.gather.Gathered.{Gathered}
 
 abbrev pub node_from_def : Option Module → Option Def → List ℕ → Node

@@ -3,7 +3,7 @@ ghost use Rattle.std.specs.Prelude.{◌≡◌, ◌≢◌, ◌⊎◌, ℕ, ◌<�
 ghost use Rattle.std.specs.Prelude.{Contains, Option, IfOk, IsTrue, Some, true, false, vec_len};
 ghost use Rattle.smi_names.specs.chains.Chain.{HasEnd};
 ghost use Rattle.smi_names.specs.chains.Order.{next_at, ComeAfterNext};
-ghost use Rattle.smi_names.specs.private.chains.Search.{Keeps, Leads, mark_at};
+ghost use Rattle.smi_names.specs.private.Search.{Keeps, Leads, mark_at};
 
 use std::alloc::{AllocError, Global};
 

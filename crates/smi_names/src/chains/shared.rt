@@ -1,12 +1,25 @@
-//! Resolutions that are kept once each: an import shares the resolution of what it imports.
+//! What names resolve to. Resolutions are kept once each: an import shares the resolution of what
+//! it imports.
 ghost use Rattle.std.specs.Prelude.{◌≡◌, ◌<◌, ◌∷◌, [], length, option_map, IfOk};
 ghost use Rattle.std.specs.List.{slice_get};
-ghost use Rattle.smi_names.specs.chains.Resolving.{lengthened, followed_by, far_at, resolution_at};
-ghost use Rattle.smi_names.specs.chains.Shared.{shared, AreWithin, HasReasons, GrowsTo};
+ghost use Rattle.smi_names.specs.chains.Resolution.{lengthened, followed_by, far_at, resolution_at};
+ghost use Rattle.smi_names.specs.chains.Resolution.{shared, AreWithin, HasReasons, GrowsTo};
 
-use crate::chains::resolution::Resolution;
 use snmp_oid::{MAX_LEN, Oid};
 use std::alloc::{AllocError, Global};
+
+/// What a name resolves to: its identifier, or the reason why it has none.
+#[derive(Debug, Drop)]
+pub enum Resolution {
+    /// Its identifier, of at most 128 numbers.
+    Numbers(Oid),
+    /// Its chain has no end.
+    Cycle,
+    /// Its chain ends at a name without a meaning.
+    Unresolved,
+    /// It has more than 128 numbers.
+    TooLong,
+}
 
 /// The place of `Unresolved` in the list.
 pub(crate) const UNRESOLVED: usize = 0;

@@ -9,8 +9,9 @@ ghost use Rattle.std.specs.List.{slice_get};
 use crate::hash::NameHash;
 use crate::meaning::along::Leads;
 use crate::meaning::entry::{Decider, Entry};
-use crate::meaning::scope::{NamePlaces, put_first, scope};
+use crate::meaning::scope::scope;
 use crate::name::NameRef;
+use crate::places::{NamePlaces, find, insert_if_absent};
 use indexmap::IndexMap;
 use smi_text::Module;
 use std::alloc::{AllocError, Global};
@@ -42,13 +43,6 @@ struct Found<'a> {
     place: usize,
 }
 
-/// The place of a name.
-pub(crate) fn find<'b>(scope: &NamePlaces<'b>, name: &'b [u8]) -> Option<usize>
-    ensures { result ≡ place_in scope.now name.now }
-{
-    scope.get(&NameRef::new(name)).copied()
-}
-
 /// The place of each module, by its name: the first of those that have it.
 pub(crate) fn homes<'a>(
     alloc: Global,
@@ -59,7 +53,7 @@ pub(crate) fn homes<'a>(
 {
     let mut homes = IndexMap::with_hasher(alloc, hash);
     'modules: for (i, module) in modules.iter().enumerate() {
-        put_first(&mut homes, module.name.as_bytes(), i)?;
+        insert_if_absent(&mut homes, NameRef::new(module.name.as_bytes()), i)?;
     }
     Ok(homes)
 }

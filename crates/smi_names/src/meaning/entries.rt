@@ -1,12 +1,22 @@
-//! The names of modules by their places.
-ghost use Rattle.std.specs.Prelude.{◌≡◌, Some, length, option_map};
-ghost use Rattle.std.specs.List.{slice_get};
-ghost use Rattle.smi_names.specs.{meaning.Scopes.content_of, meaning.Names.IsSourced};
-ghost use Rattle.smi_names.specs.{meaning.Known.content_named, declared.meaning.entry.Entry.Entry};
+//! The names of modules by their places, what each means and what it resolves to.
+ghost use Rattle.std.specs.Prelude.{◌≡◌, ℕ, Option, None, Some, length, option_map, IfOk};
+ghost use Rattle.std.specs.{Prelude.MatchOption, List.slice_get, Option.option_and_then};
+ghost use Rattle.smi_names.specs.{chains.Order.at_place, meaning.Names.IsSourced};
+ghost use Rattle.smi_names.specs.chains.Resolution.{shared, far_at, resolution_by, AreWithin};
+ghost use Rattle.smi_names.specs.chains.Resolution.{HasReasons, GrowsTo};
+ghost use Rattle.smi_names.specs.meaning.Along.{AreMeant, AreNext, IsNext, MeansAt};
+ghost use Rattle.smi_names.specs.meaning.Parents.{origin_here, parent_of, AreResolved};
+ghost use Rattle.smi_names.specs.meaning.Scopes.{content_of, content_named};
+ghost use Rattle.smi_names.specs.declared.meaning.entry.Entry.{Entry};
 
+use crate::chains::{CYCLE, Resolution, Shared, UNRESOLVED, appended, led, ordered, reasons};
+use crate::meaning::along::{Leads, Meaning};
 use crate::meaning::directory::Directory;
-use crate::meaning::entry::Entry;
+use crate::meaning::entry::{Decider, Entry};
+use crate::meaning::parents::by_parts;
 use smi_text::Module;
+use snmp_oid::Oid;
+use std::alloc::{AllocError, Global};
 use std::marker::Model;
 
 /// The names that have a meaning in modules, each with its place.
@@ -19,7 +29,7 @@ pub struct Entries<'s, 'a> {
 }
 
 impl<'s, 'a> Model for Entries<'s, 'a> {
-    ghost use Rattle.smi_names.specs.meaning.Known.{KnownNames};
+    ghost use Rattle.smi_names.specs.meaning.Scopes.{KnownNames};
     ghost use Rattle.smi_names.specs.meaning.Resolved.{IsDirectory, known_names};
 
     ghost Value = { KnownNames };
@@ -52,5 +62,136 @@ impl<'s, 'a> Entries<'s, 'a> {
         ensures source { (e : Entry) → result ≡ Some e → IsSourced self.now.modules e }
     {
         self.directory.entries.get(place).copied()
+    }
+
+    /// What the name at each place means. None for a root, where its definition means nothing, and
+    /// where its chain has no end, as in a ring of imports. Each place is visited once, without
+    /// recursion. An error says that memory ran out.
+    pub fn along<M: Meaning>(&self, alloc: Global) -> Result<Vec<Option<M>>, AllocError>
+        ensures { IfOk result (λ found. AreMeant self.now M.leads M.means found.items) }
+    {
+        let next = self.next_places::<M>(alloc)?;
+        let order = ordered(alloc, &next)?;
+        let mut found = vec![in alloc; None; next.len()]?;
+        'places: for place in &order {
+            let place = *place;
+            found[place] = self.meant::<M>(place, far_meaning(&found, next[place]));
+        }
+        Ok(found)
+    }
+
+    /// The place to which the name at each place leads.
+    fn next_places<M: Leads>(&self, alloc: Global) -> Result<Vec<Option<usize>>, AllocError>
+        ensures { IfOk result (λ next. AreNext self.now M.leads next.items) }
+    {
+        self.directory.next_places::<M>(alloc)
+    }
+
+    /// What the name at a place means, given what the name means to which it leads.
+    fn meant<M: Meaning>(&self, place: usize, far: Option<M>) -> Option<M>
+        ensures { let k = self.now in (to : Option ℕ) → IsNext k M.leads place to
+            → MatchOption to (far ≡ None) (λ q. MeansAt k M.leads M.means q far)
+            → MeansAt k M.leads M.means place result }
+    {
+        let Some(entry) = self.get(place) else {
+            return None;
+        };
+        match entry.decider {
+            Decider::Definition(def) => M::meaning(entry.source, def, far),
+            Decider::Import(_) => far,
+            Decider::Root(_) => None,
+        }
+    }
+
+    /// What the name at each place resolves to.
+    ///
+    /// Each place is visited once, without recursion, so chains may be of any length and may lead
+    /// back to themselves.
+    pub(crate) fn resolutions(&self, alloc: Global) -> Result<Shared, AllocError>
+        ensures within { IfOk result (λ s. AreWithin s.list.items s.places.items) }
+        ensures resolved { IfOk result (λ s.
+            AreResolved self.now (shared s.list.items s.places.items)) }
+    {
+        let next = self.parents();
+        // Without places nothing is kept, and no memory is asked for.
+        if next.is_empty() {
+            return Ok(Shared {
+                list: Vec::new(alloc),
+                places: Vec::new(alloc),
+            });
+        }
+        let order = ordered(alloc, next)?;
+        let mut list = reasons(alloc, self.most())?;
+        let mut places = vec![in alloc; CYCLE; next.len()]?;
+        'places: for place in &order {
+            let place = *place;
+            places[place] = self.entered(alloc, &mut list, &places, place, next[place])?;
+        }
+        Ok(Shared { list, places })
+    }
+
+    /// The place to which the name at each place leads towards its identifier.
+    fn parents(&self) -> &[Option<usize>]
+        ensures { AreNext self.now parent_of result.now }
+    {
+        &self.directory.parents
+    }
+
+    /// How many identifiers the list gets at most.
+    fn most(&self) -> usize {
+        let mut count = 0_usize;
+        'entries: for entry in &self.directory.entries {
+            let is_new = match entry.decider {
+                Decider::Definition(def) => def.identifier().is_some(),
+                Decider::Import(_) => false,
+                Decider::Root(_) => true,
+            };
+            if is_new {
+                count = count.saturating_add(1);
+            }
+        }
+        count
+    }
+
+    /// The place in the list of what the name at a place resolves to; a new identifier is appended.
+    /// `places` has those of the names before it.
+    fn entered(
+        &self,
+        alloc: Global,
+        list: &mut Vec<Resolution>,
+        places: &[usize],
+        place: usize,
+        to: Option<usize>,
+    ) -> Result<usize, AllocError>
+        requires reasons { HasReasons list.old.items }
+        requires within { AreWithin list.old.items places.now }
+        ensures grown { IfOk result (λ at. GrowsTo list.old.items list.new.items at
+            (resolution_by (origin_here (slice_get self.now.names place))
+            (far_at (shared list.old.items places.now) to))) }
+    {
+        let Some(entry) = self.get(place) else {
+            return Ok(UNRESOLVED);
+        };
+        match entry.decider {
+            Decider::Definition(def) => match def.identifier() {
+                Some(parts) => by_parts(alloc, list, places, to, parts.as_slice()),
+                None => Ok(UNRESOLVED),
+            },
+            Decider::Import(_) => led(list, places, to, &[]),
+            Decider::Root(number) => appended(list, Oid::new(), &[number]),
+        }
+    }
+}
+
+/// What a list has at the place to which something leads, if it leads to one.
+fn far_meaning<T: Copy>(found: &[Option<T>], to: Option<usize>) -> Option<T>
+    ensures { result ≡ option_and_then (λ p. at_place found.now p) to }
+{
+    let Some(place) = to else {
+        return None;
+    };
+    match found.get(place) {
+        Some(meaning) => *meaning,
+        None => None,
     }
 }

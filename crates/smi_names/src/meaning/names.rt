@@ -7,10 +7,11 @@ ghost use Rattle.smi_names.specs.meaning.Meaning.{origin, module_named, decision
 
 use crate::chains::{Resolution, Shared};
 use crate::hash::NameHash;
-use crate::meaning::directory::{Directory, find, homes, scopes};
+use crate::meaning::directory::{Directory, homes, scopes};
 use crate::meaning::entries::Entries;
 use crate::meaning::entry::Decider;
 use crate::meaning::parents::Parents;
+use crate::places::find;
 use smi_text::Module;
 use std::alloc::{AllocError, Global};
 use std::marker::Model;
@@ -28,7 +29,7 @@ pub struct Names<'a> {
 impl<'a> Model for Names<'a> {
     ghost use Rattle.std.specs.Prelude.{List};
     ghost use Rattle.smi_text.specs.declared.trees.tree.Module.{Module};
-    ghost use Rattle.smi_names.specs.chains.Shared.{shared, AreWithin};
+    ghost use Rattle.smi_names.specs.chains.Resolution.{shared, AreWithin};
     ghost use Rattle.smi_names.specs.meaning.Resolved.{IsDirectory, known_names};
     ghost use Rattle.smi_names.specs.meaning.Parents.{AreResolved};
 

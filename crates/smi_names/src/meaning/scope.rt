@@ -1,38 +1,22 @@
 //! The names that have a meaning in a module.
 ghost use Rattle.std.specs.Prelude.{◌≡◌, ℕ, List, [], ◌∷◌, ◌++◌, Some, None, option_map, OnOk};
-ghost use Rattle.std.specs.Prelude.{IfOk, All, if◌then◌else◌, unwrap_or};
+ghost use Rattle.std.specs.Prelude.{IfOk, All, if◌then◌else◌};
 ghost use Rattle.smi_text.specs.trees.Lookup.{first_definition, first_import};
 ghost use Rattle.smi_text.specs.trees.Lookup as lookup;
 ghost use Rattle.smi_text.specs.trees.Mark.{same_text};
-ghost use Rattle.smi_names.specs.meaning.Meaning.{defined, imported, root, decision, or_else};
+ghost use Rattle.smi_names.specs.meaning.Meaning.{defined, imported, root, decision};
 ghost use Rattle.smi_names.specs.meaning.Meaning as meaning;
 ghost use Rattle.smi_names.specs.declared.meaning.entry.Entry.{Entry};
 ghost use Rattle.smi_names.specs.meaning.Scopes.{decision_of, decided_as, known, IsWithin};
-ghost use Rattle.smi_names.specs.meaning.Scopes.{IsDefinedAt, IsDecided};
-ghost use Rattle.smi_names.specs.meaning.Scopes.{IsEntryOf, KnowsMore, place_in};
+ghost use Rattle.smi_names.specs.meaning.Scopes.{IsDefinedAt, IsDecided, IsEntryOf, KnowsMore};
 
 use crate::hash::NameHash;
 use crate::meaning::entry::{Decider, Entry};
 use crate::name::NameRef;
+use crate::places::{NamePlaces, insert_if_absent};
 use indexmap::IndexMap;
 use smi_text::{Import, Module};
 use std::alloc::{AllocError, Global};
-
-/// The names of a module, each with its place among the entries.
-pub(crate) type NamePlaces<'a> = IndexMap<NameRef<'a>, usize, NameHash>;
-
-/// Gives a name this place unless it has one, and returns its place.
-pub(crate) fn put_first<'a>(
-    scope: &mut NamePlaces<'a>,
-    name: &'a [u8],
-    place: usize,
-) -> Result<usize, AllocError>
-    ensures put { OnOk result ((x : List ℕ) → place_in scope.new x
-        ≡ or_else (place_in scope.old x) (if same_text name.now x then Some place else None)) }
-    ensures returned { IfOk result (λ p. p ≡ unwrap_or (place_in scope.old name.now) place) }
-{
-    Ok(*scope.entry(NameRef::new(name))?.or_insert(place))
-}
 
 /// Enters a name, unless it is there.
 fn enter<'a>(
@@ -48,7 +32,7 @@ fn enter<'a>(
         else None)) }
 {
     let place = entries.len();
-    let first = put_first(scope, entry.name, place)?;
+    let first = insert_if_absent(scope, NameRef::new(entry.name), place)?;
     if first < place {
         return Ok(());
     }

@@ -9,11 +9,19 @@ ghost use Rattle.smi_text.specs.declared.trees.tree.Module.{Module};
 use crate::chains::Resolution;
 use crate::meaning::Names;
 use crate::nodes::imports::add_import_warnings;
-use crate::nodes::source::Source;
 use crate::nodes::warning::Warning;
 use smi_text::{Def, Module, Text};
 use snmp_oid::Oid;
 use std::alloc::{AllocError, Global};
+
+/// Where a node comes from.
+#[derive(Clone, Copy, Debug)]
+pub enum Source {
+    /// It is a root, `ccitt`, `iso` or `joint-iso-ccitt` (RFC 2578, section 3.5).
+    Root(u32),
+    /// It is a definition: the place of its module, and its place in the module.
+    Definition(usize, usize),
+}
 
 /// The nodes of modules, and the warnings that the modules give.
 #[derive(Drop)]

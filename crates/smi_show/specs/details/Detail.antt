@@ -1,9 +1,11 @@
 -- The details of an identifier: its name, the definition of its deepest node, and the identifier as
 -- a value.
 use Rattle.std.specs.Prelude.{◌≡◌, ℕ, Bool, List, [], ◌++◌, codes, Option, Some, None}
-use Rattle.smi_value.specs.declared.letters.letters.NameForm.{NameForm}
+use Rattle.smi_value.specs.declared.letters.NameForm.{NameForm}
 use Rattle.smi_text.specs.{declared.trees.tree.Def.Def, trees.Lookup.kind_words}
-use Rattle.smi_show.specs.{name.Naming.Naming, name.Naming.Standing, name.Name.IsName}
+use Rattle.smi_show.specs.{name.Name.IsName}
+use Rattle.smi_tree.specs.Tree.{Contents}
+use Rattle.smi_tree.specs.Naming.{Standing, nearest_definition, nearest_node}
 use Rattle.smi_show.specs.{private.name.Shown.name_text, details.Value.identifier_text}
 use Rattle.smi_show.specs.details.Definition.{definition_text}
 
@@ -27,16 +29,16 @@ node_detail (Some node) definition =
     ++ clauses_text definition
 
 -- the name, what is said of the deepest node, and the identifier as a value
-pub record IsDetail (naming : Naming) (definition : Option Def) (form : NameForm)
-    (numeric_index : Bool) (o text : List ℕ) : Type 0 where
+pub record IsDetail (tree : Contents) (form : NameForm) (numeric_index : Bool)
+    (o text : List ℕ) : Type 0 where
   pub name : List ℕ
-  pub is_name : IsName naming form numeric_index o name
-  pub whole : text ≡ name ++ codes "\n" ++ node_detail (naming.deepest o) definition
-      ++ identifier_text naming o
+  pub is_name : IsName tree form numeric_index o name
+  pub whole : text ≡ name ++ codes "\n"
+      ++ node_detail (nearest_node tree o) (nearest_definition tree o) ++ identifier_text tree o
 
 -- ---- for private functions
 
-abbrev pub detail_text : Naming → Option Def → NameForm → Bool → List ℕ → List ℕ
-detail_text naming definition form numeric_index o =
-    name_text naming form numeric_index o ++ codes "\n"
-    ++ node_detail (naming.deepest o) definition ++ identifier_text naming o
+abbrev pub detail_text : Contents → NameForm → Bool → List ℕ → List ℕ
+detail_text tree form numeric_index o =
+    name_text tree form numeric_index o ++ codes "\n"
+    ++ node_detail (nearest_node tree o) (nearest_definition tree o) ++ identifier_text tree o

@@ -2,8 +2,9 @@
 use Rattle.std.specs.Prelude.{ℕ, ◌==◌, if◌then◌else◌, List, [], ◌∷◌, ◌++◌, length, take}
 use Rattle.std.specs.Prelude.{codes, decimal, Option, Some, None}
 use Rattle.std.specs.List.{flat_map}
-use Rattle.smi_show.specs.name.Beginnings.{beginnings, last_number}
-use Rattle.smi_show.specs.name.Naming.{Naming, Standing}
+use Rattle.smi_show.specs.name.Beginnings.{beginnings}
+use Rattle.smi_tree.specs.{Nodes.last_number, Tree.Contents}
+use Rattle.smi_tree.specs.Naming.{Standing, nearest_node}
 
 -- a number with the label of the node that stands there, or alone
 abbrev pub labelled_number : Option Standing → List ℕ → ℕ → List ℕ
@@ -13,20 +14,20 @@ labelled_number (Some node) here n =
     else decimal n
 
 -- the last number with its label, and a blank
-abbrev pub labelled_part : Naming → List ℕ → List ℕ
-labelled_part naming here =
-    labelled_number (naming.deepest here) here (last_number here) ++ codes " "
+abbrev pub labelled_part : Contents → List ℕ → List ℕ
+labelled_part tree here =
+    labelled_number (nearest_node tree here) here (last_number here) ++ codes " "
 
 -- all numbers with their labels, a blank after each: one for each beginning
-abbrev pub labelled_parts : Naming → List ℕ → List ℕ
-labelled_parts naming o = flat_map (labelled_part naming) (beginnings o)
+abbrev pub labelled_parts : Contents → List ℕ → List ℕ
+labelled_parts tree o = flat_map (labelled_part tree) (beginnings o)
 
 -- each number but the last with its label, then the last
-abbrev pub parts_text : Naming → List ℕ → List ℕ
-parts_text naming [] = []
-parts_text naming (n ∷ more) =
+abbrev pub parts_text : Contents → List ℕ → List ℕ
+parts_text tree [] = []
+parts_text tree (n ∷ more) =
     let o = n ∷ more in
-    labelled_parts naming (take (length more) o) ++ decimal (last_number o) ++ codes " "
+    labelled_parts tree (take (length more) o) ++ decimal (last_number o) ++ codes " "
 
-abbrev pub identifier_text : Naming → List ℕ → List ℕ
-identifier_text naming o = codes "::= { " ++ parts_text naming o ++ codes "}\n"
+abbrev pub identifier_text : Contents → List ℕ → List ℕ
+identifier_text tree o = codes "::= { " ++ parts_text tree o ++ codes "}\n"

@@ -3,11 +3,12 @@
 -- a length before it.
 use Rattle.std.specs.Prelude.{◌≡◌, ◌≢◌, ℕ, Bool, true, false, nat_le, List, [], ◌∷◌, ◌++◌, length}
 use Rattle.std.specs.{Bool.OnTrue, List.list_all}
-use Rattle.smi_show.specs.declared.index.part.Extent.{Extent}
-use Rattle.smi_show.specs.declared.index.part.Extent.TheVariants.{Fixed, Counted, Implied}
-use Rattle.smi_show.specs.declared.index.part.IndexPart.{IndexPart}
-use Rattle.smi_show.specs.declared.index.part.IndexPart.TheVariants.{Number, Address, Text, Octets}
-use Rattle.smi_show.specs.declared.index.part.IndexPart.TheVariants.{Identifier, ImpliedIdentifier}
+use Rattle.smi_tree.specs.declared.columns.index_part.Extent.{Extent}
+use Rattle.smi_tree.specs.declared.columns.index_part.IndexPart.{IndexPart}
+use Rattle.smi_tree.specs.declared.columns.index_part.Extent.TheVariants.{Fixed, Counted, Implied}
+use Rattle.smi_tree.specs.declared.columns.index_part.IndexPart.TheVariants.{Number, Address, Text}
+use Rattle.smi_tree.specs.declared.columns.index_part.IndexPart.TheVariants.{Octets, Identifier}
+use Rattle.smi_tree.specs.declared.columns.index_part.IndexPart.TheVariants.{ImpliedIdentifier}
 
 -- a number that an octet has
 abbrev pub is_octet : ℕ → Bool

@@ -5,10 +5,10 @@ use Rattle.std.specs.Prelude.{nat_le, ◌⊎◌, List, [], ◌∷◌, ◌++◌, 
 use Rattle.std.specs.Prelude.{Some, None, if◌then◌else◌, IsTrue}
 use Rattle.std.specs.List.{flat_map, list_all}
 use Rattle.smi_show.specs.index.Index.{ReadValues, extent_of}
-use Rattle.smi_show.specs.declared.index.part.Extent.{Extent}
-use Rattle.smi_show.specs.declared.index.part.Extent.TheVariants.{Fixed, Counted, Implied}
-use Rattle.smi_show.specs.declared.index.part.IndexPart.{IndexPart}
-use Rattle.smi_show.specs.declared.index.part.IndexPart.TheVariants.{Text}
+use Rattle.smi_tree.specs.declared.columns.index_part.Extent.{Extent}
+use Rattle.smi_tree.specs.declared.columns.index_part.IndexPart.{IndexPart}
+use Rattle.smi_tree.specs.declared.columns.index_part.Extent.TheVariants.{Fixed, Counted, Implied}
+use Rattle.smi_tree.specs.declared.columns.index_part.IndexPart.TheVariants.{Text}
 
 pub data Piece : Type 0 where
   plain_number : ℕ → Piece

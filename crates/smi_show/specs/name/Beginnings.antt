@@ -6,9 +6,3 @@ use Rattle.std.specs.Prelude.{ℕ, List, [], ◌∷◌, map}
 abbrev pub beginnings : List ℕ → List (List ℕ)
 beginnings [] = []
 beginnings (n ∷ more) = (n ∷ []) ∷ map (λ front. n ∷ front) (beginnings more)
-
--- the last number of an identifier
-abbrev pub last_number : List ℕ → ℕ
-last_number [] = 0
-last_number (n ∷ []) = n
-last_number (n ∷ next ∷ more) = last_number (next ∷ more)

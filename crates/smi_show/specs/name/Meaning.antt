@@ -2,12 +2,13 @@
 -- something.
 use Rattle.std.specs.Prelude.{ℕ, ◌==◌, nat_le, if◌then◌else◌, List, [], ◌∷◌, ◌++◌, length, Option}
 use Rattle.std.specs.Prelude.{Some, None, Result, Ok, Err}
-use Rattle.smi_show.specs.{index.Pieces.piece_numbers, name.Naming.Naming, name.Cutting.name_parts}
+use Rattle.smi_show.specs.{index.Pieces.piece_numbers, name.Cutting.name_parts}
 use Rattle.smi_show.specs.{name.Cutting.module_after, declared.name.error.NameError.NameError}
 use Rattle.smi_show.specs.name.Meant.{Scope, among_roots, anywhere, found_in, in_module}
 use Rattle.smi_show.specs.name.Meant.{is_loaded_in}
 use Rattle.smi_show.specs.name.Word.{Word, a_piece, a_label, word_of}
 use Rattle.smi_show.specs.declared.name.error.NameError.TheVariants.{Unknown, TooLong}
+use Rattle.smi_tree.specs.{Naming.oid_of_child, Tree.Contents}
 
 abbrev pub and_then : {A B : Type 0} → Result A NameError → (A → Result B NameError)
     → Result B NameError
@@ -34,42 +35,43 @@ part_meaning look_up so_far part = and_then (word_of part) (word_meaning look_up
 
 -- what parts mean after the identifier so far: the label of the first is looked up by `look_up`,
 -- that of a later one among the children of what stands before it
-abbrev pub parts_meaning : Naming → (look_up : List ℕ → Option (List ℕ)) → List ℕ
+abbrev pub parts_meaning : Contents → (look_up : List ℕ → Option (List ℕ)) → List ℕ
     → List (List ℕ) → Result (List ℕ) NameError
-parts_meaning naming look_up so_far [] = Ok so_far
-parts_meaning naming look_up so_far (part ∷ parts) =
-    and_then (part_meaning look_up so_far part) (λ o. parts_meaning naming (naming.child o) o parts)
+parts_meaning tree look_up so_far [] = Ok so_far
+parts_meaning tree look_up so_far (part ∷ parts) =
+    and_then (part_meaning look_up so_far part)
+    (λ o. parts_meaning tree (oid_of_child tree o) o parts)
 
 -- what parts mean in a scope whose module, if it names one, is loaded
-abbrev pub meaning_in : Naming → Scope → List (List ℕ) → Result (List ℕ) NameError
-meaning_in naming scope parts = parts_meaning naming (found_in naming scope) [] parts
+abbrev pub meaning_in : Contents → Scope → List (List ℕ) → Result (List ℕ) NameError
+meaning_in tree scope parts = parts_meaning tree (found_in tree scope) [] parts
 
 -- Unknown where the module of the scope isn't loaded
-abbrev pub scope_meaning : Naming → Scope → (rest : List ℕ) → Result (List ℕ) NameError
-scope_meaning naming scope rest =
-    if is_loaded_in naming scope then meaning_in naming scope (name_parts rest) else Err Unknown
+abbrev pub scope_meaning : Contents → Scope → (rest : List ℕ) → Result (List ℕ) NameError
+scope_meaning tree scope rest =
+    if is_loaded_in tree scope then meaning_in tree scope (name_parts rest) else Err Unknown
 
 -- what a text without a module means: after a leading dot the first label is that of a root
-abbrev pub plain_meaning : Naming → List ℕ → Result (List ℕ) NameError
-plain_meaning naming [] = scope_meaning naming anywhere []
-plain_meaning naming (octet ∷ more) =
-    if octet == 46 then scope_meaning naming among_roots more
-    else scope_meaning naming anywhere (octet ∷ more)
+abbrev pub plain_meaning : Contents → List ℕ → Result (List ℕ) NameError
+plain_meaning tree [] = scope_meaning tree anywhere []
+plain_meaning tree (octet ∷ more) =
+    if octet == 46 then scope_meaning tree among_roots more
+    else scope_meaning tree anywhere (octet ∷ more)
 
-abbrev pub scoped_meaning : Naming → List ℕ → Option (List ℕ × List ℕ) → Result (List ℕ) NameError
-scoped_meaning naming text None = plain_meaning naming text
-scoped_meaning naming text (Some (home, rest)) = scope_meaning naming (in_module home) rest
+abbrev pub scoped_meaning : Contents → List ℕ → Option (List ℕ × List ℕ) → Result (List ℕ) NameError
+scoped_meaning tree text None = plain_meaning tree text
+scoped_meaning tree text (Some (home, rest)) = scope_meaning tree (in_module home) rest
 
 -- a dot alone is the empty identifier, and the empty text is not a name
-abbrev pub meaning : Naming → List ℕ → Result (List ℕ) NameError
-meaning naming [] = Err Unknown
-meaning naming (octet ∷ []) =
+abbrev pub meaning : Contents → List ℕ → Result (List ℕ) NameError
+meaning tree [] = Err Unknown
+meaning tree (octet ∷ []) =
     if octet == 46 then Ok []
-    else scoped_meaning naming (octet ∷ []) (module_after None (octet ∷ []))
-meaning naming (octet ∷ next ∷ more) =
-    scoped_meaning naming (octet ∷ next ∷ more) (module_after None (octet ∷ next ∷ more))
+    else scoped_meaning tree (octet ∷ []) (module_after None (octet ∷ []))
+meaning tree (octet ∷ next ∷ more) =
+    scoped_meaning tree (octet ∷ next ∷ more) (module_after None (octet ∷ next ∷ more))
 
 -- ---- for private functions
 
-abbrev pub further_meaning : Naming → List ℕ → List (List ℕ) → Result (List ℕ) NameError
-further_meaning naming so_far parts = parts_meaning naming (naming.child so_far) so_far parts
+abbrev pub further_meaning : Contents → List ℕ → List (List ℕ) → Result (List ℕ) NameError
+further_meaning tree so_far parts = parts_meaning tree (oid_of_child tree so_far) so_far parts

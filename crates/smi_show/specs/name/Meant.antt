@@ -8,9 +8,11 @@ use Rattle.snmp_io.specs.Quotes.{IsFrontOf}
 use Rattle.smi_show.specs.index.Pieces.{IsPiece, Piece, counted_text, piece_numbers, plain_number}
 use Rattle.smi_show.specs.index.Pieces.{plain_text, shown_piece}
 use Rattle.smi_show.specs.name.Cut.{AreParts, HasNoModule, IsModuleCut}
-use Rattle.smi_show.specs.{name.Naming.Naming, declared.name.error.NameError.NameError}
+use Rattle.smi_show.specs.{declared.name.error.NameError.NameError}
 use Rattle.smi_show.specs.declared.name.error.NameError.TheVariants.{BadIndex, BadNumber, TooLong}
 use Rattle.smi_show.specs.declared.name.error.NameError.TheVariants.{Unknown}
+use Rattle.smi_tree.specs.Naming.{is_module_loaded, oid_anywhere, oid_in_module, oid_of_child}
+use Rattle.smi_tree.specs.{Naming.oid_of_root, Tree.Contents}
 
 -- ---- a part on its own
 
@@ -64,12 +66,12 @@ PartMeans look_up so_far part result =
 -- What parts mean after the identifier so far, from the left: the first that has a fault decides.
 -- The label of the first is looked up in this way, and that of a later one among the children of
 -- what stands before it.
-abbrev pub PartsMean : Naming → (look_up : List ℕ → Option (List ℕ)) → (so_far : List ℕ)
+abbrev pub PartsMean : Contents → (look_up : List ℕ → Option (List ℕ)) → (so_far : List ℕ)
     → (parts : List (List ℕ)) → Result (List ℕ) NameError → Type 0
-PartsMean naming look_up so_far [] result = result ≡ Ok so_far
-PartsMean naming look_up so_far (part ∷ more) result =
+PartsMean tree look_up so_far [] result = result ≡ Ok so_far
+PartsMean tree look_up so_far (part ∷ more) result =
     ((next : List ℕ) × PartMeans look_up so_far part (Ok next)
-    × PartsMean naming (naming.child next) next more result)
+    × PartsMean tree (oid_of_child tree next) next more result)
     ⊎ ((why : NameError) × PartMeans look_up so_far part (Err why) × (result ≡ Err why))
 
 -- ---- a text
@@ -80,10 +82,10 @@ pub data Scope : Type 0 where
   anywhere : Scope
   among_roots : Scope
 
-abbrev pub found_in : Naming → Scope → List ℕ → Option (List ℕ)
-found_in naming (in_module home) label = naming.in_module home label
-found_in naming anywhere label = naming.anywhere label
-found_in naming among_roots label = naming.among_roots label
+abbrev pub found_in : Contents → Scope → List ℕ → Option (List ℕ)
+found_in tree (in_module home) label = oid_in_module tree home label
+found_in tree anywhere label = oid_anywhere tree label
+found_in tree among_roots label = oid_of_root label
 
 -- The parts of the text stand in `rest`, and the label of the first is looked up in this scope: in
 -- the module before `::`, after a leading dot among the roots, and anywhere otherwise.
@@ -94,31 +96,31 @@ IsScoped text anywhere rest =
     HasNoModule text × (rest ≡ text) × ((more : List ℕ) → text ≢ 46 ∷ more)
 
 -- whether the module that the scope names is loaded, if it names one
-abbrev pub is_loaded_in : Naming → Scope → Bool
-is_loaded_in naming (in_module home) = naming.is_loaded home
-is_loaded_in naming _ = true
+abbrev pub is_loaded_in : Contents → Scope → Bool
+is_loaded_in tree (in_module home) = is_module_loaded tree home
+is_loaded_in tree _ = true
 
 -- parts in a scope: the fault of a module that isn't loaded comes first
-abbrev pub ScopeMeans : Naming → Scope → (rest : List ℕ) → Result (List ℕ) NameError → Type 0
-ScopeMeans naming scope rest result =
-    ((is_loaded_in naming scope ≡ false) × (result ≡ Err Unknown))
-    ⊎ ((is_loaded_in naming scope ≡ true) × ((parts : List (List ℕ)) × AreParts rest parts
-    × PartsMean naming (found_in naming scope) [] parts result))
+abbrev pub ScopeMeans : Contents → Scope → (rest : List ℕ) → Result (List ℕ) NameError → Type 0
+ScopeMeans tree scope rest result =
+    ((is_loaded_in tree scope ≡ false) × (result ≡ Err Unknown))
+    ⊎ ((is_loaded_in tree scope ≡ true) × ((parts : List (List ℕ)) × AreParts rest parts
+    × PartsMean tree (found_in tree scope) [] parts result))
 
 -- The empty text is unknown, a dot alone is the empty identifier, and any other text is its parts
 -- in a scope.
-abbrev pub TextMeans : Naming → (text : List ℕ) → Result (List ℕ) NameError → Type 0
-TextMeans naming text result =
+abbrev pub TextMeans : Contents → (text : List ℕ) → Result (List ℕ) NameError → Type 0
+TextMeans tree text result =
     ((text ≡ []) × (result ≡ Err Unknown))
     ⊎ (((text ≡ 46 ∷ []) × (result ≡ Ok []))
     ⊎ ((text ≢ []) × (text ≢ 46 ∷ []) × ((scope : Scope) × (rest : List ℕ)
-    × IsScoped text scope rest × ScopeMeans naming scope rest result)))
+    × IsScoped text scope rest × ScopeMeans tree scope rest result)))
 
 -- what the front of a text means, and its length: the front is what stands before the first `stop`
 -- outside quotes
-abbrev pub FrontMeans : Naming → (stop : ℕ) → (text : List ℕ) → Result (List ℕ × ℕ) NameError
+abbrev pub FrontMeans : Contents → (stop : ℕ) → (text : List ℕ) → Result (List ℕ × ℕ) NameError
     → Type 0
-FrontMeans naming stop text (Ok (o, size)) = (front : List ℕ) × IsFrontOf stop text front
-    × TextMeans naming front (Ok o) × (size ≡ length front)
-FrontMeans naming stop text (Err why) = (front : List ℕ) × IsFrontOf stop text front
-    × TextMeans naming front (Err why)
+FrontMeans tree stop text (Ok (o, size)) = (front : List ℕ) × IsFrontOf stop text front
+    × TextMeans tree front (Ok o) × (size ≡ length front)
+FrontMeans tree stop text (Err why) = (front : List ℕ) × IsFrontOf stop text front
+    × TextMeans tree front (Err why)

@@ -4,11 +4,12 @@ use Rattle.std.specs.Prelude.{drop, codes, decimal, Option, Some, None}
 use Rattle.std.specs.List.{flat_map}
 use Rattle.snmp_oid.specs.Numeric.{numeric_text}
 use Rattle.smi_show.specs.index.Pieces.{AreInstancePieces, Piece, shown_pieces}
-use Rattle.smi_show.specs.name.Beginnings.{beginnings, last_number}
-use Rattle.smi_show.specs.name.Naming.{Naming, Standing}
-use Rattle.smi_value.specs.declared.letters.letters.NameForm.{NameForm}
-use Rattle.smi_value.specs.declared.letters.letters.NameForm.TheVariants.{Numeric, Full, Label}
-use Rattle.smi_value.specs.declared.letters.letters.NameForm.TheVariants.{ModuleLabel}
+use Rattle.smi_show.specs.name.Beginnings.{beginnings}
+use Rattle.smi_tree.specs.{Nodes.last_number, Tree.Contents}
+use Rattle.smi_tree.specs.Naming.{Standing, nearest_node}
+use Rattle.smi_value.specs.declared.letters.NameForm.{NameForm}
+use Rattle.smi_value.specs.declared.letters.NameForm.TheVariants.{Numeric, Full, Label}
+use Rattle.smi_value.specs.declared.letters.NameForm.TheVariants.{ModuleLabel}
 
 -- the label with its module, a root's alone
 abbrev pub qualified : Option (List ℕ) → List ℕ → List ℕ
@@ -22,20 +23,20 @@ arc_text None o n = decimal n
 arc_text (Some node) o n = if node.depth == length o then node.label else decimal n
 
 -- the name of the last number, after a dot
-abbrev pub arc_after_dot : Naming → List ℕ → List ℕ
-arc_after_dot naming here =
-    codes "." ++ arc_text (naming.deepest here) here (last_number here)
+abbrev pub arc_after_dot : Contents → List ℕ → List ℕ
+arc_after_dot tree here =
+    codes "." ++ arc_text (nearest_node tree here) here (last_number here)
 
 -- the names of all numbers, each after a dot: one for each beginning
-abbrev pub path_text : Naming → List ℕ → List ℕ
-path_text naming o = flat_map (arc_after_dot naming) (beginnings o)
+abbrev pub path_text : Contents → List ℕ → List ℕ
+path_text tree o = flat_map (arc_after_dot tree) (beginnings o)
 
 -- the deepest node in this form
-abbrev pub node_text : Naming → NameForm → List ℕ → Standing → List ℕ
-node_text naming Numeric o node = []
-node_text naming Full o node = path_text naming (take node.depth o)
-node_text naming Label o node = node.label
-node_text naming ModuleLabel o node = qualified node.home node.label
+abbrev pub node_text : Contents → NameForm → List ℕ → Standing → List ℕ
+node_text tree Numeric o node = []
+node_text tree Full o node = path_text tree (take node.depth o)
+node_text tree Label o node = node.label
+node_text tree ModuleLabel o node = qualified node.home node.label
 
 -- the numbers after the node, by its index unless that is to be shown as numbers
 abbrev pub IsInstanceText : Bool → List ℕ → Standing → (text : List ℕ) → Type 0
@@ -44,18 +45,18 @@ IsInstanceText numeric_index o node text =
     (drop node.depth o) pieces × (text ≡ shown_pieces pieces)
 
 -- by the deepest node and what follows it, or in numbers if there is no node
-abbrev pub IsStandingText : Naming → NameForm → Bool → List ℕ → Option Standing
+abbrev pub IsStandingText : Contents → NameForm → Bool → List ℕ → Option Standing
     → (text : List ℕ) → Type 0
-IsStandingText naming form numeric_index o None text = text ≡ numeric_text o
-IsStandingText naming form numeric_index o (Some node) text =
+IsStandingText tree form numeric_index o None text = text ≡ numeric_text o
+IsStandingText tree form numeric_index o (Some node) text =
     (instance : List ℕ) × IsInstanceText numeric_index o node instance
-    × (text ≡ node_text naming form o node ++ instance)
+    × (text ≡ node_text tree form o node ++ instance)
 
 -- the text is the name of an identifier: in numbers, or by its deepest node
-abbrev pub IsName : Naming → NameForm → Bool → List ℕ → (text : List ℕ) → Type 0
-IsName naming Numeric numeric_index o text = text ≡ numeric_text o
-IsName naming form numeric_index o text =
-    IsStandingText naming form numeric_index o (naming.deepest o) text
+abbrev pub IsName : Contents → NameForm → Bool → List ℕ → (text : List ℕ) → Type 0
+IsName tree Numeric numeric_index o text = text ≡ numeric_text o
+IsName tree form numeric_index o text =
+    IsStandingText tree form numeric_index o (nearest_node tree o) text
 
 -- the forms whose texts are read back
 abbrev pub ReadsBack : NameForm → Type 0

@@ -1,6 +1,6 @@
 //! The clauses of a definition, one per line.
 ghost use Rattle.std.specs.Prelude.{◌≡◌, [], ◌++◌, codes};
-ghost use Rattle.snmp_io.specs.draft.Draft.{Adds};
+ghost use Rattle.snmp_io.specs.Draft.{Adds};
 ghost use Rattle.smi_show.specs.details.Definition.{clause_text, definition_text, object_type_text};
 ghost use Rattle.smi_show.specs.details.Definition.{status_text, units_clause};
 ghost use Rattle.smi_show.specs.details.Syntax.{syntax_text};

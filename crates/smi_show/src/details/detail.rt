@@ -1,41 +1,36 @@
 //! The details of an identifier.
 ghost use Rattle.std.specs.Prelude.{◌≡◌, ◌++◌, [], Some, None, codes};
 ghost use Rattle.std.specs.Option.{option_copied};
-ghost use Rattle.snmp_io.specs.draft.Draft.{Adds};
-ghost use Rattle.smi_show.specs.name.Standing.{standing_of};
+ghost use Rattle.snmp_io.specs.Draft.{Adds};
+ghost use Rattle.smi_tree.specs.Naming.{standing_of};
 ghost use Rattle.smi_show.specs.details.Detail.{detail_text, node_detail, from_text, kind_text};
 ghost use Rattle.smi_show.specs.details.Detail.{clauses_text};
 
+use crate::details::definition_text;
 use crate::details::value::identifier_text;
-use crate::details::{DetailTree, definition_text};
-use crate::name::{NameForm, Node, name_text};
+use crate::name::name_text;
 use smi_text::Def;
+use smi_tree::{NearestNode, Tree};
+use smi_value::NameForm;
 use snmp_io::Draft;
 use snmp_oid::Oid;
 
 /// Appends the details of an identifier: its name, the kind, module and clauses of its deepest
 /// node, and the identifier as a value.
-pub fn detail_text<T: DetailTree>(
-    tree: &T,
-    form: NameForm,
-    numeric_index: bool,
-    oid: &Oid,
-    draft: &mut Draft,
-)
-    ensures { let definition = T.definition_at tree.now oid.now in
-        let text = detail_text (T.naming tree.now) definition form numeric_index oid.now in
+pub fn detail_text(tree: &Tree, form: NameForm, numeric_index: bool, oid: &Oid, draft: &mut Draft)
+    ensures { let text = detail_text tree.now form numeric_index oid.now in
         Adds draft.old text draft.new }
 {
     name_text(tree, form, numeric_index, oid, draft);
     draft.octets(b"\n");
-    if let Some(node) = tree.deepest(oid) {
-        node_text(node, tree.definition(oid), draft);
+    if let Some(node) = tree.nearest(oid) {
+        node_text(node, tree.nearest_definition(oid), draft);
     }
     identifier_text(tree, oid, draft);
 }
 
 /// The lines of a node and its definition.
-fn node_text(node: Node<'_>, definition: Option<&Def>, draft: &mut Draft)
+fn node_text(node: NearestNode<'_>, definition: Option<&Def>, draft: &mut Draft)
     ensures { let standing = Some (standing_of node.entry) in
         Adds draft.old (node_detail standing (option_copied definition.entry)) draft.new }
 {

@@ -1,7 +1,7 @@
 //! A type as text: its tokens, joined by one blank.
 ghost use Rattle.std.specs.Prelude.{◌≡◌, [], ◌∷◌, ◌++◌, codes, take, List};
 ghost use Rattle.std.specs.List.{flat_map};
-ghost use Rattle.snmp_io.specs.draft.Draft.{Adds};
+ghost use Rattle.snmp_io.specs.Draft.{Adds};
 ghost use Rattle.smi_show.specs.details.Syntax.{base_text, more_numbers, more_ranges};
 ghost use Rattle.smi_show.specs.details.Syntax.{named_number_text, numbers_text, range_text};
 ghost use Rattle.smi_show.specs.details.Syntax.{ranges_text, refinement_text, syntax_text};

@@ -6,33 +6,7 @@ ghost use Rattle.smi_show.specs.index.Index.{ReadsValue, is_octet};
 ghost use Rattle.smi_show.specs.private.index.Reading.{front_and_rest, counted, remaining};
 ghost use Rattle.smi_show.specs.private.index.Reading.{of_octets, in_extent, front_of};
 
-/// What decides how many numbers a string of an index has (RFC 2578, section 7.7).
-#[derive(Clone, Copy, Debug, PartialEq, Eq)]
-pub enum Extent {
-    /// The number that its SIZE fixes.
-    Fixed(u64),
-    /// The number that stands before it as its length.
-    Counted,
-    /// All that remain, at least one: the index says IMPLIED.
-    Implied,
-}
-
-/// A part of an index, by the base of the object's type (RFC 2578, section 7.7).
-#[derive(Clone, Copy, Debug, PartialEq, Eq)]
-pub enum IndexPart {
-    /// INTEGER, Counter32, Gauge32, Unsigned32 or TimeTicks: one number.
-    Number,
-    /// IpAddress: four numbers up to 255.
-    Address,
-    /// OCTET STRING: numbers up to 255.
-    Text(Extent),
-    /// BITS or Opaque: numbers up to 255.
-    Octets(Extent),
-    /// OBJECT IDENTIFIER: a length, and then this many numbers.
-    Identifier,
-    /// OBJECT IDENTIFIER after IMPLIED: all numbers that remain, at least one.
-    ImpliedIdentifier,
-}
+use smi_tree::{Extent, IndexPart};
 
 /// The value of a part at the front of the numbers, without its length, and the numbers after it;
 /// None if no encoding of a value stands there (RFC 2578, section 7.7).

@@ -5,15 +5,16 @@ ghost use Rattle.std.specs.Prelude.{codes, decimal, IsTrue, Option, Some, None, 
 ghost use Rattle.std.specs.Prelude.{◌+◌, ◌*◌};
 ghost use Rattle.std.specs.{Bool.OnTrue, Bool.OnFalse, Option.is_some};
 ghost use Rattle.std.specs.List.{flat_map, list_all};
-ghost use Rattle.snmp_io.specs.draft.Draft.{Adds};
-ghost use Rattle.smi_show.specs.declared.index.part.IndexPart.{IndexPart};
+ghost use Rattle.snmp_io.specs.Draft.{Adds};
+ghost use Rattle.smi_tree.specs.declared.columns.index_part.IndexPart.{IndexPart};
 ghost use Rattle.smi_show.specs.private.index.Reading.{has_text, instance_pieces, values_of};
 ghost use Rattle.smi_show.specs.index.Pieces.{IsPiece, as_numbers, as_text, index_pieces, is_plain};
 ghost use Rattle.smi_show.specs.index.Pieces.{is_quotable, is_shown_text, is_text, piece_numbers};
 ghost use Rattle.smi_show.specs.index.Pieces.{shown_pieces, value_pieces};
 ghost use Rattle.smi_show.specs.private.index.Digits.{three_digits};
 
-use crate::index::{Extent, IndexPart, read_part, reads};
+use crate::index::{read_part, reads};
+use smi_tree::{Extent, IndexPart};
 use snmp_io::Draft;
 
 /// How many octets are gathered before they are appended: those of eleven numbers at least.

@@ -3,7 +3,7 @@ ghost use Rattle.std.specs.Prelude.{◌≡◌, ◌<◌, ℕ, Bool, List, [], Ok,
 ghost use Rattle.std.specs.Prelude.{MatchResult, OnOk, length, option_map, true};
 ghost use Rattle.std.specs.Option.{option_copied};
 ghost use Rattle.snmp_oid.specs.{Identifier.IsIdentifier, Numeric.IsNumericName};
-ghost use Rattle.smi_value.specs.declared.letters.letters.NameForm.{NameForm};
+ghost use Rattle.smi_value.specs.declared.letters.NameForm.{NameForm};
 ghost use Rattle.smi_show.specs.name.Cutting.{name_parts, module_after};
 ghost use Rattle.smi_show.specs.private.name.Left.{parts_left};
 ghost use Rattle.smi_show.specs.name.Meaning.{further_meaning, meaning, meaning_in, or_unknown};
@@ -11,13 +11,13 @@ ghost use Rattle.smi_show.specs.name.Meaning.{part_meaning, plain_meaning, scope
 ghost use Rattle.smi_show.specs.name.Meant.{FrontMeans, TextMeans, found_in};
 ghost use Rattle.smi_show.specs.{name.Name.IsName, name.Name.ReadsBack, private.name.Part.scope_in};
 ghost use Rattle.smi_show.specs.private.name.Reading.{meant_with, read_to};
+ghost use Rattle.smi_tree.specs.Naming.{oid_of_child};
 
+use crate::name::NameError;
 use crate::name::cut::{cut_module, cut_part};
-use crate::name::part::read_part;
+use crate::name::part::{Part, read_part};
 use crate::name::piece::{push_number, push_piece};
-use crate::name::scope::Scope;
-use crate::name::word::Part;
-use crate::name::{NameError, NameTree};
+use smi_tree::Tree;
 use snmp_io::unquoted_front;
 use snmp_oid::{Oid, front_number, names, read_numeric};
 
@@ -28,27 +28,23 @@ use snmp_oid::{Oid, front_number, names, read_numeric};
 /// is found in the module named, anywhere, or after a leading dot among the roots, and one as a
 /// later part is that of a child. What [`crate::name::name_text`] shows by module and label, or in
 /// numbers, is read back.
-pub fn resolve<T: NameTree>(tree: &T, text: &[u8]) -> Result<Oid, NameError>
-    ensures stated { TextMeans (T.naming tree.now) text.now result }
+pub fn resolve(tree: &Tree, text: &[u8]) -> Result<Oid, NameError>
+    ensures stated { TextMeans tree.now text.now result }
     // What is shown by module and label, or in numbers, means the identifier that it is shown for.
     ensures reads_back { (form : NameForm) (numeric_index : Bool) (o : List ℕ)
         → ReadsBack form → IsIdentifier o
-        → IsName (T.naming tree.now) form numeric_index o text.now → result ≡ Ok o }
+        → IsName tree.now form numeric_index o text.now → result ≡ Ok o }
 {
-    tree.sound();
+    tree.is_sound();
     names();
     meaning_of(tree, text)
 }
 
 /// The identifier that the front of a text means, and the front's length, or the first fault, as
-/// [`crate::name::resolve`] returns them. The front is what stands before the first `stop` outside
+/// [`resolve`] returns them. The front is what stands before the first `stop` outside
 /// quotes, or the whole text if there is none. Does not allocate.
-pub fn resolve_front<T: NameTree>(
-    tree: &T,
-    text: &[u8],
-    stop: u8,
-) -> Result<(Oid, usize), NameError>
-    ensures { FrontMeans (T.naming tree.now) stop text.now result }
+pub fn resolve_front(tree: &Tree, text: &[u8], stop: u8) -> Result<(Oid, usize), NameError>
+    ensures { FrontMeans tree.now stop text.now result }
 {
     let mut oid = Oid::new();
     match resolve_front_into(tree, text, stop, &mut oid) {
@@ -59,24 +55,24 @@ pub fn resolve_front<T: NameTree>(
 
 /// Reads the identifier that a name means into `oid`, as [`resolve`] returns it: to move an
 /// identifier takes as long as to read one. After a fault `oid` may have any numbers.
-pub fn resolve_into<T: NameTree>(tree: &T, text: &[u8], oid: &mut Oid) -> Result<(), NameError>
-    ensures found { OnOk result (TextMeans (T.naming tree.now) text.now (Ok oid.new)) }
-    ensures fault { IfErr result (λ why. TextMeans (T.naming tree.now) text.now (Err why)) }
+pub fn resolve_into(tree: &Tree, text: &[u8], oid: &mut Oid) -> Result<(), NameError>
+    ensures found { OnOk result (TextMeans tree.now text.now (Ok oid.new)) }
+    ensures fault { IfErr result (λ why. TextMeans tree.now text.now (Err why)) }
 {
     read_meaning(tree, text, oid)
 }
 
 /// Reads the identifier that the front of a text means into `oid`, and returns the front's length,
 /// as [`resolve_front`] does. After a fault `oid` may have any numbers.
-pub fn resolve_front_into<T: NameTree>(
-    tree: &T,
+pub fn resolve_front_into(
+    tree: &Tree,
     text: &[u8],
     stop: u8,
     oid: &mut Oid,
 ) -> Result<usize, NameError>
     ensures { MatchResult result
-        (λ size. FrontMeans (T.naming tree.now) stop text.now (Ok (oid.new, size)))
-        (λ why. FrontMeans (T.naming tree.now) stop text.now (Err why)) }
+        (λ size. FrontMeans tree.now stop text.now (Ok (oid.new, size)))
+        (λ why. FrontMeans tree.now stop text.now (Err why)) }
 {
     let front = unquoted_front(text, stop);
     match resolve_into(tree, front, oid) {
@@ -86,8 +82,8 @@ pub fn resolve_front_into<T: NameTree>(
 }
 
 /// What `resolve` returns.
-fn meaning_of<T: NameTree>(tree: &T, text: &[u8]) -> Result<Oid, NameError>
-    ensures { result ≡ meaning (T.naming tree.now) text.now }
+fn meaning_of(tree: &Tree, text: &[u8]) -> Result<Oid, NameError>
+    ensures { result ≡ meaning tree.now text.now }
 {
     let mut oid = Oid::new();
     match read_meaning(tree, text, &mut oid) {
@@ -97,8 +93,8 @@ fn meaning_of<T: NameTree>(tree: &T, text: &[u8]) -> Result<Oid, NameError>
 }
 
 /// Reads what a text means into `oid`.
-fn read_meaning<T: NameTree>(tree: &T, text: &[u8], oid: &mut Oid) -> Result<(), NameError>
-    ensures { read_to result oid.new ≡ meaning (T.naming tree.now) text.now }
+fn read_meaning(tree: &Tree, text: &[u8], oid: &mut Oid) -> Result<(), NameError>
+    ensures { read_to result oid.new ≡ meaning tree.now text.now }
 {
     if numbers_alone(text, oid) {
         return Ok(());
@@ -117,8 +113,8 @@ fn numbers_alone(text: &[u8], oid: &mut Oid) -> bool
 }
 
 /// Reads what any text means.
-fn named_meaning<T: NameTree>(tree: &T, text: &[u8], oid: &mut Oid) -> Result<(), NameError>
-    ensures { read_to result oid.new ≡ meaning (T.naming tree.now) text.now }
+fn named_meaning(tree: &Tree, text: &[u8], oid: &mut Oid) -> Result<(), NameError>
+    ensures { read_to result oid.new ≡ meaning tree.now text.now }
 {
     match text {
         [] => Err(NameError::Unknown),
@@ -131,13 +127,13 @@ fn named_meaning<T: NameTree>(tree: &T, text: &[u8], oid: &mut Oid) -> Result<()
 }
 
 /// Reads what a text of at least one part means, with or without a module before it.
-fn scoped_meaning<T: NameTree>(tree: &T, text: &[u8], oid: &mut Oid) -> Result<(), NameError>
+fn scoped_meaning(tree: &Tree, text: &[u8], oid: &mut Oid) -> Result<(), NameError>
     ensures { read_to result oid.new
-        ≡ scoped_meaning (T.naming tree.now) text.now (module_after None text.now) }
+        ≡ scoped_meaning tree.now text.now (module_after None text.now) }
 {
     match cut_module(text) {
         Some((home, rest)) => {
-            if tree.is_loaded(home) {
+            if tree.has_module(home) {
                 parts_meaning(tree, Scope::Module(home), rest, oid)
             } else {
                 Err(NameError::Unknown)
@@ -148,38 +144,40 @@ fn scoped_meaning<T: NameTree>(tree: &T, text: &[u8], oid: &mut Oid) -> Result<(
 }
 
 /// Reads what a text without a module means.
-fn plain_meaning<T: NameTree>(tree: &T, text: &[u8], oid: &mut Oid) -> Result<(), NameError>
-    ensures { read_to result oid.new ≡ plain_meaning (T.naming tree.now) text.now }
+fn plain_meaning(tree: &Tree, text: &[u8], oid: &mut Oid) -> Result<(), NameError>
+    ensures { read_to result oid.new ≡ plain_meaning tree.now text.now }
 {
     match text {
-        [b'.', rest @ ..] => parts_meaning(tree, Scope::Roots, rest, oid),
+        [b'.', rest @ ..] => parts_meaning(tree, Scope::Root, rest, oid),
         _ => parts_meaning(tree, Scope::Anywhere, text, oid),
     }
 }
 
+/// Where the label of a name's first part is looked up.
+#[derive(Clone, Copy)]
+enum Scope<'a> {
+    /// In the module before `::`.
+    Module(&'a [u8]),
+    /// Anywhere, the roots before all others.
+    Anywhere,
+    /// Among the roots, after a leading dot.
+    Root,
+}
+
 /// Reads what parts mean, with the label of the first looked up in this scope.
-fn parts_meaning<T: NameTree>(
-    tree: &T,
-    scope: Scope<'_>,
-    text: &[u8],
-    oid: &mut Oid,
-) -> Result<(), NameError>
+fn parts_meaning(tree: &Tree, scope: Scope<'_>, text: &[u8], oid: &mut Oid) -> Result<(), NameError>
     ensures { let parts = name_parts text.now in
         read_to result oid.new
-        ≡ meaning_in (T.naming tree.now) (scope_in scope.entry) parts }
+        ≡ meaning_in tree.now (scope_in scope.entry) parts }
 {
     let left = first_meaning(tree, scope, text, oid)?;
     further_meaning(tree, left, oid)
 }
 
 /// Reads what further parts mean after the identifier so far.
-fn further_meaning<T: NameTree>(
-    tree: &T,
-    parts: Option<&[u8]>,
-    oid: &mut Oid,
-) -> Result<(), NameError>
+fn further_meaning(tree: &Tree, parts: Option<&[u8]>, oid: &mut Oid) -> Result<(), NameError>
     ensures { let left = parts_left (option_map (λ rest. rest.now) parts.entry) in
-        read_to result oid.new ≡ further_meaning (T.naming tree.now) oid.old left }
+        read_to result oid.new ≡ further_meaning tree.now oid.old left }
 {
     let mut left = parts;
     'parts: while let Some(here) = left {
@@ -189,15 +187,15 @@ fn further_meaning<T: NameTree>(
 }
 
 /// Reads what the first part of a name means, and returns what follows the dot that ends it.
-fn first_meaning<'b, T: NameTree>(
-    tree: &T,
+fn first_meaning<'b>(
+    tree: &Tree,
     scope: Scope<'_>,
     text: &'b [u8],
     oid: &mut Oid,
 ) -> Result<Option<&'b [u8]>, NameError>
     ensures { let parts = name_parts text.now in
-        meant_with (T.naming tree.now) result oid.new
-        ≡ meaning_in (T.naming tree.now) (scope_in scope.entry) parts }
+        meant_with tree.now result oid.new
+        ≡ meaning_in tree.now (scope_in scope.entry) parts }
 {
     let (part, rest) = cut_part(text);
     head_meaning(tree, scope, part, oid)?;
@@ -205,14 +203,14 @@ fn first_meaning<'b, T: NameTree>(
 }
 
 /// Reads what the first of further parts means, and returns what follows the dot that ends it.
-fn next_meaning<'b, T: NameTree>(
-    tree: &T,
+fn next_meaning<'b>(
+    tree: &Tree,
     text: &'b [u8],
     oid: &mut Oid,
 ) -> Result<Option<&'b [u8]>, NameError>
     ensures meant { let parts = name_parts text.now in
-        meant_with (T.naming tree.now) result oid.new
-        ≡ further_meaning (T.naming tree.now) oid.old parts }
+        meant_with tree.now result oid.new
+        ≡ further_meaning tree.now oid.old parts }
     ensures shorter { IfOk result (λ left.
         IfSome left (λ rest. length rest.now < length text.now)) }
 {
@@ -229,13 +227,8 @@ fn next_meaning<'b, T: NameTree>(
 }
 
 /// Reads what the first part means.
-fn head_meaning<T: NameTree>(
-    tree: &T,
-    scope: Scope<'_>,
-    part: &[u8],
-    oid: &mut Oid,
-) -> Result<(), NameError>
-    ensures { let look_up = found_in (T.naming tree.now) (scope_in scope.entry) in
+fn head_meaning(tree: &Tree, scope: Scope<'_>, part: &[u8], oid: &mut Oid) -> Result<(), NameError>
+    ensures { let look_up = found_in tree.now (scope_in scope.entry) in
         read_to result oid.new ≡ part_meaning look_up [] part.now }
 {
     match read_part(part)? {
@@ -248,25 +241,25 @@ fn head_meaning<T: NameTree>(
 }
 
 /// The identifier of the node of a label in a scope.
-fn labelled<'t, T: NameTree>(tree: &'t T, scope: Scope<'_>, label: &[u8]) -> Option<&'t Oid>
+fn labelled<'t>(tree: &'t Tree, scope: Scope<'_>, label: &[u8]) -> Option<&'t Oid>
     ensures { option_copied result
-        ≡ found_in (T.naming tree.now) (scope_in scope.entry) label.now }
+        ≡ found_in tree.now (scope_in scope.entry) label.now }
 {
     match scope {
         Scope::Module(home) => tree.in_module(home, label),
         Scope::Anywhere => tree.anywhere(label),
-        Scope::Roots => tree.among_roots(label),
+        Scope::Root => tree.among_roots(label),
     }
 }
 
 /// Reads what a further part means after the identifier so far.
-fn part_meaning<T: NameTree>(tree: &T, part: &[u8], oid: &mut Oid) -> Result<(), NameError>
-    ensures { let look_up = (T.naming tree.now).child oid.old in
+fn part_meaning(tree: &Tree, part: &[u8], oid: &mut Oid) -> Result<(), NameError>
+    ensures { let look_up = oid_of_child tree.now oid.old in
         read_to result oid.new ≡ part_meaning look_up oid.old part.now }
 {
     match read_part(part)? {
         Part::Piece(piece) => push_piece(oid, piece),
-        Part::Label(label) => known(tree.child(oid, label), oid),
+        Part::Label(label) => known(tree.child_oid(oid, label), oid),
     }
 }
 

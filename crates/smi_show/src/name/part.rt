@@ -1,4 +1,4 @@
-//! Reads a part of a name on its own.
+//! A part of a name, read on its own.
 ghost use Rattle.std.specs.Prelude.{◌≡◌, ◌≢◌, ℕ, [], option_map};
 ghost use Rattle.std.specs.{Option.option_copied, List.list_all};
 ghost use Rattle.smi_show.specs.{index.Pieces.is_quotable, private.name.Part.outcome_in};
@@ -6,8 +6,27 @@ ghost use Rattle.smi_show.specs.name.Word.{numeral_of, quoted_in, word_of};
 
 use crate::index::is_quotable;
 use crate::name::NameError;
-use crate::name::word::{Part, Piece};
 use snmp_oid::parse_number;
+
+/// What a part of a name means on its own, without a tree.
+#[derive(Clone, Copy)]
+pub enum Part<'a> {
+    /// Numbers.
+    Piece(Piece<'a>),
+    /// A label.
+    Label(&'a [u8]),
+}
+
+/// A part that stands for numbers.
+#[derive(Clone, Copy)]
+pub enum Piece<'a> {
+    /// A number.
+    Number(u32),
+    /// A text in double quotes: its length and its octets.
+    Counted(&'a [u8]),
+    /// A text in single quotes: its octets alone.
+    Plain(&'a [u8]),
+}
 
 /// What a part says: a number, a text in quotes, or a label; or its own fault.
 pub fn read_part(part: &[u8]) -> Result<Part<'_>, NameError>

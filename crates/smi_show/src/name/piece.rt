@@ -4,7 +4,7 @@ ghost use Rattle.smi_show.specs.{index.Pieces.piece_numbers, name.Meaning.fittin
 ghost use Rattle.smi_show.specs.{private.name.Part.piece_in, private.name.Reading.read_to};
 
 use crate::name::NameError;
-use crate::name::word::Piece;
+use crate::name::part::Piece;
 use snmp_oid::{MAX_LEN, Oid};
 
 /// Appends the numbers of a part to an identifier, or returns `TooLong`. After that it may have any

@@ -2,8 +2,8 @@
 use Rattle.std.specs.Prelude.{ℕ, ◌+◌, ◌<◌, ◌≤◌, List, [], ◌∷◌, ◌++◌, length, take, drop, Ok, Err}
 use Rattle.std.specs.Prelude.{count_by, slice_range, ◌≡◌, if◌then◌else◌}
 use Rattle.smi_text.specs.declared.lexer.token.TokenKind.{TokenKind}
-use Rattle.smi_text.specs.declared.lexer.error.LexError.{LexError}
-use Rattle.smi_text.specs.declared.lexer.error.LexError.TheVariants.{BadByte, OpenString}
+use Rattle.smi_text.specs.declared.lexer.token.LexError.{LexError}
+use Rattle.smi_text.specs.declared.lexer.token.LexError.TheVariants.{BadByte, OpenString}
 use Rattle.smi_text.specs.lexer.Token.{Lexeme, Item}
 use Rattle.smi_text.specs.lexer.Lexeme.{Part, gap, lexeme, IsPart, is_newline, is_open_string}
 

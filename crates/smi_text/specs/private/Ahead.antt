@@ -2,7 +2,7 @@
 -- will still return.
 use Rattle.std.specs.Prelude.{List, [], ◌∷◌, Option, Some, None, Result}
 use Rattle.smi_text.specs.{lexer.Token.Item, lexer.Token.item_of, declared.lexer.token.Token.Token}
-use Rattle.smi_text.specs.declared.lexer.error.LexError.{LexError}
+use Rattle.smi_text.specs.declared.lexer.token.LexError.{LexError}
 
 -- if the lexer has returned None, nothing is left
 abbrev pub items_left : Option (Result Token LexError) → List Item → List Item

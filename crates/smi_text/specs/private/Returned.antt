@@ -3,12 +3,12 @@ use Rattle.std.specs.Prelude.{◌≡◌, ℕ, Bool, true, false, List, [], ◌�
 use Rattle.std.specs.Prelude.{Result, Ok, Err}
 use Rattle.std.specs.Borrow.{Bor}
 use Rattle.smi_text.specs.{lexer.Token.Lexeme, lexer.Token.Item, lexer.Token.tokens_of}
-use Rattle.smi_text.specs.{declared.stop.Stop.Stop, declared.error.ParseError.ParseError}
+use Rattle.smi_text.specs.{declared.error.Stop.Stop, declared.error.ParseError.ParseError}
 use Rattle.smi_text.specs.{trees.Mark.Stands, trees.Spelling.of_head, trees.Lookup.labels}
 use Rattle.smi_text.specs.{trees.Lookup.are_distinct, declared.trees.names.Name.Name}
 use Rattle.smi_text.specs.{declared.trees.tree.Module.Module, declared.trees.tree.Part.Part}
 use Rattle.smi_text.specs.{declared.trees.tree.Import.Import, declared.trees.tree.Def.Def}
-use Rattle.smi_text.specs.declared.stop.Stop.TheVariants.{Syntax, Lex, Memory}
+use Rattle.smi_text.specs.declared.error.Stop.TheVariants.{Syntax, Lex, Memory}
 use Rattle.smi_text.specs.declared.error.ParseError.TheVariants as E
 use Rattle.smi_text.specs.private.Format.{Parsed, token_ahead, begins, many}
 use Rattle.smi_text.specs.private.Grammar.{definition, module_text, file}

@@ -6,7 +6,7 @@ use Rattle.std.specs.Prelude.{None, codes, map, if◌then◌else◌}
 use Rattle.std.specs.List.{flat_map}
 use Rattle.smi_text.specs.declared.lexer.token.TokenKind.TheVariants as K
 use Rattle.smi_text.specs.trees.Mark.{Mark, sign, spelled, on_line, same_kind, same_text}
-use Rattle.smi_text.specs.{trees.Reserved.is_reserved, trees.Fronts.has_balanced_braces}
+use Rattle.smi_text.specs.{trees.Reserved.is_reserved, trees.Braces.has_balanced_braces}
 use Rattle.smi_text.specs.{declared.trees.names.Name.Name, declared.trees.tree.Module.Module}
 use Rattle.smi_text.specs.{declared.trees.tree.Import.Import, declared.trees.tree.Def.Def}
 use Rattle.smi_text.specs.{declared.trees.tree.DefKind.DefKind, declared.trees.tree.Part.Part}

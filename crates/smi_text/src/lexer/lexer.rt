@@ -4,9 +4,8 @@ ghost use Rattle.std.specs.Prelude.{◌≡◌, ℕ, List, []};
 ghost use Rattle.smi_text.specs.lexer.Lexes.{AreInOrder, Lexes, fault_on};
 ghost use Rattle.smi_text.specs.lexer.Token.{Item, tokens_of};
 
-use crate::lexer::error::LexError;
 use crate::lexer::scan::{gaps_at, is_open, lexeme_at, lines_in};
-use crate::lexer::token::{Span, Token};
+use crate::lexer::token::{LexError, Span, Token};
 use std::marker::Model;
 
 /// An iterator over the tokens of a module text. Where neither a lexeme nor a gap begins it returns

@@ -1,5 +1,8 @@
-//! The tokens of a module text, which the lexer returns to the parser.
+//! The tokens of a module text, and what stands where none begins, as the lexer returns them to the
+//! parser.
 ghost use Rattle.smi_text.specs.lexer.Lexeme.{IsLexeme};
+
+use thiserror::Error;
 
 /// The kind of a token. Words of the grammar, such as `BEGIN` or `OBJECT-TYPE`, are `Upper` too:
 /// the parser tells them apart by their text.
@@ -70,4 +73,16 @@ pub struct Token<'a> {
     /// The line of its first octet. Lines count from 1, and end with LF.
     pub line: usize,
     pub ghost lexical: { ∥ IsLexeme kind text.now ∥₁ },
+}
+
+/// What stands where a lexeme should begin. Each error has the line where it begins, counted from
+/// 1.
+#[derive(Clone, Copy, Debug, PartialEq, Eq, Error)]
+pub enum LexError {
+    /// An octet with which no lexeme begins, or a `'` whose literal is malformed.
+    #[error("line {line}: no token begins here")]
+    BadByte { line: usize },
+    /// A `"` or `'` without its end.
+    #[error("line {line}: the string has no end")]
+    OpenString { line: usize },
 }

@@ -59,6 +59,17 @@ impl Text {
             Octets::Many(many) => many.as_slice(),
         }
     }
+
+    /// Returns the octets as a `Vec`: the one that holds them, or a copy if they are at most 24.
+    pub fn into_vec(self, alloc: Global) -> Result<Vec<u8>, AllocError>
+        ensures { IfOk result (λ octets. octets.items ≡ self) }
+    {
+        let Text { octets } = self;
+        match octets {
+            Octets::Few(few) => Vec::from_slice(alloc, few.as_slice()),
+            Octets::Many(many) => Ok(many),
+        }
+    }
 }
 
 /// A list of parts of a module tree, in the order of the text.
@@ -88,6 +99,14 @@ impl<T> Items<T> {
         ensures { result ≡ items.items }
     {
         Items { items }
+    }
+
+    /// The `Vec` of the parts, which takes no memory.
+    pub fn into_vec(self) -> Vec<T>
+        ensures { result.items ≡ self }
+    {
+        let Items { items } = self;
+        items
     }
 
     /// The parts as a slice.

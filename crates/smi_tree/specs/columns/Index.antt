@@ -3,9 +3,9 @@ use Rattle.std.specs.Prelude.{◌≡◌, ℕ, ◌+◌, ◌==◌, Bool, ◌&&◌,
 use Rattle.std.specs.Prelude.{slice_index_or, Option, Some, None}
 use Rattle.std.specs.List.{slice_get}
 use Rattle.smi_names.specs.{chains.Resolution.ComesTo, meaning.Meaning.origin, nodes.Nodes.Node}
-use Rattle.smi_names.specs.declared.chains.resolution.Resolution.TheVariants as R
+use Rattle.smi_names.specs.declared.chains.shared.Resolution.TheVariants as R
 use Rattle.smi_tree.specs.{Pairwise.ArePairwise, branches.Standing.place_of, columns.Parts.IsPartOf}
-use Rattle.smi_show.specs.declared.index.part.IndexPart.{IndexPart}
+use Rattle.smi_tree.specs.declared.columns.index_part.IndexPart.{IndexPart}
 use Rattle.smi_text.specs.{declared.trees.tree.Module.Module, declared.trees.tree.Def.Def}
 use Rattle.smi_text.specs.{declared.trees.tree.DefKind.DefKind, declared.trees.tree.Index.Index}
 use Rattle.smi_text.specs.declared.trees.tree.DefKind.TheVariants as D

@@ -1,7 +1,7 @@
 -- What is kept: the parts of each INDEX clause, and for each node which of them identify its row.
 use Rattle.std.specs.Prelude.{◌≡◌, ℕ, List, Bool, Option, Some, None, option_map, map, Vec, ⊤}
 use Rattle.std.specs.{List.slice_get, Option.option_and_then, Global.Global}
-use Rattle.smi_show.specs.declared.index.part.IndexPart.{IndexPart}
+use Rattle.smi_tree.specs.declared.columns.index_part.IndexPart.{IndexPart}
 use Rattle.smi_text.specs.{declared.trees.tree.Module.Module, declared.trees.tree.Def.Def}
 use Rattle.smi_text.specs.declared.trees.tree.IndexParts.{IndexParts}
 use Rattle.smi_names.specs.nodes.Nodes.{Node}

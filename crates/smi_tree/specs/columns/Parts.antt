@@ -1,10 +1,10 @@
 -- The parts of an index, by the types of its objects (RFC 2578, section 7.7).
 use Rattle.std.specs.Prelude.{◌≡◌, ℕ, pos, Bool, true, false, List, [], ◌∷◌, Option, Some, None}
 use Rattle.std.specs.Prelude.{if◌then◌else◌}
-use Rattle.smi_show.specs.declared.index.part.Extent.{Extent}
-use Rattle.smi_show.specs.declared.index.part.Extent.TheVariants.{Fixed, Counted, Implied}
-use Rattle.smi_show.specs.declared.index.part.IndexPart.{IndexPart}
-use Rattle.smi_show.specs.declared.index.part.IndexPart.TheVariants as P
+use Rattle.smi_tree.specs.declared.columns.index_part.Extent.{Extent}
+use Rattle.smi_tree.specs.declared.columns.index_part.Extent.TheVariants.{Fixed, Counted, Implied}
+use Rattle.smi_tree.specs.declared.columns.index_part.IndexPart.{IndexPart}
+use Rattle.smi_tree.specs.declared.columns.index_part.IndexPart.TheVariants as P
 use Rattle.smi_text.specs.{declared.trees.tree.Range.Range, trees.Number.bound_in}
 use Rattle.smi_text.specs.declared.trees.tree.TokenText.{TokenText}
 use Rattle.smi_names.specs.declared.meaning.base.TypeBase.{TypeBase}

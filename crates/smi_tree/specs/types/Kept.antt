@@ -7,15 +7,15 @@ use Rattle.smi_text.specs.{declared.trees.tree.DefKind.DefKind, declared.trees.t
 use Rattle.smi_text.specs.declared.trees.tree.SimpleType.{SimpleType}
 use Rattle.smi_text.specs.declared.trees.tree.NamedNumber.{NamedNumber}
 use Rattle.smi_names.specs.meaning.Meaning.{QualifiedName, or_else}
-use Rattle.smi_names.specs.{meaning.Known.KnownNames, chains.Order.at_place, meaning.Along.AreMeant}
+use Rattle.smi_names.specs.{meaning.Scopes.KnownNames, chains.Order.at_place, meaning.Along.AreMeant}
 use Rattle.smi_tree.specs.{Pairwise.ArePairwise, types.Chain.TypeOrigin}
 use Rattle.smi_tree.specs.types.Types.{base_in, name_in, names_in, sizes_in, simple_in, type_hint}
 use Rattle.smi_tree.specs.types.Types.{type_syntax, object_syntax, origin_of_object, object_origin}
 use Rattle.smi_tree.specs.types.Types.{def_at, Facts, HasSyntax, HasNoSyntax}
 use Rattle.smi_names.specs.declared.meaning.base.TypeBase.{TypeBase}
 use Rattle.smi_tree.specs.declared.types.syntax.TypeSyntax.{TypeSyntax}
-use Rattle.smi_tree.specs.declared.types.types.KeptSyntax.{KeptSyntax}
-use Rattle.smi_tree.specs.declared.types.types.Types.{Types}
+use Rattle.smi_tree.specs.declared.types.KeptSyntax.{KeptSyntax}
+use Rattle.smi_tree.specs.declared.types.Types.{Types}
 
 -- a syntax as definitions see it
 abbrev pub facts_of : TypeSyntax → Facts

@@ -101,18 +101,9 @@ impl Identifiers {
     }
 
     /// The place of the longest beginning of an identifier that is in the list. The whole
-    /// identifier counts as a beginning.
-    pub fn deepest(&self, oid: &Oid) -> Option<Deepest>
-        ensures { MatchOption result
-            (HasNoBeginning self.now oid.now)
-            (λ deepest. IsDeepestAt self.now oid.now deepest.place deepest.depth) }
-    {
-        deepest_of_all(&self.oids, &self.branches, oid)
-    }
-
-    /// What [`Identifiers::deepest`] returns. `near` is a guess where the search may begin: the
-    /// branch of the identifier that was found last. It is changed to that of the one that is found
-    /// now, and no result depends on it.
+    /// identifier counts as a beginning. `near` is a guess where the search may begin: the branch
+    /// of the identifier that was found last, 0 at first. It is changed to that of the one that is
+    /// found now, and no result depends on it.
     pub fn deepest_near(&self, oid: &Oid, near: &mut usize) -> Option<Deepest>
         ensures { MatchOption result
             (HasNoBeginning self.now oid.now)

@@ -5,10 +5,10 @@ ghost use Rattle.smi_names.specs.nodes.Gathered.{nodes_of};
 ghost use Rattle.smi_tree.specs.columns.Index.{AreIndexesOf, index_at};
 
 use crate::branches::Identifiers;
+use crate::columns::IndexPart;
 use crate::columns::objects::Objects;
 use crate::types::Types;
 use smi_names::{Names, Source};
-use smi_show::IndexPart;
 use smi_text::Module;
 use std::alloc::{AllocError, Global};
 use std::marker::Model;
@@ -27,7 +27,7 @@ pub struct Indexes {
 
 impl Model for Indexes {
     ghost use Rattle.std.specs.Prelude.{List, Option};
-    ghost use Rattle.smi_show.specs.declared.index.part.IndexPart.{IndexPart};
+    ghost use Rattle.smi_tree.specs.declared.columns.index_part.IndexPart.{IndexPart};
     ghost use Rattle.smi_tree.specs.columns.Kept.{indexes_of};
 
     ghost Value = { List (Option (List IndexPart)) };

@@ -1,19 +1,26 @@
-//! The parts of INDEX clauses, by the objects that they name.
+//! The parts of INDEX clauses, by the objects that they name, and the rows that they identify.
 ghost use Rattle.std.specs.Prelude.{◌≡◌, ◌<◌, ◌↔◌, ℕ, List, length, IsTrue, IfOk, MatchOption};
+ghost use Rattle.std.specs.Prelude.{Some, slice_get};
 ghost use Rattle.std.specs.Option.{option_copied};
+ghost use Rattle.smi_names.specs.nodes.Nodes.{Node};
+ghost use Rattle.smi_names.specs.nodes.Gathered.{node_from, nodes_of};
 ghost use Rattle.smi_names.specs.chains.Resolution.{ComesTo};
 ghost use Rattle.smi_names.specs.meaning.Meaning.{origin, QualifiedName};
 ghost use Rattle.smi_tree.specs.types.Kept.{AreTypesOf};
-ghost use Rattle.smi_tree.specs.columns.Index.{IsIndexPart, clause_of, is_implied};
+ghost use Rattle.smi_tree.specs.columns.Index.{IsIndexPart, IsObjectType, clause_of};
 ghost use Rattle.smi_tree.specs.private.columns.Named.{IsFoundAt, IsUndefined};
-ghost use Rattle.smi_tree.specs.columns.Kept.{HasNoPart, IsReading, items_of};
-ghost use Rattle.smi_tree.specs.columns.Kept.{IsOwn, AreOwn, AreOwnOfAll};
+ghost use Rattle.smi_tree.specs.columns.Index.{is_implied};
+ghost use Rattle.smi_tree.specs.columns.Kept.{AreOwn, AreOwnOfAll, AreRows, HasNoPart};
+ghost use Rattle.smi_tree.specs.columns.Kept.{HasRowOrNone, IsLastRow, IsOwn, IsReading, UsesAt};
+ghost use Rattle.smi_tree.specs.columns.Kept.{UsesNone, items_of};
 
+use crate::branches::Identifiers;
+use crate::columns::IndexPart;
 use crate::columns::part::part;
+use crate::columns::rows::{LastRow, row_place};
 use crate::node::kept;
 use crate::types::Types;
-use smi_names::{Entries, Names, Resolution, one_resolution};
-use smi_show::IndexPart;
+use smi_names::{Entries, Names, Resolution, Source, one_resolution};
 use smi_text::{Def, DefKind, Index, IndexParts, Module, Name};
 use std::alloc::{AllocError, Global};
 use std::marker::Model;
@@ -22,7 +29,7 @@ use std::marker::Model;
 #[derive(Drop)]
 pub(crate) struct Objects<'n, 'a> {
     /// The loaded modules.
-    pub(crate) modules: &'a [Module],
+    modules: &'a [Module],
     /// The places of names.
     entries: Entries<'n, 'a>,
     /// For each name, where the definition to which it leads stands, if it leads to one.
@@ -49,13 +56,20 @@ impl<'n, 'a> Model for Objects<'n, 'a> {
 }
 
 /// The INDEX or AUGMENTS clause of a definition.
-pub(crate) fn clause(def: &Def) -> Option<&Index>
+fn clause(def: &Def) -> Option<&Index>
     ensures { option_copied result ≡ clause_of def.now.kind }
 {
     match &def.kind {
         DefKind::ObjectType(object) => object.index.as_ref(),
         _ => None,
     }
+}
+
+/// Whether a definition is an OBJECT-TYPE.
+fn is_object_type(def: &Def) -> bool
+    ensures { IsTrue result ↔ IsObjectType (Some def.now) }
+{
+    matches!(&def.kind, DefKind::ObjectType(_))
 }
 
 /// Whether a name has an identifier.
@@ -99,7 +113,7 @@ impl<'n, 'a> Objects<'n, 'a> {
 
     /// The definition to which a name leads in the module named `home`, by the place of its module
     /// and its own place in that.
-    pub(crate) fn find(&self, home: &'a [u8], name: &'a [u8]) -> Option<(usize, usize)>
+    fn find(&self, home: &'a [u8], name: &'a [u8]) -> Option<(usize, usize)>
         ensures { let qualified : QualifiedName = record { home = home.now; name = name.now } in
             MatchOption result (IsUndefined self.now qualified)
             (λ at. IsFoundAt self.now qualified at.0 at.1) }
@@ -205,5 +219,80 @@ impl<'n, 'a> Objects<'n, 'a> {
             kept.push(own)?;
         }
         Ok(kept)
+    }
+
+    /// The definition of a source, None for a root.
+    fn definition(&self, source: Source) -> Option<&'a Def>
+        ensures { (o : List ℕ) → option_copied result
+            ≡ (node_from self.now source o).definition }
+    {
+        let Source::Definition(i, k) = source else {
+            return None;
+        };
+        let module = self.modules.get(i)?;
+        module.defs.as_slice().get(k)
+    }
+
+    /// The definition whose INDEX clause identifies the rows of a source, by the place of its
+    /// module and its own place in that.
+    fn used(&self, source: Source) -> Option<(usize, usize)>
+        ensures { let ms = self.now in MatchOption result
+            ((o : List ℕ) → UsesNone ms (node_from ms source o))
+            (λ at. (o : List ℕ) → UsesAt ms (node_from ms source o) at.0 at.1) }
+    {
+        let Source::Definition(i, k) = source else {
+            return None;
+        };
+        let module = self.modules.get(i)?;
+        let def = module.defs.as_slice().get(k)?;
+        match clause(def)? {
+            Index::Own(_) => Some((i, k)),
+            Index::Augments(name) => self.find(module.name.as_bytes(), name.as_bytes()),
+        }
+    }
+
+    /// The definition whose INDEX clause identifies the rows of the node at a place, None if the
+    /// node is no column or there is none. `last` is the row that was looked up last.
+    fn row<'i>(
+        &self,
+        sources: &[Source],
+        identifiers: &'i Identifiers,
+        place: usize,
+        last: &mut Option<LastRow<'i>>,
+    ) -> Option<(usize, usize)>
+        requires long { length sources.now ≡ length identifiers.now }
+        requires within { place < length sources.now }
+        requires last { IsLastRow identifiers.now last.old }
+        ensures row { let ms = self.now in
+            let nodes = nodes_of ms sources.now identifiers.now in
+            (node : Node) → slice_get nodes place ≡ Some node → HasRowOrNone ms nodes node result }
+        ensures last { IsLastRow identifiers.now last.new }
+    {
+        let def = self.definition(sources[place])?;
+        if !is_object_type(def) {
+            return None;
+        }
+        let row = row_place(identifiers, place, last)?;
+        let source = sources.get(row)?;
+        self.used(*source)
+    }
+
+    /// For each node the definition whose INDEX clause identifies its rows, if it is a column.
+    pub(crate) fn rows(
+        &self,
+        alloc: Global,
+        sources: &[Source],
+        identifiers: &Identifiers,
+    ) -> Result<Vec<Option<(usize, usize)>>, AllocError>
+        requires { length sources.now ≡ length identifiers.now }
+        ensures { let ms = self.now in IfOk result (λ rows.
+            AreRows ms (nodes_of ms sources.now identifiers.now) rows.items) }
+    {
+        let mut rows = Vec::with_capacity(alloc, sources.len())?;
+        let mut last = None;
+        'places: for place in 0..sources.len() {
+            rows.push(self.row(sources, identifiers, place, &mut last))?;
+        }
+        Ok(rows)
     }
 }

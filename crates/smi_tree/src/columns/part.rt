@@ -1,12 +1,12 @@
 //! The part of an index for an object, by its type.
 ghost use Rattle.std.specs.{Prelude.ℕ, Prelude.MatchOption, Option.option_copied};
-ghost use Rattle.smi_show.specs.declared.index.part.IndexPart.{IndexPart};
-ghost use Rattle.smi_show.specs.declared.index.part.Extent.{Extent};
+ghost use Rattle.smi_tree.specs.declared.columns.index_part.IndexPart.{IndexPart};
+ghost use Rattle.smi_tree.specs.declared.columns.index_part.Extent.{Extent};
 ghost use Rattle.smi_tree.specs.columns.Parts.{StatesBound, IsFixedBy, IsNotFixed, HasExtent};
 ghost use Rattle.smi_tree.specs.columns.Parts.{IsPartOf};
 
+use crate::columns::{Extent, IndexPart};
 use smi_names::TypeBase;
-use smi_show::{Extent, IndexPart};
 use smi_text::{Range, TokenText, bound as value_of};
 
 /// The number that a bound stands for, if it isn't below zero.

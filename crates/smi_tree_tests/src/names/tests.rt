@@ -1,26 +1,17 @@
 //! Names that are read, refused and shown.
-use crate::names::{Sample, random_oid};
+use crate::names::{COUNTED, IMPLIED, MAC, TRIPLE, random_oid, sample};
 use smi_show::{
-    Extent, IndexPart, Letters, NameError, NameForm, name_text, resolve, resolve_front,
-    resolve_front_into, resolve_into,
+    Letters, NameError, NameForm, name_text, resolve, resolve_front, resolve_front_into,
+    resolve_into,
 };
+use smi_tree::Tree;
 use snmp_oid::Oid;
 use std::alloc::Global;
 use std::process::Abort;
 use std::test::Fail;
 
-const COUNTED: &[IndexPart] = &[IndexPart::Text(Extent::Counted)];
-
-const IMPLIED: &[IndexPart] = &[IndexPart::Text(Extent::Implied)];
-
-const TRIPLE: &[IndexPart] = &[
-    IndexPart::Number,
-    IndexPart::Text(Extent::Fixed(2)),
-    IndexPart::Address,
-];
-
 /// Whether a text means the identifier of these numbers.
-fn means(tree: &Sample<'_>, text: &[u8], numbers: &[u32]) -> bool {
+fn means(tree: &Tree, text: &[u8], numbers: &[u32]) -> bool {
     match resolve(tree, text) {
         Ok(found) => found.as_slice() == numbers,
         Err(_) => false,
@@ -28,12 +19,12 @@ fn means(tree: &Sample<'_>, text: &[u8], numbers: &[u32]) -> bool {
 }
 
 /// Whether a text means an identifier.
-fn is_meant(tree: &Sample<'_>, text: &[u8]) -> bool {
+fn is_meant(tree: &Tree, text: &[u8]) -> bool {
     resolve(tree, text).is_ok()
 }
 
 /// Whether a text means no identifier, for this reason.
-fn is_fault(tree: &Sample<'_>, text: &[u8], fault: NameError) -> bool {
+fn is_fault(tree: &Tree, text: &[u8], fault: NameError) -> bool {
     match resolve(tree, text) {
         Ok(_) => false,
         Err(found) => found == fault,
@@ -41,7 +32,7 @@ fn is_fault(tree: &Sample<'_>, text: &[u8], fault: NameError) -> bool {
 }
 
 /// Whether `resolve_into` reads a text as `resolve` does.
-fn is_read_alike(tree: &Sample<'_>, text: &[u8], oid: &mut Oid) -> bool {
+fn is_read_alike(tree: &Tree, text: &[u8], oid: &mut Oid) -> bool {
     let found = resolve(tree, text);
     let other = resolve_into(tree, text, oid);
     are_alike(&found, &other, oid)
@@ -79,24 +70,26 @@ static READ: [(&str, &[u32]); 16] = [
 ];
 
 #[test]
-fn names_are_read(rt: HostRuntime) {
-    let tree = Sample::new(COUNTED);
+fn names_are_read(rt: HostRuntime) -> Result<(), Fail> {
+    let tree = sample(rt.alloc(), COUNTED, MAC)?;
     assert_read(&rt, &tree);
+    Ok(())
 }
 
-fn assert_read(rt: &impl Abort, tree: &Sample<'_>) {
+fn assert_read(rt: &impl Abort, tree: &Tree) {
     for (text, numbers) in &READ {
         assert!(rt; means(tree, text.as_bytes(), numbers), "{text}");
     }
 }
 
 #[test]
-fn a_name_is_read_into_an_identifier_that_is_there(rt: HostRuntime) {
-    let tree = Sample::new(COUNTED);
+fn a_name_is_read_into_an_identifier_that_is_there(rt: HostRuntime) -> Result<(), Fail> {
+    let tree = sample(rt.alloc(), COUNTED, MAC)?;
     assert_read_alike(&rt, &tree);
+    Ok(())
 }
 
-fn assert_read_alike(rt: &impl Abort, tree: &Sample<'_>) {
+fn assert_read_alike(rt: &impl Abort, tree: &Tree) {
     let mut oid = Oid::new();
     for (text, _) in &READ {
         assert!(rt; is_read_alike(tree, text.as_bytes(), &mut oid), "{text}");
@@ -138,12 +131,13 @@ static FAULTS: [(&str, NameError); 27] = [
 ];
 
 #[test]
-fn the_first_fault_is_reported(rt: HostRuntime) {
-    let tree = Sample::new(COUNTED);
+fn the_first_fault_is_reported(rt: HostRuntime) -> Result<(), Fail> {
+    let tree = sample(rt.alloc(), COUNTED, MAC)?;
     assert_faults(&rt, &tree);
+    Ok(())
 }
 
-fn assert_faults(rt: &impl Abort, tree: &Sample<'_>) {
+fn assert_faults(rt: &impl Abort, tree: &Tree) {
     for (text, fault) in &FAULTS {
         assert!(rt; is_fault(tree, text.as_bytes(), *fault), "{text}");
     }
@@ -180,12 +174,13 @@ static BAD_FRONTS: [(&str, u8, NameError); 8] = [
 ];
 
 #[test]
-fn the_front_of_a_text_is_read(rt: HostRuntime) {
-    let tree = Sample::new(COUNTED);
+fn the_front_of_a_text_is_read(rt: HostRuntime) -> Result<(), Fail> {
+    let tree = sample(rt.alloc(), COUNTED, MAC)?;
     assert_fronts(&rt, &tree);
+    Ok(())
 }
 
-fn assert_fronts(rt: &impl Abort, tree: &Sample<'_>) {
+fn assert_fronts(rt: &impl Abort, tree: &Tree) {
     for (text, stop, numbers, size) in &FRONTS {
         assert!(rt;
             front_means(tree, text.as_bytes(), *stop, numbers, *size),
@@ -202,7 +197,7 @@ fn assert_fronts(rt: &impl Abort, tree: &Sample<'_>) {
 
 /// Whether the front of a text means the identifier of these numbers and has this length, by
 /// `resolve_front` and by `resolve_front_into`.
-fn front_means(tree: &Sample<'_>, text: &[u8], stop: u8, numbers: &[u32], size: usize) -> bool {
+fn front_means(tree: &Tree, text: &[u8], stop: u8, numbers: &[u32], size: usize) -> bool {
     let mut oid = Oid::new();
     let found = resolve_front(tree, text, stop);
     let other = resolve_front_into(tree, text, stop, &mut oid);
@@ -224,7 +219,7 @@ fn are_fronts(
 }
 
 /// Whether the front of a text means no identifier, for this reason.
-fn is_front_fault(tree: &Sample<'_>, text: &[u8], stop: u8, fault: NameError) -> bool {
+fn is_front_fault(tree: &Tree, text: &[u8], stop: u8, fault: NameError) -> bool {
     let mut oid = Oid::new();
     match (
         resolve_front(tree, text, stop),
@@ -243,12 +238,13 @@ iso.7.7.7.7.7.7.7.7.7.7.7.7.7.7.7.7.7.7.7.7.7.7.7.7.7.7.7.7.7.7.7.7.7.7.7.7.7.7.
 7.7.7.7.7.7.7.7.7.7.7.7.7.7.7.7.7.7.7.7.7.7.7.7.7.7.7.7.7.7.7.7.7.7.x.4294967296";
 
 #[test]
-fn a_name_has_at_most_128_numbers(rt: HostRuntime) {
-    let tree = Sample::new(COUNTED);
+fn a_name_has_at_most_128_numbers(rt: HostRuntime) -> Result<(), Fail> {
+    let tree = sample(rt.alloc(), COUNTED, MAC)?;
     assert_limit(&rt, &tree);
+    Ok(())
 }
 
-fn assert_limit(rt: &impl Abort, tree: &Sample<'_>) {
+fn assert_limit(rt: &impl Abort, tree: &Tree) {
     assert!(rt; is_meant(tree, &SEVENS[..257]));
     assert!(rt; is_fault(tree, &SEVENS[..259], NameError::TooLong));
     assert!(rt; is_fault(tree, SEVENS, NameError::TooLong));
@@ -256,7 +252,7 @@ fn assert_limit(rt: &impl Abort, tree: &Sample<'_>) {
 
 /// The index of the column, whether it is shown as numbers, the numbers after the column, and the
 /// name.
-static INSTANCES: [(&[IndexPart], bool, &[u32], &str); 11] = [
+static INSTANCES: [(&str, bool, &[u32], &str); 11] = [
     (COUNTED, false, &[], "TINY-MIB::tinyMac"),
     (
         COUNTED,
@@ -288,7 +284,7 @@ static INSTANCES: [(&[IndexPart], bool, &[u32], &str); 11] = [
 #[test]
 fn instances_are_shown(rt: HostRuntime) -> Result<(), Fail> {
     for (index, numeric_index, tail, text) in &INSTANCES {
-        let tree = Sample::new(index);
+        let tree = sample(rt.alloc(), index, MAC)?;
         assert!(rt;
             shows(rt.alloc(), &tree, *numeric_index, tail, text)?,
             "{text}"
@@ -300,7 +296,7 @@ fn instances_are_shown(rt: HostRuntime) -> Result<(), Fail> {
 /// Whether the numbers after the column are shown as this text, and the text is read back.
 fn shows(
     alloc: Global,
-    tree: &Sample<'_>,
+    tree: &Tree,
     numeric_index: bool,
     tail: &[u32],
     text: &str,
@@ -323,46 +319,41 @@ fn letters_by(names: NameForm, numeric_index: bool) -> Letters {
 }
 
 /// Appends the name of an identifier.
-fn push_name(
-    tree: &Sample<'_>,
-    letters: &Letters,
-    oid: &Oid,
-    out: &mut Vec<u8>,
-) -> Result<(), Fail> {
+fn push_name(tree: &Tree, letters: &Letters, oid: &Oid, out: &mut Vec<u8>) -> Result<(), Fail> {
     name_text(tree, letters, oid, out)?;
     Ok(())
 }
 
 #[test]
 fn what_is_shown_is_read_back(rt: HostRuntime) -> Result<(), Fail> {
+    for index in [COUNTED, IMPLIED, TRIPLE] {
+        let tree = sample(rt.alloc(), index, MAC)?;
+        assert_read_back(&rt, rt.alloc(), &tree)?;
+    }
+    Ok(())
+}
+
+fn assert_read_back(rt: &impl Abort, alloc: Global, tree: &Tree) -> Result<(), Fail> {
     for seed in 0..1000 {
         let oid = random_oid(&[1, 3, 6, 2], seed);
-        for index in [COUNTED, IMPLIED, TRIPLE] {
-            assert!(rt; is_read_back(rt.alloc(), index, seed % 3 == 0, &oid)?);
-        }
+        assert!(rt; is_read_back(alloc, tree, seed % 3 == 0, &oid)?);
     }
     Ok(())
 }
 
 /// Whether the names of an identifier, in numbers and by its module, are read back.
-fn is_read_back(
-    alloc: Global,
-    index: &[IndexPart],
-    numeric_index: bool,
-    oid: &Oid,
-) -> Result<bool, Fail> {
-    let tree = Sample::new(index);
+fn is_read_back(alloc: Global, tree: &Tree, numeric_index: bool, oid: &Oid) -> Result<bool, Fail> {
     let numeric = letters_by(NameForm::Numeric, numeric_index);
     let named = letters_by(NameForm::ModuleLabel, numeric_index);
     Ok(
-        is_name_read_back(alloc, &tree, &numeric, oid)?
-            && is_name_read_back(alloc, &tree, &named, oid)?,
+        is_name_read_back(alloc, tree, &numeric, oid)?
+            && is_name_read_back(alloc, tree, &named, oid)?,
     )
 }
 
 fn is_name_read_back(
     alloc: Global,
-    tree: &Sample<'_>,
+    tree: &Tree,
     letters: &Letters,
     oid: &Oid,
 ) -> Result<bool, Fail> {

@@ -1,8 +1,8 @@
 -- What is kept of a display hint.
 use Rattle.std.specs.Prelude.{ℕ, List}
-use Rattle.smi_value.specs.{declared.hint.hint.HintForm.HintForm, declared.hint.spec.Spec.Spec}
+use Rattle.smi_value.specs.{declared.hint.HintForm.HintForm, declared.hint.spec.Spec.Spec}
 use Rattle.smi_value.specs.{hint.Number.IsNumberHint, hint.Spec.IsOctetHint, hint.Spec.IsFirstSpec}
-use Rattle.smi_value.specs.declared.hint.hint.HintForm.TheVariants as form
+use Rattle.smi_value.specs.declared.hint.HintForm.TheVariants as form
 
 -- the form is that of the hint with this text
 abbrev pub IsFormOf : List ℕ → HintForm → Type 0

@@ -2,9 +2,9 @@
 use Rattle.std.specs.Prelude.{◌≡◌, ℕ, ℤ, List}
 use Rattle.smi_value.specs.{hint.Number.IsNumberHint, hint.Number.number_text}
 use Rattle.smi_value.specs.{hint.Spec.IsOctetHint, hint.Pieces.ShowsOctets}
-use Rattle.smi_value.specs.{declared.hint.spec.Spec.Spec, declared.hint.hint.HintValue.HintValue}
+use Rattle.smi_value.specs.{declared.hint.spec.Spec.Spec, declared.hint.HintValue.HintValue}
 use Rattle.smi_value.specs.declared.hint.number.NumberForm.{NumberForm}
-use Rattle.smi_value.specs.declared.hint.hint.HintValue.TheVariants as value
+use Rattle.smi_value.specs.declared.hint.HintValue.TheVariants as value
 
 -- the text is a hint of integers
 abbrev pub IsOfNumbers : List ℕ → Type 0

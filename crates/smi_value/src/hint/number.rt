@@ -4,7 +4,7 @@ ghost use Rattle.std.specs.Prelude.{IfSome, IfNone, false, decimal, codes, ◌++
 ghost use Rattle.std.specs.Prelude.{slice_index};
 ghost use Rattle.std.specs.{List.take_while, Char.is_ascii_digit, Int.IsInRange};
 ghost use Rattle.std.specs.Fmt.{digits, digit_glyph};
-ghost use Rattle.snmp_io.specs.draft.Draft.{Adds};
+ghost use Rattle.snmp_io.specs.Draft.{Adds};
 ghost use Rattle.smi_value.specs.declared.hint.number.NumberForm.{NumberForm};
 ghost use Rattle.smi_value.specs.hint.Number.{StartsWithNumber, front_digits, after_digits};
 ghost use Rattle.smi_value.specs.hint.Number.{IsNumberHint, with_point, magnitude_text};

@@ -3,9 +3,8 @@
 ghost use Rattle.std.specs.Prelude.{◌≡◌, ◌≢◌, ◌<◌, ◌≤◌, List, ℕ, [], ◌++◌, length, drop, take};
 ghost use Rattle.std.specs.Prelude.{if◌then◌else◌, true, decimal, ◌∷◌, false, ◌+◌, ◌*◌};
 ghost use Rattle.std.specs.{Fmt.digits, List.flat_map};
-ghost use Rattle.snmp_io.specs.draft.Draft.{Adds};
+ghost use Rattle.snmp_io.specs.Draft.{Adds};
 ghost use Rattle.smi_value.specs.hint.Spec.{IsFirstSpec, IsOctetHint, AreSpecs, most_octets};
-ghost use Rattle.smi_value.specs.hint.Spec.{takes_octets};
 ghost use Rattle.smi_value.specs.hint.Pieces.{IsCut, IsGroup, ShowsOctets, last_mark, mark_before};
 ghost use Rattle.smi_value.specs.hint.Pieces.{number_of_octets, piece_text, pieces_text};
 ghost use Rattle.smi_value.specs.hint.Pieces.{single_text, marked_text, singles_text};
@@ -94,7 +93,7 @@ fn append_marked_hexadecimal(draft: &mut Draft, mark: u8, octet: u8)
 }
 
 /// Appends a mark and an octet to the base 10.
-fn append_marked_decimal(draft: &mut Draft, mark: u8, octet: u8)
+pub(crate) fn append_marked_decimal(draft: &mut Draft, mark: u8, octet: u8)
     ensures { Adds draft.old (mark ∷ decimal octet) draft.new }
 {
     if octet < 10 {
@@ -304,26 +303,4 @@ fn number_of(octets: &[u8]) -> u64
         number = number * 256 + u64::from(*octet);
     }
     number
-}
-
-impl Spec {
-    ghost use Rattle.smi_value.specs.hint.Pieces.{last_mark, is_single};
-
-    /// Whether each octet is shown alone, by one application of its own.
-    fn is_single(&self) -> bool
-        ensures { result ≡ is_single self.now }
-    {
-        !self.is_counted && self.length == 1
-    }
-
-    /// The mark after the last application: the terminator, if any, in place of the separator.
-    fn last_mark(&self) -> Option<u8>
-        ensures { result ≡ last_mark self.now }
-    {
-        if self.terminator.is_some() {
-            self.terminator
-        } else {
-            self.separator
-        }
-    }
 }

@@ -2,8 +2,8 @@
 ghost use Rattle.std.specs.Prelude.{◌≡◌, ◌<◌, ◌≤◌, ◌+◌, ◌↔◌, List, ℕ, length, IfSome, IfNone};
 ghost use Rattle.std.specs.Prelude.{IsTrue, slice_get, option_and_then, option_to_list, drop};
 ghost use Rattle.smi_value.specs.hint.Spec.{IsFirstSpec, IsOctetHint, format_of, has_star};
-ghost use Rattle.smi_value.specs.hint.Spec.{after_star};
-ghost use Rattle.smi_value.specs.hint.Spec.{mark_of, after_mark, most_octets, takes_octets};
+ghost use Rattle.smi_value.specs.hint.Spec.{after_star, mark_of, after_mark, most_octets};
+ghost use Rattle.smi_value.specs.hint.{Spec.takes_octets, Pieces.last_mark, Pieces.is_single};
 ghost use Rattle.smi_value.specs.declared.hint.spec.Spec.{Spec};
 
 use crate::hint::number::front_number;
@@ -154,12 +154,28 @@ fn ends_hint(text: &[u8], first: &Spec, ahead: &[u8]) -> bool
 }
 
 impl Spec {
-    ghost use Rattle.smi_value.specs.hint.Spec.{takes_octets};
-
     /// Whether each application uses up octets: its count, or `length` of them.
     pub(crate) fn takes_octets(&self) -> bool
         ensures { result ≡ takes_octets self.now }
     {
         self.is_counted || self.length > 0
+    }
+
+    /// Whether each octet is shown alone, by one application of its own.
+    pub(crate) fn is_single(&self) -> bool
+        ensures { result ≡ is_single self.now }
+    {
+        !self.is_counted && self.length == 1
+    }
+
+    /// The mark after the last application: the terminator, if any, in place of the separator.
+    pub(crate) fn last_mark(&self) -> Option<u8>
+        ensures { result ≡ last_mark self.now }
+    {
+        if self.terminator.is_some() {
+            self.terminator
+        } else {
+            self.separator
+        }
     }
 }

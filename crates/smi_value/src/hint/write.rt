@@ -1,9 +1,9 @@
 //! Appending a value as a hint shows it.
 ghost use Rattle.std.specs.Prelude.{◌≡◌, List, ℕ, ◌++◌, OnOk, OnErr};
 ghost use Rattle.smi_value.specs.hint.Hint.{IsHintFor, Shows};
-ghost use Rattle.smi_value.specs.declared.hint.hint.HintValue.{HintValue};
+ghost use Rattle.smi_value.specs.declared.hint.HintValue.{HintValue};
 
-use crate::hint::hint::{Hint, HintValue};
+use crate::hint::{Hint, HintValue};
 use snmp_io::Draft;
 use std::alloc::AllocError;
 

@@ -8,6 +8,8 @@ use Rattle.snmp_wire.specs.Message.{Datum, VarBind}
 use Rattle.snmp_wire.specs.Message.Datum.{integer_value, octet_string, object_id, ip_address}
 use Rattle.snmp_wire.specs.Message.Datum.{counter32, gauge32, time_ticks, opaque_octets, counter64}
 use Rattle.snmp_wire.specs.Message.Datum.{no_such_object, no_such_instance, end_of_mib_view}
+use Rattle.snmp_agent.specs.declared.table.error.PutError.{PutError}
+use Rattle.snmp_agent.specs.declared.table.error.PutError.TheVariants as refusal
 
 -- The variables that an agent gives access to: the value of each instance, by its name, and the
 -- object prefixes, each of which begins the names of all instances of an object, whether the object
@@ -101,3 +103,10 @@ with_row view o v = record { rows = insert view.rows o v; objects = view.objects
 -- the view without the instance of this name; all else is the same
 abbrev pub without_row : MibView → List ℕ → MibView
 without_row view o = record { rows = remove view.rows o; objects = view.objects }
+
+-- why a variable isn't put, the first that applies: an instance can't have the name, or can't hold
+-- the value, or memory ran out
+abbrev pub IsPutError : List ℕ → Datum → PutError → Type 0
+IsPutError o v refusal.BadName = IsInstanceName o → ⊥
+IsPutError o v refusal.BadValue = IsInstanceName o × (IsInstanceValue v → ⊥)
+IsPutError o v refusal.Memory = IsInstanceName o × IsInstanceValue v

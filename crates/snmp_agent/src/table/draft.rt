@@ -210,10 +210,7 @@ impl Draft {
     {
         if self.rows.ends_before(&row.name()) {
             self.unhashed = self.unhashed.saturating_add(1);
-            return match self.rows.append(alloc, row) {
-                Ok(()) => Ok(()),
-                Err(_) => Err(Halt::Again),
-            };
+            return self.rows.append(alloc, row).map_err(|_| Halt::Again);
         }
         let name = row.name();
         let late = self.late.as_slice();
@@ -221,10 +218,7 @@ impl Draft {
         if !is_new(alloc, &self.rows, late, unhashed, hashes, &name) {
             return self.put_known(alloc, row, number);
         }
-        match self.late.push(Late::new(row)) {
-            Ok(()) => Ok(()),
-            Err(_) => Err(Halt::Again),
-        }
+        self.late.push(Late::new(row)).map_err(|_| Halt::Again)
     }
 
     /// Puts a row in its place, after those that are gathered. No row is gathered from then on.

@@ -182,21 +182,15 @@ fn octets_alike(rows: &[Late]) -> usize {
     for late in rows {
         let content = late.row.name().content();
         if !content.starts_with(alike) {
-            let (front, _) = alike.split_at(same_octets(alike, content).min(alike.len()));
+            let same = alike
+                .iter()
+                .zip(content)
+                .take_while(|pair| pair.0 == pair.1);
+            let (front, _) = alike.split_at(same.count().min(alike.len()));
             alike = front;
         }
     }
     alike.len()
-}
-
-/// How many octets at the front are the same in both.
-fn same_octets(octets: &[u8], others: &[u8]) -> usize {
-    for (place, octet) in octets.iter().enumerate() {
-        if others.get(place) != Some(octet) {
-            return place;
-        }
-    }
-    octets.len()
 }
 
 /// Sets the keys of rows whose names are the same in the first `alike` octets.

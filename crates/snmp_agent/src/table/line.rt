@@ -6,11 +6,10 @@ ghost use Rattle.snmp_agent.specs.{table.Form.States, table.Text.IsBlank};
 ghost use Rattle.snmp_agent.specs.private.table.Line.{IsForm, IsObjectRead, IsInstanceRead};
 ghost use Rattle.snmp_agent.specs.private.table.Line.{IsLineFault, statement_of};
 
-use crate::table::change::is_instance_name;
 use crate::table::format::LineFormat;
-use crate::table::row::RowText;
+use crate::table::instance::is_instance_name;
 use crate::table::split::split_near;
-use crate::table::value::{Tag, read_kept, read_plain};
+use crate::table::value::{RowText, Tag, read_kept, read_plain};
 use snmp_wire::{Binding, EncodedBinding, Oid, ValueRef};
 use std::alloc::{AllocError, Global};
 

@@ -10,12 +10,6 @@ use std::alloc::{AllocError, Global};
 /// How many rows a page has at most.
 pub const PAGE_ROWS: usize = 128;
 
-/// Once a row is removed, a page gives memory back if it has room for this many more rows.
-const MANY_SPARE: usize = 24;
-
-/// How many more rows it keeps room for then, so that rows that come and go seldom need memory.
-const SPARE: usize = 8;
-
 /// Rows that lie together, so that a change moves no others.
 #[derive(Drop)]
 pub struct Page {
@@ -38,10 +32,8 @@ impl Page {
         ensures { IfOk result (λ page. page.rows.items ≡ row ∷ []) }
     {
         let mut rows = Vec::new(alloc);
-        match rows.push(row) {
-            Ok(()) => Ok(Page { rows }),
-            Err(_) => Err(AllocError),
-        }
+        rows.push(row)?;
+        Ok(Page { rows })
     }
 
     /// Appends a row.
@@ -51,10 +43,8 @@ impl Page {
         ensures unchanged_on_error { IfErr result (λ _. self.new.rows.items
             ≡ self.old.rows.items) }
     {
-        match self.rows.push(row) {
-            Ok(()) => Ok(()),
-            Err(_) => Err(AllocError),
-        }
+        self.rows.push(row)?;
+        Ok(())
     }
 
     /// Puts a row in its place among the others, or in place of the one that has its name, and
@@ -105,21 +95,17 @@ impl Page {
             _ if belongs == count || at_name && belongs > half => belongs.min(count - 1),
             _ => half,
         };
-        match self.rows.split_off(place) {
-            Ok(rows) => Ok(Page { rows }),
-            Err(error) => Err(error),
-        }
+        let rows = self.rows.split_off(place)?;
+        Ok(Page { rows })
     }
 
-    /// Removes the row at this place, which isn't the only one. Once many rows were removed, most
-    /// of their memory is given back.
+    /// Removes the row at this place, which isn't the only one.
     pub fn remove(&mut self, place: usize)
         requires other { 1 < length self.old.rows.items }
         requires within { place < length self.old.rows.items }
         ensures { self.new.rows.items ≡ remove_at self.old.rows.items place }
     {
         let _ = self.rows.remove(place);
-        give_back(&mut self.rows);
     }
 }
 
@@ -141,17 +127,6 @@ impl Placed for Page {
     }
 }
 
-/// Gives unused memory back, where it is enough for many rows. The rows stay where they are if no
-/// smaller piece of memory can be had.
-fn give_back(rows: &mut Vec<EncodedBinding>)
-    ensures { rows.new.items ≡ rows.old.items }
-{
-    let count = rows.len();
-    if rows.capacity().saturating_sub(count) >= MANY_SPARE {
-        rows.shrink_to(count.saturating_add(SPARE));
-    }
-}
-
 /// Inserts a row at a place.
 fn insert_row(
     rows: &mut Vec<EncodedBinding>,
@@ -167,9 +142,7 @@ fn insert_row(
     if count == rows.capacity() && count > PAGE_ROWS / 2 {
         rows.reserve_exact(PAGE_ROWS.saturating_sub(count))?;
     }
-    let Ok(()) = rows.push(row) else {
-        return Err(AllocError);
-    };
+    rows.push(row)?;
     // Moves the rows behind at once; `Vec::insert` moves them one by one.
     rows[place..].rotate_right(1);
     Ok(())

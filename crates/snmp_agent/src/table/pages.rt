@@ -47,6 +47,9 @@ struct PutOrder {
 /// behind that place. With more pages this would make their list long.
 const FEW_PAGES: usize = 1024;
 
+/// The guess of a page where there is none.
+const NO_GUESS: usize = usize::MAX;
+
 /// How many rows a sample has.
 const SAMPLE: u32 = 128;
 
@@ -364,7 +367,7 @@ impl Pages {
         ensures removed { self.new ≡ remove_key self.old name.now }
         ensures found { result ≡ contains_key self.old name.now }
     {
-        let place = page_of(self.list.as_slice(), name);
+        let place = page_near(self.list.as_slice(), name, NO_GUESS);
         let Some(page) = self.list.as_slice().get(place) else {
             return false;
         };
@@ -463,15 +466,7 @@ fn stands_between(name: &EncodedName<'_>, front: &[EncodedBinding], rows: &[Enco
 }
 
 /// The place of the only page that may have a row of this name: the last one that begins with it or
-/// a name before it, else the first.
-fn page_of(pages: &[Page], name: &EncodedName<'_>) -> usize
-    requires { ArePages pages.now }
-    ensures { IsPageOf name.now pages.now result }
-{
-    count_between(pages, name, 0, pages.len()).saturating_sub(1)
-}
-
-/// [`page_of`], from a guess of it. Nothing is searched where the guess is right.
+/// a name before it, else the first. Nothing is searched where the guess is right.
 fn page_near(pages: &[Page], name: &EncodedName<'_>, guess: usize) -> usize
     requires { ArePages pages.now }
     ensures { IsPageOf name.now pages.now result }
@@ -512,19 +507,8 @@ fn append(alloc: Global, pages: &mut Vec<Page>, row: EncodedBinding) -> Result<(
         return Ok(());
     }
     let page = Page::of_row(alloc, row)?;
-    push_page(pages, page)?;
+    pages.push(page)?;
     Ok(())
-}
-
-/// Appends a page.
-fn push_page(pages: &mut Vec<Page>, page: Page) -> Result<(), AllocError>
-    ensures pushed { IfOk result (λ _. pages.new.items ≡ pages.old.items ++ page ∷ []) }
-    ensures unchanged_on_error { IfErr result (λ _. pages.new.items ≡ pages.old.items) }
-{
-    match pages.push(page) {
-        Ok(()) => Ok(()),
-        Err(_) => Err(AllocError),
-    }
 }
 
 /// The place of the page where a row of this name belongs. A full page is divided first.
@@ -534,7 +518,7 @@ fn page_with_room(pages: &mut Vec<Page>, name: &EncodedName<'_>) -> Result<usize
     ensures rows { entries_in pages.new.items ≡ entries_in pages.old.items }
     ensures place { IfOk result (IsPageWithRoom name.now pages.new.items) }
 {
-    let place = page_of(pages.as_slice(), name);
+    let place = page_near(pages.as_slice(), name, NO_GUESS);
     if pages[place].rows.len() < PAGE_ROWS {
         return Ok(place);
     }
@@ -564,7 +548,7 @@ fn divide(pages: &mut Vec<Page>, place: usize, name: &EncodedName<'_>) -> Result
     }
 }
 
-/// Removes a row from a page, and the page if it is empty then.
+/// Removes a row from a page. A page that has no other row is removed, which frees its memory.
 fn remove_row(pages: &mut Vec<Page>, place: usize, row: usize)
     requires { IsRowIn pages.old.items place row }
     ensures { IsWithoutRow pages.old.items place row (entries_in pages.new.items) }
@@ -573,17 +557,6 @@ fn remove_row(pages: &mut Vec<Page>, place: usize, row: usize)
         pages[place].remove(row);
     } else {
         let _ = pages.remove(place);
-        give_back(pages);
-    }
-}
-
-/// Gives unused memory of the list back, where less than a quarter of it is used.
-fn give_back(pages: &mut Vec<Page>)
-    ensures { pages.new.items ≡ pages.old.items }
-{
-    let count = pages.len();
-    if count < pages.capacity() / 4 {
-        pages.shrink_to(count.saturating_mul(2));
     }
 }
 

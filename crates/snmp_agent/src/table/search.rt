@@ -101,20 +101,13 @@ fn by_test<T: Placed>(
     }
 }
 
-/// How many rows have the name or one before it.
-pub fn place_after(rows: &[EncodedBinding], name: &EncodedName<'_>) -> usize
-    requires { IsRising rows.now }
-    ensures { IsPlaceAfter name.now rows.now result }
-{
-    count_between(rows, name, 0, rows.len())
-}
-
-/// [`place_after`], from a guess of it. Nothing is searched where the guess is right.
+/// Returns how many rows have the name or one before it. `guess` is a guess of that, 0 for none:
+/// nothing is searched if it is right.
 pub fn place_near(rows: &[EncodedBinding], name: &EncodedName<'_>, guess: usize) -> usize
     requires { IsRising rows.now }
     ensures { IsPlaceAfter name.now rows.now result }
 {
-    // The last row up to the name is one before that. Where there is none, all rows are searched.
+    // The last row up to the name is one before that.
     let (passed, end) = near(rows, name, guess.wrapping_sub(1));
     count_between(rows, name, passed, end)
 }
@@ -148,7 +141,7 @@ pub fn find_row(rows: &[EncodedBinding], name: &EncodedName<'_>) -> Result<usize
     ensures found { IfOk result (HasNameAt name.now rows.now) }
     ensures none { IfErr result (BelongsAt name.now rows.now) }
 {
-    let place = place_after(rows, name);
+    let place = place_near(rows, name, 0);
     let (front, _) = rows.split_at(place);
     match front.last() {
         Some(row) if row.name().compare(name).is_eq() => Ok(place - 1),

@@ -1,9 +1,9 @@
 //! Values as a table's text states them.
-ghost use Rattle.std.specs.Prelude.{◌≡◌, ◌<◌, ◌≤◌, ◌^◌, IfOk, IfSome, IfNone, FitsSigned};
+ghost use Rattle.std.specs.Prelude.{◌≡◌, ◌<◌, ◌≤◌, ◌^◌, IfOk, IfSome, IfNone, FitsSigned, length};
 ghost use Rattle.std.specs.{Int.w32, Option.option_map};
 ghost use Rattle.hex.specs.Hex.{decode_of};
 ghost use Rattle.snmp_oid.specs.Identifier.{IsWire};
-ghost use Rattle.snmp_wire.specs.Message.{datum};
+ghost use Rattle.snmp_wire.specs.Message.{datum, object_id};
 ghost use Rattle.snmp_wire.specs.Message.Datum.{integer_value, counter32, gauge32, time_ticks};
 ghost use Rattle.snmp_wire.specs.Message.Datum.{counter64, octet_string};
 ghost use Rattle.snmp_agent.specs.table.Exact.{IsOnly, IsOnlyThere};
@@ -14,7 +14,6 @@ ghost use Rattle.snmp_agent.specs.table.Text.{IsDecimal, IsSignedDecimal, IsAddr
 ghost use Rattle.snmp_agent.specs.table.Text.{IsValueText};
 
 use crate::table::format::LineFormat;
-use crate::table::row::RowText;
 use hex::FromHexError;
 use snmp_wire::{Oid, ValueRef, parse_numeric};
 use std::alloc::{AllocError, Global};
@@ -55,6 +54,35 @@ impl Tag {
             b"68x" => Some(Tag::HexOpaque),
             b"70" => Some(Tag::Counter64),
             _ => None,
+        }
+    }
+}
+
+/// A value that takes memory of its own when it is read.
+#[derive(Drop)]
+pub enum RowText {
+    /// OCTET STRING.
+    Octets(Vec<u8>),
+    /// OBJECT IDENTIFIER, as its numbers.
+    ObjectId(Vec<u32>),
+    /// Opaque.
+    Opaque(Vec<u8>),
+}
+
+impl RowText {
+    ghost use Rattle.std.specs.Prelude.{◌≡◌};
+    ghost use Rattle.snmp_wire.specs.Message.{datum};
+    ghost use Rattle.snmp_agent.specs.private.table.Row.{datum_of, IsShort};
+
+    /// Changes a value to this one, which it borrows.
+    pub fn read_into<'a>(&'a self, into: &mut ValueRef<'a>)
+        requires { IsShort self.now }
+        ensures { datum into.new ≡ datum_of self.now }
+    {
+        match self {
+            RowText::Octets(octets) => *into = ValueRef::Octets(octets.as_slice()),
+            RowText::ObjectId(numbers) => set_to_identifier(into, numbers.as_slice()),
+            RowText::Opaque(octets) => *into = ValueRef::Opaque(octets.as_slice()),
         }
     }
 }
@@ -185,6 +213,19 @@ pub fn read_kept<F: LineFormat>(
         Tag::ObjectId => Ok(object_id(alloc, format, text)?.map(RowText::ObjectId)),
         Tag::HexOpaque => Ok(hexadecimal(alloc, text)?.map(RowText::Opaque)),
         _ => unreachable!(),
+    }
+}
+
+/// Changes a value to the identifier of these numbers.
+// Not inlined: the caller would clear the identifier for values of other types too.
+#[inline(never)]
+fn set_to_identifier(into: &mut ValueRef<'_>, numbers: &[u32])
+    requires { length numbers.now ≤ 128 }
+    ensures { datum into.new ≡ object_id numbers.now }
+{
+    match Oid::from_slice(numbers) {
+        Ok(oid) => *into = ValueRef::ObjectId(oid),
+        Err(_) => unreachable!(),
     }
 }
 

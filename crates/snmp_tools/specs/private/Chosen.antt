@@ -1,6 +1,6 @@
 -- The choices that the program keeps, for private clauses.
 use Rattle.snmp_tools.specs.Letters as letters
-use Rattle.snmp_tools.specs.declared.choices.Choices.{Choices}
+use Rattle.snmp_tools.specs.declared.plan.choices.Choices.{Choices}
 
 abbrev pub chosen : Choices → letters.Choices
 chosen c = record {

@@ -3,21 +3,20 @@
 use Rattle.std.specs.Prelude.{◌≡◌, ◌≤◌, ◌⊎◌, length, Some, codes, ℕ, List, [], Option, drop}
 use Rattle.std.specs.Prelude.{option_map, unwrap_or}
 use Rattle.snmp_oid.specs.Numeric.{numeric_text}
-use Rattle.smi_show.specs.name.Naming.{Naming}
-use Rattle.smi_value.specs.Syntax.{ObjectSyntax}
 use Rattle.snmp_words.specs.Words.{AskingWords, WalkWords, asking_words, texts_at, words_of_walk}
 use Rattle.snmp_net.specs.Address.{address_of}
 use Rattle.snmp_tools.specs.Asking.{AreShown, AskingFails, HasAgent, IsAskingDone, NameFails}
 use Rattle.snmp_tools.specs.Asking.{agent_step, community_step, letters_step, version_step}
-use Rattle.snmp_tools.specs.{private.Chosen.chosen, Message.Fault, Message.out_of_memory, Mib.Mib}
-use Rattle.snmp_tools.specs.{declared.request.AskJob.AskJob, declared.plan.Orders.Orders}
+use Rattle.snmp_tools.specs.{private.Chosen.chosen, Message.Fault, Message.out_of_memory}
+use Rattle.snmp_tools.specs.{declared.plan.request.AskJob.AskJob, declared.plan.Orders.Orders}
 use Rattle.snmp_tools.specs.{declared.plan.Plan.Plan, declared.plan.Question.Question}
-use Rattle.snmp_tools.specs.{declared.request.Request.Request, declared.plan.Walk.Walk}
+use Rattle.snmp_tools.specs.{declared.plan.request.Request.Request, declared.plan.Walk.Walk}
 use Rattle.snmp_tools.specs.Question as question
 use Rattle.snmp_tools.specs.Question.{AskWords, HasChosen, HasMeaning, root_text}
 use Rattle.snmp_io.specs.Steps.{IsFirstToFail}
 use Rattle.snmp_tools.specs.declared.plan.Question.TheVariants as planned
-use Rattle.snmp_tools.specs.declared.request.Request.TheVariants as request
+use Rattle.snmp_tools.specs.declared.plan.request.Request.TheVariants as request
+use Rattle.smi_tree.specs.{Tree.Contents}
 
 -- ---- what is asked for
 
@@ -53,13 +52,13 @@ AgentFails words why =
 
 -- memory ran out, or a name has no meaning: of a walk the root's, or that of the name to go on
 -- after
-abbrev pub NamesFail : question.Request → Mib → Fault → Type 0
+abbrev pub NamesFail : question.Request → Contents → Fault → Type 0
 NamesFail (question.get texts) mib why =
-    (why ≡ out_of_memory) ⊎ IsFirstToFail texts (HasMeaning mib) (NameFails mib.naming) why
+    (why ≡ out_of_memory) ⊎ IsFirstToFail texts (HasMeaning mib) (NameFails mib) why
 NamesFail (question.walk bulk letters after name) mib why =
-    NameFails mib.naming (root_text name) why
+    NameFails mib (root_text name) why
     ⊎ (HasMeaning mib (root_text name)
-    × ((text : List ℕ) × (after ≡ Some text) × NameFails mib.naming text why))
+    × ((text : List ℕ) × (after ≡ Some text) × NameFails mib text why))
 
 -- ---- the plan
 
@@ -86,10 +85,6 @@ plan_of p = record {
   letters = p.orders.letters;
   question = question_of p.question;
 }
-
--- the names and types of a tree
-abbrev pub mib_in : Naming → (List ℕ → Option ObjectSyntax) → Mib
-mib_in naming syntax_at = record { naming = naming; syntax_at = syntax_at }
 
 -- what is stated by the words of a walk of a table file, the root being in numbers
 abbrev pub numeric_walk : (path root : List ℕ) → WalkWords

@@ -4,11 +4,12 @@ use Rattle.snmp_oid.specs.Identifier.{IsWire, wire}
 use Rattle.snmp_walk.specs.Ordered.{IsAtOrBelow, IsUnsendable}
 use Rattle.snmp_io.specs.Steps.{IsFirstToFail}
 use Rattle.snmp_words.specs.Words.{texts_at}
-use Rattle.snmp_tools.specs.{Mib.Mib, Message.Fault, Message.outside_root, Message.unsendable}
+use Rattle.snmp_tools.specs.{Message.Fault, Message.outside_root, Message.unsendable}
 use Rattle.snmp_tools.specs.Question.{AreNames, HasSendable, HasUnsendable}
 use Rattle.snmp_tools.specs.declared.plan.Question as plan
 use Rattle.snmp_tools.specs.declared.plan.Question.TheVariants as planned
 use Rattle.snmp_tools.specs.declared.plan.Walk as plan_walk
+use Rattle.smi_tree.specs.{Tree.Contents}
 
 -- a walk can't go on after the name: it isn't below the root, or can't be sent
 abbrev pub ResumeFails : (root after text : List ℕ) → Fault → Type 0
@@ -25,6 +26,7 @@ StartFails w why =
 
 -- why the question of a plan can't begin
 abbrev pub BeginFails : plan.Question → Fault → Type 0
-BeginFails (planned.Get ns) why = (mib : Mib) → AreNames mib (texts_at ns.texts.now) ns.oids.items
+BeginFails (planned.Get ns) why = (mib : Contents)
+    → AreNames mib (texts_at ns.texts.now) ns.oids.items
     → IsFirstToFail (texts_at ns.texts.now) (HasSendable mib) (HasUnsendable mib) why
 BeginFails (planned.Walk w) why = StartFails w why

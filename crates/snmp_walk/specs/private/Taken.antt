@@ -5,11 +5,11 @@ use Rattle.std.specs.Prelude.{if◌then◌else◌, ◌+◌, List, [], ◌∷◌,
 use Rattle.std.specs.{Bool.nat_eq, Ordering.int_eq, Cmp.Lexicographic.pointwise}
 use Rattle.snmp_wire.specs.{declared.kind.Kind.Kind, Message.VarBind, Message.Message}
 use Rattle.snmp_wire.specs.declared.kind.Kind.TheVariants as kind
-use Rattle.snmp_walk.specs.{declared.mode.Mode.Mode, declared.phase.Phase.Phase}
+use Rattle.snmp_walk.specs.{declared.mode.Mode.Mode, declared.mode.Phase.Phase}
 use Rattle.snmp_walk.specs.{declared.end.WalkEnd.WalkEnd, declared.rows.Step.Step}
 use Rattle.snmp_walk.specs.{Request.asked_for, Trail.last_name, Walker.Walker}
 use Rattle.snmp_walk.specs.declared.mode.Mode.TheVariants as mode
-use Rattle.snmp_walk.specs.declared.phase.Phase.TheVariants as phase
+use Rattle.snmp_walk.specs.declared.mode.Phase.TheVariants as phase
 use Rattle.snmp_walk.specs.declared.end.WalkEnd.TheVariants as ending
 use Rattle.snmp_walk.specs.declared.rows.Step.TheVariants as step
 use Rattle.snmp_walk.specs.private.Reading as reading

@@ -8,7 +8,7 @@ ghost use Rattle.std.specs.List.{flat_map};
 ghost use Rattle.snmp_oid.specs.Identifier.{IsWire};
 ghost use Rattle.snmp_wire.specs.ber.Canon.{AreShort, canon_content, canon_subidentifier};
 ghost use Rattle.snmp_wire.specs.ber.Canon.{eight_from, septets, subidentifier_size};
-ghost use Rattle.snmp_wire.specs.{ber.Value.object_id, private.ber.Writing.Writes};
+ghost use Rattle.snmp_wire.specs.{ber.Value.object_id, ber.Writing.Writes};
 
 use crate::ber::BerError;
 use crate::ber::writing::{put_octet, put_text};

@@ -1,7 +1,7 @@
 //! Lengths and elements (X.690, section 8.1): a tag, the length of the content, and the content.
 ghost use Rattle.std.specs.Prelude.{◌≡◌, List, ℕ, ◌+◌, ◌^◌, ◌<◌, ◌≤◌, ◌++◌, length};
 ghost use Rattle.snmp_wire.specs.ber.Reading as reading;
-ghost use Rattle.snmp_wire.specs.{ber.Reading.AgreesBy, private.ber.Writing.Writes};
+ghost use Rattle.snmp_wire.specs.{ber.Reading.AgreesBy, ber.Writing.Writes};
 ghost use Rattle.snmp_wire.specs.ber.Canon.{canon_header, canon_length, length_size, octets};
 
 use crate::ber::BerError;

@@ -2,7 +2,7 @@
 ghost use Rattle.std.specs.Prelude.{◌≡◌, ℕ, ◌^◌, ◌<◌, ◌≤◌, length, IsTrue, Ok, ◌+◌, pos};
 ghost use Rattle.snmp_wire.specs.ber.Number as number;
 ghost use Rattle.snmp_wire.specs.ber.Reading as reading;
-ghost use Rattle.snmp_wire.specs.{ber.Reading.AgreesBy, private.ber.Writing.Writes};
+ghost use Rattle.snmp_wire.specs.{ber.Reading.AgreesBy, ber.Writing.Writes};
 ghost use Rattle.snmp_wire.specs.ber.Canon.{canon_number, magnitude_of, number_size, octets};
 
 use crate::ber::length::inner_at;

@@ -37,6 +37,13 @@ impl OctetString {
     {
         self.octets.as_slice()
     }
+
+    /// The octets, given back in the vector that holds them: it takes no memory.
+    pub fn into_vec(self) -> Vec<u8>
+        ensures { result.items ≡ self }
+    {
+        self.octets
+    }
 }
 
 /// A value, or an exception in its place (RFC 3416, section 3), that owns its octets: the twin of

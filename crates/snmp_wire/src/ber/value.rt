@@ -7,7 +7,7 @@ ghost use Rattle.snmp_wire.specs.ber.Reading as reading;
 ghost use Rattle.snmp_wire.specs.ber.Reading.{AgreesBy, checked};
 ghost use Rattle.snmp_wire.specs.ber.Canon.{IsEncodableValue, canon_content, canon_element};
 ghost use Rattle.snmp_wire.specs.ber.Canon.{canon_number, canon_value};
-ghost use Rattle.snmp_wire.specs.private.ber.Writing.{Writes};
+ghost use Rattle.snmp_wire.specs.ber.Writing.{Writes};
 
 use crate::ber::error::allowed;
 use crate::ber::identifier::{check_identifier, identifier_of, identifier_size, put_identifier};

@@ -1,7 +1,7 @@
 //! Pieces of a message as they are written: from its end to its front, so that each length is known
 //! when it is written.
 ghost use Rattle.std.specs.Prelude.{◌≡◌, ℕ, ◌+◌, ◌<◌, ◌≤◌, [], ◌∷◌, length};
-ghost use Rattle.snmp_wire.specs.private.ber.Writing.{Writes};
+ghost use Rattle.snmp_wire.specs.ber.Writing.{Writes};
 
 /// Writes an octet before `end`, and returns its place.
 #[inline]

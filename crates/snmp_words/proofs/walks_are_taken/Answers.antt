@@ -7,14 +7,6 @@ pub returns-clause-joined : goal.returns-clause-joined
 unfolding clap_on_literals
 returns-clause-joined c path numbers = refl
 
-pub returns-clause-apart : goal.returns-clause-apart
-unfolding clap_on_literals
-returns-clause-apart c path numbers = refl
-
 pub returns-clause-joined_job : goal.returns-clause-joined_job
 unfolding clap_on_literals
 returns-clause-joined_job c path numbers = states _ _ refl
-
-pub returns-clause-apart_job : goal.returns-clause-apart_job
-unfolding clap_on_literals
-returns-clause-apart_job c path numbers = states _ _ refl

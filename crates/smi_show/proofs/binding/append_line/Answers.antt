@@ -4,20 +4,20 @@ use Rattle.smi_show.proofs.{NamesStated.name_stated, Texts.adds_both}
 use Rattle.smi_show.proofs.binding.append_line.Goals as goal
 
 pub returns : goal.returns
-returns g c =
+returns c =
     let letters = c.args.letters.now in
-    let naming = g.T.NameTree.naming c.args.tree.now in
-    let shown_name = names_by naming letters c.args.name.now in
+    let tree = c.args.tree.now in
+    let shown_name = names_by tree letters c.args.name.now in
     let front = front_text letters shown_name in
     let value = c.append_parts.ensures in (
       front ++ value.0 ++ codes "\n",
       record {
         shown_name = shown_name;
-        is_name = name_stated naming letters.names letters.numeric_index c.args.name.now;
+        is_name = name_stated tree letters.names letters.numeric_index c.args.name.now;
         shown = value.0;
         is_value = record {
-          names = names_by naming letters;
-          are_names = name_stated naming letters.names letters.numeric_index;
+          names = names_by tree letters;
+          are_names = name_stated tree letters.names letters.numeric_index;
           shows = value.1;
         };
         whole = refl;

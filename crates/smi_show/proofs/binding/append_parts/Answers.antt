@@ -7,9 +7,9 @@ use Rattle.smi_show.proofs.Texts.{adds_both}
 use Rattle.smi_show.proofs.binding.append_parts.Goals as goal
 
 pub returns : goal.returns
-returns g c =
+returns c =
     let letters = c.args.letters.now in
-    let names = names_by (g.T.NameTree.naming c.args.tree.now) letters in
+    let names = names_by c.args.tree.now letters in
     let front = front_text letters (names c.args.name.now) in
     let copied : option_copied c.as_ref.result ≡ c.args.found.now.syntax = search rules in
     let value = c.append_shown.ensures in (

@@ -7,9 +7,9 @@ use Rattle.smi_show.proofs.Texts.{adds_both}
 use Rattle.smi_show.proofs.binding.append_shown.Goals as goal
 
 pub returns-in-ObjectId : goal.returns-in-ObjectId
-returns-in-ObjectId g c =
+returns-in-ObjectId c =
     let letters = c.args.letters.now in
-    let names = names_by (g.T.NameTree.naming c.args.tree.now) letters in
+    let names = names_by c.args.tree.now letters in
     let word = type_word letters (codes "OID: ") in
     let text = word ++ names c.in-ObjectId.oid in
     let P : ValueRef → Type 0 = λ v. ShowsValue names letters (option_copied c.args.syntax) (datum v) text in (

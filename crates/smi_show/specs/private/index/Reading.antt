@@ -5,9 +5,9 @@ use Rattle.std.specs.Prelude.{Some, None, option_map, option_and_then, unwrap_or
 use Rattle.std.specs.List.{list_all}
 use Rattle.smi_show.specs.index.Index.{extent_of, is_octet, is_of_octets}
 use Rattle.smi_show.specs.index.Pieces.{Piece, as_numbers, index_pieces, is_text_among}
-use Rattle.smi_show.specs.declared.index.part.Extent.{Extent}
-use Rattle.smi_show.specs.declared.index.part.Extent.TheVariants.{Fixed, Counted, Implied}
-use Rattle.smi_show.specs.declared.index.part.IndexPart.{IndexPart}
+use Rattle.smi_tree.specs.declared.columns.index_part.Extent.{Extent}
+use Rattle.smi_tree.specs.declared.columns.index_part.IndexPart.{IndexPart}
+use Rattle.smi_tree.specs.declared.columns.index_part.Extent.TheVariants.{Fixed, Counted, Implied}
 
 -- the first `size` numbers and the rest
 abbrev pub front_and_rest : ℕ → List ℕ → Option (List ℕ × List ℕ)

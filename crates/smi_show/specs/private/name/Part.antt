@@ -2,12 +2,12 @@
 use Rattle.std.specs.Prelude.{Result, Ok, Err}
 use Rattle.smi_show.specs.index.Pieces as pieces
 use Rattle.smi_show.specs.{name.Word.Word, name.Word.a_piece, name.Word.a_label}
-use Rattle.smi_show.specs.{declared.name.error.NameError.NameError, declared.name.word.Part.Part}
-use Rattle.smi_show.specs.{declared.name.word.Piece.Piece, declared.name.scope.Scope.Scope}
+use Rattle.smi_show.specs.{declared.name.error.NameError.NameError, declared.name.part.Part.Part}
+use Rattle.smi_show.specs.{declared.name.part.Piece.Piece, declared.name.meaning.Scope.Scope}
 use Rattle.smi_show.specs.name.Meant as meant
-use Rattle.smi_show.specs.declared.name.word.Part.TheVariants as part
-use Rattle.smi_show.specs.declared.name.word.Piece.TheVariants.{Number, Counted, Plain}
-use Rattle.smi_show.specs.declared.name.scope.Scope.TheVariants.{Module, Anywhere, Roots}
+use Rattle.smi_show.specs.declared.name.part.Part.TheVariants as part
+use Rattle.smi_show.specs.declared.name.part.Piece.TheVariants.{Number, Counted, Plain}
+use Rattle.smi_show.specs.declared.name.meaning.Scope.TheVariants.{Module, Anywhere, Root}
 
 abbrev pub piece_in : Piece → pieces.Piece
 piece_in (Number n) = pieces.plain_number n
@@ -25,4 +25,4 @@ outcome_in (Err fault) = Err fault
 abbrev pub scope_in : Scope → meant.Scope
 scope_in (Module home) = meant.in_module home.now
 scope_in Anywhere = meant.anywhere
-scope_in Roots = meant.among_roots
+scope_in Root = meant.among_roots

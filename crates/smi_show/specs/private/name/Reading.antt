@@ -2,7 +2,8 @@
 use Rattle.std.specs.Prelude.{ℕ, List, Option, option_map, Result, Ok, Err}
 use Rattle.std.specs.Borrow.{Bor}
 use Rattle.smi_show.specs.{private.name.Left.parts_left, name.Meaning.further_meaning}
-use Rattle.smi_show.specs.{name.Naming.Naming, declared.name.error.NameError.NameError}
+use Rattle.smi_show.specs.{declared.name.error.NameError.NameError}
+use Rattle.smi_tree.specs.Tree.{Contents}
 
 -- the identifier, or the fault
 abbrev pub read_to : Result (Unit {0}) NameError → List ℕ → Result (List ℕ) NameError
@@ -10,8 +11,8 @@ read_to (Ok done) o = Ok o
 read_to (Err fault) o = Err fault
 
 -- what is meant, once the parts before what is left were read to an identifier, or had a fault
-abbrev pub meant_with : Naming → Result (Option (Bor (List ℕ))) NameError → List ℕ
+abbrev pub meant_with : Contents → Result (Option (Bor (List ℕ))) NameError → List ℕ
     → Result (List ℕ) NameError
-meant_with naming (Ok left) o =
-    further_meaning naming o (parts_left (option_map (λ rest. rest.now) left))
-meant_with naming (Err fault) o = Err fault
+meant_with tree (Ok left) o =
+    further_meaning tree o (parts_left (option_map (λ rest. rest.now) left))
+meant_with tree (Err fault) o = Err fault

@@ -2,21 +2,23 @@
 use Rattle.std.specs.Prelude.{ℕ, Bool, if◌then◌else◌, List, ◌++◌, drop, Option, Some, None}
 use Rattle.snmp_oid.specs.Numeric.{numeric_text}
 use Rattle.smi_show.specs.{index.Pieces.shown_pieces, private.index.Reading.instance_pieces}
-use Rattle.smi_show.specs.{name.Name.node_text, name.Naming.Naming, name.Naming.Standing}
-use Rattle.smi_value.specs.declared.letters.letters.NameForm.{NameForm}
-use Rattle.smi_value.specs.declared.letters.letters.NameForm.TheVariants.{Numeric}
+use Rattle.smi_show.specs.{name.Name.node_text}
+use Rattle.smi_tree.specs.Tree.{Contents}
+use Rattle.smi_tree.specs.Naming.{Standing, nearest_node}
+use Rattle.smi_value.specs.declared.letters.NameForm.{NameForm}
+use Rattle.smi_value.specs.declared.letters.NameForm.TheVariants.{Numeric}
 
 -- the numbers after the node
 abbrev pub instance_text : Bool → List ℕ → Standing → List ℕ
 instance_text numeric_index o node =
     shown_pieces (instance_pieces (if numeric_index then None else node.index) (drop node.depth o))
 
-abbrev pub standing_text : Naming → NameForm → Bool → List ℕ → Option Standing → List ℕ
-standing_text naming form numeric_index o None = numeric_text o
-standing_text naming form numeric_index o (Some node) =
-    node_text naming form o node ++ instance_text numeric_index o node
+abbrev pub standing_text : Contents → NameForm → Bool → List ℕ → Option Standing → List ℕ
+standing_text tree form numeric_index o None = numeric_text o
+standing_text tree form numeric_index o (Some node) =
+    node_text tree form o node ++ instance_text numeric_index o node
 
 -- in numbers, or by the deepest node
-abbrev pub name_text : Naming → NameForm → Bool → List ℕ → List ℕ
-name_text naming Numeric numeric_index o = numeric_text o
-name_text naming form numeric_index o = standing_text naming form numeric_index o (naming.deepest o)
+abbrev pub name_text : Contents → NameForm → Bool → List ℕ → List ℕ
+name_text tree Numeric numeric_index o = numeric_text o
+name_text tree form numeric_index o = standing_text tree form numeric_index o (nearest_node tree o)

@@ -11,6 +11,6 @@ modules-preserved c = record {
       let name : c.in_ok-new.field-0 ≡ c.index-modules-i.result.name.octets = c.in_ok-new.ensures ∙ c.as_bytes.ensures.octets in
       let step = rw (← c.index-modules-i.is) at
       (more (λ (n : Module). same_text n.name.octets x) c.args.modules.now c.modules.i c.index-modules-i.result inside) in
-      c.in_ok-put_first.ensures.put x ∙ rw (name, c.modules.invariant.placed x) (sym step);
-  hashed = c.in_ok-put_first.ensures.hashed ∙ c.modules.invariant.hashed;
+      c.in_ok-insert_if_absent.ensures.put x ∙ rw (name, c.modules.invariant.placed x) (sym step);
+  hashed = c.in_ok-insert_if_absent.ensures.hashed ∙ c.modules.invariant.hashed;
 }

@@ -2,11 +2,11 @@
 use Rattle.std.proofs.Common.{rules, ◌≡◌, ◌<◌, ◌≤◌, length, get_or, None, ◌∙◌, sym}
 use Rattle.std.proofs.lemmas.List.{take_all}
 use Rattle.indexmap.specs.IndexMap.{get}
-use Rattle.smi_names.specs.declared.nodes.source.Source.TheVariants as S
+use Rattle.smi_names.specs.declared.nodes.gather.Source.TheVariants as S
 use Rattle.smi_tree.specs.Places.{has_label, label_from, same_key}
 use Rattle.smi_tree.proofs.{First.more, First.or_else_none, Scoping.others-more, Scoping.first_is}
 use Rattle.smi_tree.proofs.places.labels.Goals as goal
-use Rattle.smi_tree.proofs.places.labels.Goals.{in-Some+in_ok-put_first, in_default}
+use Rattle.smi_tree.proofs.places.labels.Goals.{in-Some+in_ok-insert_if_absent, in_default}
 
 pub sources-preserved : goal.sources-preserved
 sources-preserved c =
@@ -22,13 +22,13 @@ sources-preserved c =
       labels = λ x. c.in_ok-first.ensures.put x ∙ rw (name, c.sources.invariant.labels x) (sym (more (has_label ms x) ss k (S.Root 0) inside));
       others = others-more ms c.args.homes.now ss c.sources.others c.match-key_of.others k c.in_ok-first.first (S.Root 0) c.requires inside first
           (λ y. elim c.match-key_of.branch [
-            | in-Some+in_ok-put_first w ↦ rw (w.others-is, ← c.key_of.ensures, w.in-Some.is) (w.in_ok-put_first.ensures.put y)
+            | in-Some+in_ok-insert_if_absent w ↦ rw (w.others-is, ← c.key_of.ensures, w.in-Some.is) (w.in_ok-insert_if_absent.ensures.put y)
             | in_default w ↦ (let none : c.key_of.result ≡ None = search rules in
                 rw (w.others-is, ← c.key_of.ensures, none) (sym (or_else_none (get same_key c.sources.others y))))
           ]) c.sources.invariant.others;
       hashed_labels = c.in_ok-first.ensures.hashed ∙ c.sources.invariant.hashed_labels;
       hashed_others = elim c.match-key_of.branch [
-        | in-Some+in_ok-put_first w ↦ rw w.others-is (w.in_ok-put_first.ensures.hashed ∙ c.sources.invariant.hashed_others)
+        | in-Some+in_ok-insert_if_absent w ↦ rw w.others-is (w.in_ok-insert_if_absent.ensures.hashed ∙ c.sources.invariant.hashed_others)
         | in_default w ↦ rw w.others-is c.sources.invariant.hashed_others
       ];
     }

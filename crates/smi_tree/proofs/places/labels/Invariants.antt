@@ -1,12 +1,13 @@
 use Rattle.std.proofs.Common.{◌≡◌, ℕ, List, take}
 use Rattle.std.specs.List.{position_from}
 use Rattle.indexmap.specs.IndexMap.{hasher_of}
-use Rattle.smi_tree.specs.Places.{kept_place, has_label, AreOthers}
+use Rattle.smi_names.specs.meaning.Scopes.{place_in}
+use Rattle.smi_tree.specs.Places.{has_label, AreOthers}
 use Rattle.smi_tree.proofs.places.labels.Given as goal
 
 abbrev pub invariant-sources : goal.invariant-sources
 invariant-sources l = record {
-  labels : (x : List ℕ) → kept_place l.labels x ≡ position_from (has_label l.modules x) 0 (take l.k l.sources);
+  labels : (x : List ℕ) → place_in l.labels x ≡ position_from (has_label l.modules x) 0 (take l.k l.sources);
   others : AreOthers l.modules l.sources l.others (take l.k l.sources);
   hashed_labels : hasher_of l.labels ≡ l.fn.hash;
   hashed_others : hasher_of l.others ≡ l.fn.hash;

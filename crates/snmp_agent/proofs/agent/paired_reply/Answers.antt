@@ -3,7 +3,7 @@ use Rattle.std.proofs.Common.{◌≡◌, ◌⊎◌, inl, inr, ◌<◌, ◌-◌, 
 use Rattle.snmp_wire.specs.{Canon.canon_bindings, Message.Message}
 use Rattle.snmp_agent.specs.{Reply.Fits, Reply.response, Reply.shortened, Reply.too_big, Reply.whole, table.Table.MibView}
 use Rattle.snmp_agent.specs.private.Answering.{answers_to, held, whole_index, whole_status}
-use Rattle.snmp_agent.proofs.{Fronts.HoldsFront, Fronts.all_front, Fronts.no_bindings, ReplyBindings.all_or_full, Requests.whole_response}
+use Rattle.snmp_agent.proofs.{Fronts.HoldsFront, Fronts.all_front, Fronts.no_bindings, Fronts.all_or_full, Requests.whole_response}
 use Rattle.snmp_agent.proofs.agent.paired_reply.Goals as goal
 use Rattle.snmp_agent.proofs.agent.paired_reply.Goals.{After-append_answers-bindings}
 

@@ -2,9 +2,9 @@
 use Rattle.std.specs.Prelude.{ℕ, ◌≤◌, List, length, codes}
 use Rattle.snmp_wire.specs.Message.{Datum}
 use Rattle.snmp_wire.specs.Message.Datum.{octet_string, object_id, opaque_octets}
-use Rattle.snmp_agent.specs.{declared.table.value.Tag.Tag, declared.table.row.RowText.RowText}
+use Rattle.snmp_agent.specs.{declared.table.value.Tag.Tag, declared.table.value.RowText.RowText}
 use Rattle.snmp_agent.specs.declared.table.value.Tag.TheVariants as tag
-use Rattle.snmp_agent.specs.declared.table.row.RowText.TheVariants as value
+use Rattle.snmp_agent.specs.declared.table.value.RowText.TheVariants as value
 
 -- the value that a row's stands for
 abbrev pub datum_of : RowText → Datum

@@ -1,5 +1,5 @@
 use Rattle.std.proofs.Common.{◌≡◌, ◌++◌, ℕ, List, codes, subst, rules}
-use Rattle.snmp_io.specs.draft.Draft.{Adds}
+use Rattle.snmp_io.specs.Draft.{Adds}
 use Rattle.std.specs.Fmt.{signed_decimal}
 use Rattle.snmp_tools.specs.Message.{status_name}
 use Rattle.snmp_tools.proofs.Texts.{adds_after}

@@ -5,7 +5,7 @@ use Rattle.snmp_tools.proofs.laws.served_walks_in_numbers.Goals as goal
 pub returns : goal.returns
 returns c = record {
   asked =
-      asked_in_numbers c.bare_tree.ensures c.numbers_are_read.ensures (c.names_are_meant.ensures bare_mib.naming) c.instances_below.ensures.below
-      c.instances_below.ensures.ordered c.one_answer.ensures.get (c.table_of_lines.ensures (names_in bare_mib.naming))
-      (c.unmarked_table.ensures.table (names_in bare_mib.naming));
+      asked_in_numbers c.bare_tree.ensures c.numbers_are_read.ensures (c.names_are_meant.ensures bare_mib) c.instances_below.ensures.below
+      c.instances_below.ensures.ordered c.one_answer.ensures.get (c.table_of_lines.ensures (names_in bare_mib))
+      (c.unmarked_table.ensures.table (names_in bare_mib));
 }

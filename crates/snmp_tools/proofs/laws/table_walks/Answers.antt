@@ -13,6 +13,6 @@ returns-clause-stated c = λ path root.
 
 pub returns-clause-printed : goal.returns-clause-printed
 returns-clause-printed c =
-    prints_rows c.bare_tree.ensures c.numbers_are_read.ensures (c.names_are_meant.ensures bare_mib.naming) c.instances_below.ensures.below
-    c.instances_below.ensures.ordered c.one_answer.ensures.get (c.table_of_lines.ensures (names_in bare_mib.naming))
-    (c.unmarked_table.ensures.table (names_in bare_mib.naming)) c.short_rows_have_room.ensures
+    prints_rows c.bare_tree.ensures c.numbers_are_read.ensures (c.names_are_meant.ensures bare_mib) c.instances_below.ensures.below
+    c.instances_below.ensures.ordered c.one_answer.ensures.get (c.table_of_lines.ensures (names_in bare_mib))
+    (c.unmarked_table.ensures.table (names_in bare_mib)) c.short_rows_have_room.ensures

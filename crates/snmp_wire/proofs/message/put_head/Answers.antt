@@ -1,6 +1,6 @@
 use Rattle.std.proofs.{Common.◌++◌, Common.arith, Common.rules, lemmas.Int.to_z-of_z}
 use mir.Syntax.{w32}
-use Rattle.snmp_wire.specs.{Canon.canon_fields, Parts.parts_message, ber.Canon.canon_header, ber.Spelling.sequence_tag, private.ber.Writing.Writes}
+use Rattle.snmp_wire.specs.{Canon.canon_fields, Parts.parts_message, ber.Canon.canon_header, ber.Spelling.sequence_tag, ber.Writing.Writes}
 use Rattle.snmp_wire.proofs.MessageWriting.{length-canon_fields, list_fits, message_header_fits, opening_fits, pdu_header_fits, writes_fields}
 use Rattle.snmp_wire.proofs.MessageWriting.{writes_front, writes_head}
 use Rattle.snmp_wire.proofs.message.put_head.Goals as goal

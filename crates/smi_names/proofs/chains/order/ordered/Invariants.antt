@@ -1,5 +1,5 @@
 use Rattle.std.proofs.Common.{◌≡◌, ◌≢◌, ℕ, ◌<◌, []}
-use Rattle.smi_names.specs.private.chains.Search.{Keeps, mark_at}
+use Rattle.smi_names.specs.private.Search.{Keeps, mark_at}
 use Rattle.smi_names.specs.declared.chains.order.Mark.TheVariants as M
 use Rattle.smi_names.proofs.chains.order.ordered.Given as goal
 

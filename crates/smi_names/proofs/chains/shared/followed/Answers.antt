@@ -1,8 +1,8 @@
 -- No numbers are added.
 use Rattle.std.proofs.Common.{rules, ◌≡◌, [], length, get_or, sym, ◌∙◌}
 use Rattle.std.proofs.lemmas.List.{append-nil, get_or_default, nil_from_length}
-use Rattle.smi_names.specs.chains.Resolving.{resolution_at}
-use Rattle.smi_names.specs.declared.chains.resolution.Resolution.TheVariants as R
+use Rattle.smi_names.specs.chains.Resolution.{resolution_at}
+use Rattle.smi_names.specs.declared.chains.shared.Resolution.TheVariants as R
 use Rattle.smi_names.proofs.Sharing.{followed_by_none}
 use Rattle.smi_names.proofs.chains.shared.followed.Goals as goal
 

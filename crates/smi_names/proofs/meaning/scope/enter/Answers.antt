@@ -8,10 +8,10 @@ pub returns-then-first-place : goal.returns-then-first-place
 returns-then-first-place c =
     let e = c.args.entry in
     let p = c.in_ok-first.first in
-    let there = had_place (place_in c.args.scope.now e.name.now) p c.len-place.result c.in_ok-first.ensures.returned c.if-first-place.true in
+    let there = had_place (place_in c.args.scope.now e.name.now) p c.len-place.result (rw c.new.ensures at c.in_ok-first.ensures.returned) c.if-first-place.true in
     record {
-      entered = KnowsMore-there c.args.entries.now.items c.args.scope.now e.module.now e.source.0 c.requires.within c.put_first.new.scope
-          e.name.now (decision_of e.decider) p c.len-place.result there c.in_ok-first.ensures.put;
+      entered = KnowsMore-there c.args.entries.now.items c.args.scope.now e.module.now e.source.0 c.requires.within c.insert_if_absent.new.places
+          e.name.now (decision_of e.decider) p c.len-place.result there (rw c.new.ensures at c.in_ok-first.ensures.put);
     }
 
 pub returns : goal.returns
@@ -19,13 +19,13 @@ returns c =
     let e = c.args.entry in
     let pushed : c.push.new.self.items ≡ c.args.entries.now.items ++ c.args.entry ∷ [] = search rules in
     let place : c.len-place.result ≡ length c.args.entries.now.items = search rules in
-    let returned = rw place at c.in_ok-first.ensures.returned in
-    let put = rw place at c.in_ok-first.ensures.put in
+    let returned = rw (place, c.new.ensures) at c.in_ok-first.ensures.returned in
+    let put = rw (place, c.new.ensures) at c.in_ok-first.ensures.put in
     let last = rw place at c.if-first-place.false in
     let none = had_none (place_in c.args.scope.now e.name.now) c.in_ok-first.first (length c.args.entries.now.items) returned
     (c.requires.within e.name.now) last in
-    let places = put_absent c.args.scope.now c.put_first.new.scope e.name.now (length c.args.entries.now.items) none put in
+    let places = put_absent c.args.scope.now c.insert_if_absent.new.places e.name.now (length c.args.entries.now.items) none put in
     rw pushed (record {
-      entered = KnowsMore-entered c.args.entries.now.items c.args.scope.now e.module.now e.source.0 c.requires.within c.put_first.new.scope
+      entered = KnowsMore-entered c.args.entries.now.items c.args.scope.now e.module.now e.source.0 c.requires.within c.insert_if_absent.new.places
           e.name.now e none places refl refl (refl, refl, c.requires.found);
     })

@@ -1,6 +1,6 @@
 use Rattle.std.proofs.Common.{take}
 use Rattle.std.specs.List.{flat_map}
-use Rattle.snmp_io.specs.draft.Draft.{Grows}
+use Rattle.snmp_io.specs.Draft.{Grows}
 use Rattle.smi_show.specs.details.Syntax.{more_ranges}
 use Rattle.smi_show.proofs.details.syntax.more_ranges.Given as goal
 

@@ -1,11 +1,11 @@
 use Rattle.std.proofs.Common.{◌≡◌, take}
-use Rattle.snmp_io.specs.draft.Draft.{Grows}
+use Rattle.snmp_io.specs.Draft.{Grows}
 use Rattle.smi_show.specs.details.Value.{labelled_parts}
 use Rattle.smi_show.proofs.details.value.labelled_parts.Given as goal
 
 -- the numbers up to here are shown
 abbrev pub invariant-each : goal.invariant-each
-invariant-each g l = record {
+invariant-each l = record {
   here : l.here ≡ take l.number-index l.numbers;
-  grows : Grows l.initial.draft (labelled_parts (g.T.NameTree.naming l.tree) l.here) l.draft;
+  grows : Grows l.initial.draft (labelled_parts l.tree l.here) l.draft;
 }

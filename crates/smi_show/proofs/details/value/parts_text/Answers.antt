@@ -1,6 +1,7 @@
 use Rattle.std.proofs.lemmas.Grind.{common_steps}
 use Rattle.std.proofs.Common.{◌≡◌, ◌-◌, ◌≤◌, ℕ, List, [], ◌∷◌, ◌++◌, length, get_or, take, codes, decimal, refl, arith}
-use Rattle.smi_show.specs.{details.Value.labelled_parts, details.Value.parts_text, name.Beginnings.last_number, name.Naming.Naming}
+use Rattle.smi_show.specs.{details.Value.labelled_parts, details.Value.parts_text}
+use Rattle.smi_tree.specs.{Nodes.last_number, Tree.Contents}
 use Rattle.smi_show.proofs.Texts.{adds_both}
 use Rattle.smi_show.proofs.details.value.parts_text.Goals as goal
 
@@ -9,12 +10,12 @@ last_at n [] = refl
 last_at n (next ∷ more) = last_at next more
 
 -- the last number stands at the last place
-by_places : (naming : Naming) (numbers : List ℕ) → 1 ≤ length numbers
-    → labelled_parts naming (take (length numbers - 1) numbers) ++ decimal (get_or numbers (length numbers - 1) 0) ++ codes " " ≡ parts_text naming numbers
-by_places naming [] some = absurd (omega arith)
-by_places naming (n ∷ more) some =
+by_places : (tree : Contents) (numbers : List ℕ) → 1 ≤ length numbers
+    → labelled_parts tree (take (length numbers - 1) numbers) ++ decimal (get_or numbers (length numbers - 1) 0) ++ codes " " ≡ parts_text tree numbers
+by_places tree [] some = absurd (omega arith)
+by_places tree (n ∷ more) some =
     let place : length (n ∷ more) - 1 ≡ length more = omega arith in
     rw (place, last_at n more) refl
 
 pub returns-in-len1-up : goal.returns-in-len1-up
-returns-in-len1-up g c = grind (arith, common_steps, adds_both, by_places)
+returns-in-len1-up c = grind (arith, common_steps, adds_both, by_places)

@@ -1,5 +1,6 @@
 use Rattle.std.proofs.Common.{◌≡◌, ℕ, List, Bor, Option, Some, None, IfSome, IfNone, option_map, ◌∙◌, sym}
-use Rattle.smi_show.specs.{declared.index.part.IndexPart.IndexPart, index.Index.ReadsValue, private.index.Reading.front_of}
+use Rattle.smi_show.specs.{index.Index.ReadsValue, private.index.Reading.front_of}
+use Rattle.smi_tree.specs.declared.columns.index_part.IndexPart.{IndexPart}
 use Rattle.smi_show.proofs.ReadingLemmas.{part_found, part_only}
 use Rattle.smi_show.proofs.index.part.read_part.Goals as goal
 

@@ -1,5 +1,5 @@
 use Rattle.std.proofs.Common.{◌≡◌, ◌≤◌, ◌++◌, ℕ, List, take}
-use Rattle.snmp_io.specs.draft.Draft.{Grows}
+use Rattle.snmp_io.specs.Draft.{Grows}
 use Rattle.smi_show.specs.index.Pieces.{as_numbers, shown_pieces}
 use Rattle.smi_show.proofs.index.shown.numbers_text.Given as goal
 

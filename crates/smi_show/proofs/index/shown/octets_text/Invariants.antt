@@ -1,5 +1,5 @@
 use Rattle.std.proofs.Common.{take}
-use Rattle.snmp_io.specs.draft.Draft.{Grows}
+use Rattle.snmp_io.specs.Draft.{Grows}
 use Rattle.smi_show.proofs.index.shown.octets_text.Given as goal
 
 abbrev pub invariant-octets : goal.invariant-octets

@@ -1,5 +1,5 @@
 use Rattle.std.proofs.Common.{◌≡◌, ℕ, List, ◌++◌, drop, Some}
-use Rattle.snmp_io.specs.draft.Draft.{Grows}
+use Rattle.snmp_io.specs.Draft.{Grows}
 use Rattle.smi_show.specs.{private.index.Reading.values_of, index.Pieces.index_pieces, index.Pieces.shown_pieces}
 use Rattle.smi_show.proofs.index.shown.values_text.Given as goal
 

@@ -5,7 +5,7 @@ use Rattle.smi_show.proofs.{MeantTexts.means, NumericMeaning.numeric_meaning}
 use Rattle.smi_show.proofs.name.laws.numbers_are_read.Goals as goal
 
 pub returns : goal.returns
-returns c = λ naming o is. (
+returns c = λ tree o is. (
     let text = numeric_text o in
-    subst (TextMeans naming text) (numeric_meaning naming text o (c.names.ensures.written_is_named o is) is.short) (means naming text)
+    subst (TextMeans tree text) (numeric_meaning tree text o (c.names.ensures.written_is_named o is) is.short) (means tree text)
     )

@@ -4,9 +4,9 @@ use Rattle.smi_show.proofs.name.meaning.further_meaning.Given as goal
 
 -- what is left means, after what stands so far, what the whole means
 abbrev pub invariant-parts : goal.invariant-parts
-invariant-parts g l =
-    further_meaning (g.T.NameTree.naming l.tree) l.oid (parts_left (option_map (λ s. s.now) l.left))
-    ≡ further_meaning (g.T.NameTree.naming l.tree) l.fn.oid (parts_left (option_map (λ s. s.now) l.fn.parts))
+invariant-parts l =
+    further_meaning l.tree l.oid (parts_left (option_map (λ s. s.now) l.left))
+    ≡ further_meaning l.tree l.fn.oid (parts_left (option_map (λ s. s.now) l.fn.parts))
 
 -- one more than is left
 abbrev octets_left : Option (List ℕ) → ℕ
@@ -14,4 +14,4 @@ octets_left None = 0
 octets_left (Some here) = length here + 1
 
 abbrev pub decreases-parts : goal.decreases-parts
-decreases-parts g l = octets_left (option_map (λ s. s.now) l.left)
+decreases-parts l = octets_left (option_map (λ s. s.now) l.left)

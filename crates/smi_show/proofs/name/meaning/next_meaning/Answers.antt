@@ -5,16 +5,16 @@ use Rattle.smi_show.proofs.name.meaning.next_meaning.Goals as goal
 
 -- a number was read, and appended
 pub returns-in-Ok-clause-meant : goal.returns-in-Ok-clause-meant
-returns-in-Ok-clause-meant g c =
-    let naming = g.T.NameTree.naming c.args.tree.now in
+returns-in-Ok-clause-meant c =
+    let tree = c.args.tree.now in
     let left = option_map (λ rest. rest.now) c.in-Some.rest in
-    ap (λ (r : Result (List ℕ) NameError). and_then r (λ p. further_meaning naming p (parts_left left))) c.in-Ok.ensures
-    ∙ sym (number_further naming c.args.oid.now c.args.text.now c.in-Some.number left c.in-Some.ensures)
+    ap (λ (r : Result (List ℕ) NameError). and_then r (λ p. further_meaning tree p (parts_left left))) c.in-Ok.ensures
+    ∙ sym (number_further tree c.args.oid.now c.args.text.now c.in-Some.number left c.in-Some.ensures)
 
 -- a number was read, for which there is no room
 pub returns-in-Err-clause-meant : goal.returns-in-Err-clause-meant
-returns-in-Err-clause-meant g c =
-    let naming = g.T.NameTree.naming c.args.tree.now in
+returns-in-Err-clause-meant c =
+    let tree = c.args.tree.now in
     let left = option_map (λ rest. rest.now) c.in-Some.rest in
-    ap (λ (r : Result (List ℕ) NameError). and_then r (λ p. further_meaning naming p (parts_left left))) c.in-Err.ensures
-    ∙ sym (number_further naming c.args.oid.now c.args.text.now c.in-Some.number left c.in-Some.ensures)
+    ap (λ (r : Result (List ℕ) NameError). and_then r (λ p. further_meaning tree p (parts_left left))) c.in-Err.ensures
+    ∙ sym (number_further tree c.args.oid.now c.args.text.now c.in-Some.number left c.in-Some.ensures)

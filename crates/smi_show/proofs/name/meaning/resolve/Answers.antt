@@ -4,9 +4,9 @@ use Rattle.smi_show.proofs.{MeantTexts.means, NamesStated.name_only, ReadBack.na
 use Rattle.smi_show.proofs.name.meaning.resolve.Goals as goal
 
 pub returns-clause-reads_back : goal.returns-clause-reads_back
-returns-clause-reads_back g c = grind (arith, common_steps, name_only, name_back)
+returns-clause-reads_back c = grind (arith, common_steps, name_only, name_back)
 
 pub returns-clause-stated : goal.returns-clause-stated
-returns-clause-stated g c =
-    let naming = g.T.NameTree.naming c.args.tree.now in
-    subst (TextMeans naming c.args.text.now) (sym c.meaning_of.ensures) (means naming c.args.text.now)
+returns-clause-stated c =
+    let tree = c.args.tree.now in
+    subst (TextMeans tree c.args.text.now) (sym c.meaning_of.ensures) (means tree c.args.text.now)

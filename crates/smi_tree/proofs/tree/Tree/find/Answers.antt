@@ -3,7 +3,7 @@ use Rattle.std.proofs.Common.{arith, rules, ◌≡◌, ℕ, true, false, List, l
 use Rattle.std.proofs.{lemmas.Grind.common_steps, lemmas.Option.slice_get_within, lemmas.Option.slice_get_read}
 use Rattle.std.specs.List.{slice_get, position_from}
 use Rattle.smi_text.specs.declared.trees.tree.Module.{Module}
-use Rattle.smi_names.specs.{nodes.Nodes.Node, nodes.Gathered.nodes_of, declared.nodes.source.Source.Source}
+use Rattle.smi_names.specs.{nodes.Nodes.Node, nodes.Gathered.nodes_of, declared.nodes.gather.Source.Source}
 use Rattle.smi_tree.specs.{Nodes.is_named, Nodes.place_anywhere, Places.has_label, Places.home_from}
 use Rattle.smi_tree.specs.Nodes as nodes
 use Rattle.smi_tree.proofs.Bridging.{anywhere-sources, in_module-sources}

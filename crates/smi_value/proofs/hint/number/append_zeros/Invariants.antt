@@ -1,5 +1,5 @@
 use Rattle.std.proofs.Common.{replicate}
-use Rattle.snmp_io.specs.draft.Draft.{Grows}
+use Rattle.snmp_io.specs.Draft.{Grows}
 use Rattle.smi_value.proofs.hint.number.append_zeros.Given as goal
 
 abbrev pub invariant-zeros : goal.invariant-zeros

@@ -1,6 +1,6 @@
 use Rattle.std.proofs.Common.{take}
 use Rattle.std.specs.List.{flat_map}
-use Rattle.snmp_io.specs.draft.Draft.{Grows}
+use Rattle.snmp_io.specs.Draft.{Grows}
 use Rattle.smi_value.specs.hint.Pieces.{marked_text}
 use Rattle.smi_value.proofs.hint.octets.append_others.Given as goal
 

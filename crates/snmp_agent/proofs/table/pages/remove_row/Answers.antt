@@ -15,4 +15,4 @@ returns-else-len-gt1 c = λ page at.
     let found : c.index.result.now ≡ page = page_read pages c.args.place page c.index.result.now at c.index.ensures in
     let few : length c.index.result.now.rows.items ≤ 1 = search rules in
     let one : length page.rows.items ≤ 1 = subst (λ (p : Page). length p.rows.items ≤ 1) found few in
-    ap entries_in (c.give_back.ensures ∙ c.remove-else-len-gt1.ensures.items) ∙ without_page pages c.args.place page c.args.row low one
+    ap entries_in c.remove-else-len-gt1.ensures.items ∙ without_page pages c.args.place page c.args.row low one

@@ -1,4 +1,4 @@
-use Rattle.std.proofs.Common.{◌≡◌, ◌≢◌, ◌∙◌, ◌++◌, sym, ℕ, List, codes}
+use Rattle.std.proofs.Common.{◌≡◌, ◌∙◌, sym, codes}
 use Rattle.snmp_net.specs.Address.{Address, IsAgent, udp}
 use Rattle.snmp_net.proofs.Words.{after_prefix, plain_none, plain_only, udp_none, udp_only}
 use Rattle.snmp_net.proofs.address.AgentAddress.read.Goals as goal

@@ -1,5 +1,5 @@
 use Rattle.std.proofs.Common.{◌≡◌, sym, subst}
-use Rattle.snmp_io.specs.draft.Draft.{Adds, Written}
+use Rattle.snmp_io.specs.Draft.{Adds, Written}
 use Rattle.snmp_tools.specs.{Message.fault_of, Message.fault_message, declared.failure.Failure.Failure}
 use Rattle.snmp_tools.proofs.failure.Failure.append_message.Goals as goal
 

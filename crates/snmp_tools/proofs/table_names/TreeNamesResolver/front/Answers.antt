@@ -2,13 +2,13 @@ use Rattle.snmp_tools.proofs.TableNames.{front_named, front_unnamed}
 use Rattle.snmp_tools.proofs.table_names.TreeNamesResolver.front.Goals as goal
 
 pub returns-in-Ok : goal.returns-in-Ok
-returns-in-Ok g c =
-    let naming = g.T.NameTree.naming c.args.self.now.tree.now in
-    front_named c.one_meaning.ensures.only naming (c.names_are_meant.ensures naming) c.args.text.now
+returns-in-Ok c =
+    let tree = c.args.self.now.tree.now in
+    front_named c.one_meaning.ensures.only tree (c.names_are_meant.ensures tree) c.args.text.now
     c.resolve_front_into.new.oid c.in-Ok.size c.as_slice.ensures.is_identifier c.in-Ok.ensures
 
 pub returns-in-Err : goal.returns-in-Err
-returns-in-Err g c =
-    let naming = g.T.NameTree.naming c.args.self.now.tree.now in
-    front_unnamed c.one_meaning.ensures.only naming (c.names_are_meant.ensures naming) c.args.text.now
+returns-in-Err c =
+    let tree = c.args.self.now.tree.now in
+    front_unnamed c.one_meaning.ensures.only tree (c.names_are_meant.ensures tree) c.args.text.now
     c.in-Err.field-0 c.in-Err.ensures

@@ -1,6 +1,6 @@
 use Rattle.std.proofs.Common.{◌≤◌, length, drop}
 use Rattle.std.specs.List.{flat_map}
-use Rattle.snmp_wire.specs.{ber.Canon.canon_subidentifier, private.ber.Writing.Writes}
+use Rattle.snmp_wire.specs.{ber.Canon.canon_subidentifier, ber.Writing.Writes}
 use Rattle.snmp_wire.proofs.ber.identifier.put_other_numbers.Given as goal
 
 -- the numbers from this one on are written

@@ -1,5 +1,5 @@
 use Rattle.std.proofs.Common.{◌≡◌, ◌-◌, ◌/◌, ◌^◌, ◌≤◌}
-use Rattle.snmp_wire.specs.{ber.Canon.septets, private.ber.Writing.Writes}
+use Rattle.snmp_wire.specs.{ber.Canon.septets, ber.Writing.Writes}
 use Rattle.snmp_wire.proofs.ber.identifier.put_septets.Given as goal
 
 -- the lowest digits are written, and `rest` has the others

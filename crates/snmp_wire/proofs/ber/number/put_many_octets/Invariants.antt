@@ -1,5 +1,5 @@
 use Rattle.std.proofs.Common.{◌≡◌, ◌-◌, ◌/◌, ◌^◌, ◌≤◌}
-use Rattle.snmp_wire.specs.{ber.Canon.octets, private.ber.Writing.Writes}
+use Rattle.snmp_wire.specs.{ber.Canon.octets, ber.Writing.Writes}
 use Rattle.snmp_wire.proofs.ber.number.put_many_octets.Given as goal
 
 -- the lowest digits are written, and `rest` has the others

@@ -1,7 +1,7 @@
 -- A place is met: the path goes on by it, and fewer places are new.
 use Rattle.std.proofs.{lemmas.Grind.common_steps, lemmas.List.get_or-set_same}
 use Rattle.std.proofs.Common.{refl, rules, ◌≡◌, ◌<◌, inl, inr, [], ◌∷◌, ◌++◌, Some, set, length, arith, sym}
-use Rattle.smi_names.specs.{private.chains.Search.Leads, private.chains.Search.mark_at}
+use Rattle.smi_names.specs.{private.Search.Leads, private.Search.mark_at}
 use Rattle.smi_names.specs.declared.chains.order.Mark.TheVariants as M
 use Rattle.smi_names.proofs.Climbing.{marked, news-set, Keeps-met, Leads-push}
 use Rattle.smi_names.proofs.chains.order.Search.climb.Goals as goal

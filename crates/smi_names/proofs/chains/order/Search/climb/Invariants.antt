@@ -1,5 +1,5 @@
 use Rattle.std.proofs.Common.{◌≡◌, ◌≢◌, ◌⊎◌, ℕ, Some}
-use Rattle.smi_names.specs.private.chains.Search.{Keeps, Leads, mark_at}
+use Rattle.smi_names.specs.private.Search.{Keeps, Leads, mark_at}
 use Rattle.smi_names.specs.declared.chains.order.Mark.TheVariants as M
 use Rattle.smi_names.proofs.Climbing.{news}
 use Rattle.smi_names.proofs.chains.order.Search.climb.Given as goal

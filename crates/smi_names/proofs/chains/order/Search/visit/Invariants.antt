@@ -1,5 +1,5 @@
 use Rattle.std.proofs.Common.{◌≢◌, ℕ, vec_len}
-use Rattle.smi_names.specs.private.chains.Search.{Keeps, LeadsToSettled, mark_at}
+use Rattle.smi_names.specs.private.Search.{Keeps, LeadsToSettled, mark_at}
 use Rattle.smi_names.specs.declared.chains.order.Mark.TheVariants as M
 use Rattle.smi_names.proofs.chains.order.Search.visit.Given as goal
 

@@ -3,9 +3,9 @@ use Rattle.std.proofs.Common.{rules, inl, ◌≡◌, ◌<◌, ◌∷◌, [], len
 use Rattle.std.proofs.lemmas.List.{length-set, length-map, take_all, length-replicate}
 use Rattle.std.proofs.{lemmas.Bool.eqb-true, lemmas.List.Elements.All-get_or, lemmas.List.Elements.All-replicate}
 use Rattle.std.specs.List.{slice_get}
-use Rattle.smi_names.specs.{chains.Order.next_at, chains.Shared.shared, meaning.Parents.origin_here}
-use Rattle.smi_names.specs.chains.Resolving.{resolution_at, resolution_by, far_at}
-use Rattle.smi_names.specs.declared.chains.resolution.Resolution.TheVariants as R
+use Rattle.smi_names.specs.{chains.Order.next_at, chains.Resolution.shared, meaning.Parents.origin_here}
+use Rattle.smi_names.specs.chains.Resolution.{resolution_at, resolution_by, far_at}
+use Rattle.smi_names.specs.declared.chains.shared.Resolution.TheVariants as R
 use Rattle.smi_names.proofs.Filling.{Fills-start, Fills-step, filled}
 use Rattle.smi_names.proofs.Resolving.{ResolvesAt, beyond_comes, resolves_step, are_resolved}
 use Rattle.smi_names.proofs.Sharing.{shared-grown, AreWithin-grown, HasReasons-grown, shared-start}

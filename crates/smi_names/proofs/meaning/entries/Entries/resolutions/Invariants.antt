@@ -1,6 +1,6 @@
 use Rattle.std.proofs.Common.{◌≡◌, length, take}
-use Rattle.smi_names.specs.chains.Shared.{shared, AreWithin, HasReasons}
-use Rattle.smi_names.specs.declared.chains.resolution.Resolution.TheVariants as R
+use Rattle.smi_names.specs.chains.Resolution.{shared, AreWithin, HasReasons}
+use Rattle.smi_names.specs.declared.chains.shared.Resolution.TheVariants as R
 use Rattle.smi_names.proofs.{Filling.Fills, Resolving.ResolvesAt}
 use Rattle.smi_names.proofs.meaning.entries.Entries.resolutions.Given as goal
 

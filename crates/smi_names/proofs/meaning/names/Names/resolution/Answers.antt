@@ -1,6 +1,6 @@
 -- The name comes to what its place has.
 use Rattle.std.proofs.Common.{◌≡◌, sym}
-use Rattle.smi_names.specs.{chains.Shared.shared, meaning.Meaning.QualifiedName, meaning.Directory.place_by}
+use Rattle.smi_names.specs.{chains.Resolution.shared, meaning.Meaning.QualifiedName, meaning.Directory.place_by}
 use Rattle.smi_names.proofs.Equating.{resolved}
 use Rattle.smi_names.proofs.meaning.names.Names.resolution.Goals as goal
 

@@ -1,7 +1,7 @@
 -- The name comes to what its entry has.
 use Rattle.std.proofs.Common.{rules, ◌≡◌, true, sym}
 use Rattle.std.specs.List.{slice_get}
-use Rattle.smi_names.specs.{chains.Shared.shared, meaning.Meaning.QualifiedName, meaning.Directory.place_by, meaning.Directory.is_entry_of}
+use Rattle.smi_names.specs.{chains.Resolution.shared, meaning.Meaning.QualifiedName, meaning.Directory.place_by, meaning.Directory.is_entry_of}
 use Rattle.smi_names.proofs.Equating.{resolved, resolved_entry}
 use Rattle.smi_names.proofs.meaning.names.Names.resolution_of.Goals as goal
 

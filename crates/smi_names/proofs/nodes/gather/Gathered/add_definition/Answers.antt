@@ -2,9 +2,9 @@
 use Rattle.std.proofs.Common.{arith, rules, ◌≡◌, true, false, List, Option, Some, None, is_some, refl, sym}
 use Rattle.std.proofs.lemmas.Grind.{common_steps}
 use Rattle.smi_names.specs.{chains.Chain.here, chains.Resolution.ComesTo, meaning.Meaning.origin}
-use Rattle.smi_names.specs.declared.chains.resolution.Resolution.TheVariants as R
+use Rattle.smi_names.specs.declared.chains.shared.Resolution.TheVariants as R
 use Rattle.smi_text.specs.{declared.trees.tree.Part.Part, trees.Lookup.identifier_value_of}
-use Rattle.smi_names.specs.declared.nodes.source.Source.TheVariants as S
+use Rattle.smi_names.specs.declared.nodes.gather.Source.TheVariants as S
 use Rattle.smi_names.proofs.Gathering.{AddsDefinition-by, AddsDefinition-none}
 use Rattle.smi_names.proofs.nodes.gather.Gathered.add_definition.Goals as goal
 

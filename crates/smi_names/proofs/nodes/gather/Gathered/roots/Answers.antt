@@ -1,6 +1,6 @@
 -- The three roots, each with its number.
 use Rattle.std.proofs.Common.{rules, ◌≡◌, [], ◌∷◌, ◌++◌, refl}
-use Rattle.smi_names.specs.declared.nodes.source.Source.TheVariants as S
+use Rattle.smi_names.specs.declared.nodes.gather.Source.TheVariants as S
 use Rattle.smi_names.specs.nodes.Nodes.{none_yet}
 use Rattle.smi_names.proofs.nodes.gather.Gathered.roots.Goals as goal
 

@@ -1,7 +1,7 @@
 -- A name that has an identifier comes to nothing else.
 use Rattle.std.proofs.{Common.arith, Common.◌≡◌, lemmas.Grind.common_steps}
 use Rattle.smi_names.specs.{chains.Resolution.ComesTo, meaning.Meaning.origin, meaning.Meaning.QualifiedName}
-use Rattle.smi_names.specs.declared.chains.resolution.Resolution.TheVariants as R
+use Rattle.smi_names.specs.declared.chains.shared.Resolution.TheVariants as R
 use Rattle.smi_tree.proofs.columns.objects.Objects.has_identifier.Goals as goal
 
 pub returns-in-Some : goal.returns-in-Some

@@ -1,6 +1,0 @@
-use Rattle.std.proofs.Common.{None}
-use Rattle.smi_show.proofs.CutLemmas.{AreCutAt}
-use Rattle.smi_show.proofs.name.cut.cut_part.Given as goal
-
-abbrev pub invariant-octets : goal.invariant-octets
-invariant-octets l = AreCutAt l.text l.at None

@@ -1,0 +1,69 @@
+//! What a tree finds for an identifier: the node of its longest beginning.
+ghost use Rattle.std.specs.{Prelude.◌≡◌, Option.option_copied};
+ghost use Rattle.smi_names.specs.nodes.Nodes.{roots};
+ghost use Rattle.smi_tree.specs.{Naming.home_name, Nodes.place_anywhere};
+
+use crate::columns::IndexPart;
+use smi_names::root_arc;
+use smi_text::Module;
+use smi_value::ValueSyntax;
+use snmp_oid::Oid;
+
+/// Where a tree begins its next search: at the node that it found last. No result depends on it.
+#[derive(Clone, Copy, Debug)]
+pub struct Near {
+    /// A number by which the tree finds that node again.
+    pub place: usize,
+}
+
+impl Near {
+    /// For the first search.
+    pub fn new() -> Near {
+        Near { place: 0 }
+    }
+}
+
+/// What a tree finds for an identifier.
+#[derive(Drop)]
+pub struct Found<'a> {
+    /// The node that stands for the longest beginning of the identifier.
+    pub node: Option<NearestNode<'a>>,
+    /// The syntax of that node, if it is an object whose type is known.
+    pub syntax: Option<ValueSyntax<'a>>,
+    /// An identifier such that all identifiers below it have this node and this syntax, if the tree
+    /// knows one.
+    pub below: Option<&'a Oid>,
+}
+
+/// A node that stands for the beginning of an identifier.
+#[derive(Clone, Copy, Debug)]
+pub struct NearestNode<'a> {
+    /// The name of its module, None for a built-in root.
+    pub home: Option<&'a [u8]>,
+    /// Its label.
+    pub label: &'a [u8],
+    /// How many numbers its identifier has.
+    pub depth: usize,
+    /// The parts of the index of a column, None if it isn't a column or its index can't be read.
+    pub index: Option<&'a [IndexPart]>,
+}
+
+/// The place of the root of a label (RFC 2578, section 3.5).
+pub(crate) fn root_place(label: &[u8]) -> Option<usize>
+    ensures { result ≡ place_anywhere roots label.now }
+{
+    match root_arc(label) {
+        Some(number) => Some(number as usize),
+        None => None,
+    }
+}
+
+/// The name of a module.
+pub(crate) fn home_name(home: Option<&Module>) -> Option<&[u8]>
+    ensures { option_copied result ≡ home_name (option_copied home.entry) }
+{
+    match home {
+        Some(module) => Some(module.name.as_bytes()),
+        None => None,
+    }
+}

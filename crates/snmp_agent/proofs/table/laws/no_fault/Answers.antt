@@ -1,5 +1,0 @@
-use Rattle.snmp_agent.proofs.Faultless.{no_fault}
-use Rattle.snmp_agent.proofs.table.laws.no_fault.Goals as goal
-
-pub returns : goal.returns
-returns c = no_fault

@@ -1,5 +1,0 @@
-use Rattle.snmp_agent.proofs.Unique.{one_view}
-use Rattle.snmp_agent.proofs.table.laws.one_table.Goals as goal
-
-pub returns : goal.returns
-returns c = one_view

@@ -1,5 +1,0 @@
-use Rattle.snmp_agent.proofs.Made.{table_of_lines}
-use Rattle.snmp_agent.proofs.table.laws.table_of_lines.Goals as goal
-
-pub returns : goal.returns
-returns c = table_of_lines c.names.ensures.at_most_one

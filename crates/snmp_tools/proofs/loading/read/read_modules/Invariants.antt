@@ -1,7 +1,0 @@
-use Rattle.std.proofs.Common.{take}
-use Rattle.snmp_io.specs.Files.{MayHold}
-use Rattle.snmp_tools.specs.loading.Files.{AreModulesOf, texts}
-use Rattle.snmp_tools.proofs.loading.read.read_modules.Given as goal
-
-abbrev pub invariant-paths : goal.invariant-paths
-invariant-paths g l = AreModulesOf (MayHold (g.F.Files.text_at l.files)) (texts (take l.path-index l.paths)) l.modules.items

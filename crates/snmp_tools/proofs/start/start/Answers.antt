@@ -1,8 +1,0 @@
-use Rattle.std.proofs.Common.{inl, inr, refl, ap, Err}
-use Rattle.snmp_tools.proofs.start.start.Goals as goal
-
--- the root has an encoding, and the name to go on after is neither the root nor below it
-pub returns-in-Err-AfterOutsideRoot-clause-err : goal.returns-in-Err-AfterOutsideRoot-clause-err
-returns-in-Err-AfterOutsideRoot-clause-err c =
-    let f = rw (c.copy-root.ensures) at (c.in-Err-AfterOutsideRoot.ensures.outside (ap Err c.in-Err-AfterOutsideRoot.field-0-is)) in
-    inr (f.0, (c.in-Some.after, c.in-Some.is, inl (f.1, refl)))

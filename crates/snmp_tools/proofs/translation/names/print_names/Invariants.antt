@@ -1,9 +1,0 @@
-use Rattle.std.proofs.Common.{take}
-use Rattle.snmp_words.specs.Words.{texts_at}
-use Rattle.snmp_tools.specs.translation.Outcome.{AreNamesPrinted}
-use Rattle.snmp_tools.proofs.translation.names.print_names.Given as goal
-
-abbrev pub invariant-names : goal.invariant-names
-invariant-names g l =
-    AreNamesPrinted (record { naming = g.T.NameTree.naming l.tree; definition_at = g.T.DetailTree.definition_at l.tree }) l.style
-    (texts_at (take l.name-index l.names)) (g.O.Output.stream l.initial.out) (g.O.Output.stream l.out)

@@ -1,6 +1,0 @@
-use Rattle.std.proofs.Common.{◌≡◌, drop}
-use Rattle.snmp_tools.specs.translation.Style.{first_other_of_t}
-use Rattle.snmp_tools.proofs.translation.style.asks_details.Given as goal
-
-abbrev pub invariant-octets : goal.invariant-octets
-invariant-octets l = first_other_of_t l.text ≡ first_other_of_t (drop l.octet-index l.text)

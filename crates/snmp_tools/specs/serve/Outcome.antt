@@ -1,0 +1,82 @@
+-- What snmpd does and prints, and why it ends.
+use Rattle.std.specs.Prelude.{◌≡◌, ◌⊎◌, ◌+◌, ◌++◌, ℕ, List, Option, Some, codes, decimal}
+use Rattle.snmp_agent.specs.{Reply.Agent, declared.server.Served.Served, table.Table.MibView}
+use Rattle.snmp_io.specs.{Count.HasRisen, Files.MayHold, Output.Stream, Output.extended}
+use Rattle.smi_tree.specs.{Tree.Contents}
+use Rattle.snmp_net.specs.declared.links.Links.{Ghosts as Network}
+use Rattle.snmp_words.specs.Words.{ServeWords}
+use Rattle.snmp_tools.specs.serve.Service.{IsPlaced, IsServeRefusal, IsTableRefusal, served_agent}
+use Rattle.snmp_tools.specs.{serve.TableFile.HasTable, Message.Fault, Message.ended, Seen.Seen}
+use Rattle.snmp_tools.specs.load.Loaded.{IsLoaded, LoadFacts}
+use Rattle.snmp_tools.specs.Lines.{IsTextPrinted, StopsAtText}
+use Rattle.snmp_walk.specs.declared.end.WalkEnd.TheVariants as ending
+
+-- where requests are received, in the word's own octets
+abbrev pub listening_line : (word : List ℕ) → List ℕ
+listening_line word = codes "listening on " ++ word ++ codes "\n"
+
+-- how many requests were replied to, and how many dropped
+abbrev pub counts_line : Served → List ℕ
+counts_line served = decimal served.replies ++ codes " replies, " ++ decimal served.dropped
+    ++ codes " dropped\n"
+
+-- The line of the counts, which add up to the turns, follows that of the place. `Serves agent turns
+-- served` says what may have been served.
+abbrev pub IsServedAndCounted : (Serves : Agent → ℕ → Served → Type 0) → ServeWords → MibView
+    → (before after : Stream) → Option Fault → Type 0
+IsServedAndCounted Serves words view before after fault =
+    (served : Served) × Serves (served_agent words view) words.turns served
+    × (served.replies + served.dropped + served.idle + served.faults ≡ words.turns)
+    × IsTextPrinted before (counts_line served) after fault
+
+-- the place isn't printed, and nothing was served; or it is, and then the table is served
+abbrev pub IsServing : (Serves : Agent → ℕ → Served → Type 0) → (Unserved : Type 0) → ServeWords
+    → MibView → (before after : Stream) → Option Fault → Type 0
+IsServing Serves Unserved words view before after fault =
+    (StopsAtText before (listening_line words.listen) after fault × Unserved)
+    ⊎ IsServedAndCounted Serves words view (extended before (listening_line words.listen)) after
+    fault
+
+-- what may be served at the door by one call, which leads from one state of the network to
+-- another
+abbrev pub ServesAt : {N V D : Type 0} → Network N V D → (before : N) → D → (after : N) → Agent → ℕ
+    → Served → Type 0
+ServesAt {N} {V} {D} net before door after agent turns served =
+    (later : D) × net.serves before door agent turns served after later
+
+-- What snmpd did by the nodes of its modules, for this port of this host, and why it stopped, if
+-- it stopped before its turns were done. Where the table file is refused, the network is left as
+-- it was. Its count of faults rises only where a call of it failed.
+pub data IsServedBy {N V D : Type 0} (net : Network N V D) (words : ServeWords) (host : List ℕ)
+    (port : ℕ) (tree : Contents) (before after : Seen N) (fault : Option Fault) : Type 0 where
+  refused : (why : Fault) → IsTableRefusal words before.files tree why → after ≡ before
+      → fault ≡ Some why → IsServedBy net words host port tree before after fault
+  -- a call of the network failed, which it counted, and else nothing changed
+  not_bound : (view : MibView) → HasTable before.files tree words.table view
+      → net.fails before.links after.links
+      → HasRisen (net.fault_count before.links) (net.fault_count after.links)
+      → after ≡ record before { links = after.links }
+      → fault ≡ Some (ended words.listen ending.Link)
+      → IsServedBy net words host port tree before after fault
+  -- one door was opened, and once the place was printed, the table was served at it
+  bound : (view : MibView) (door : D) (opened : N)
+      → HasTable before.files tree words.table view
+      → net.binds before.links host port door opened
+      → net.fault_count after.links ≡ net.fault_count before.links
+      → IsServing (ServesAt net opened door after.links) (after.links ≡ opened) words view
+      before.out after.out fault
+      → IsServedBy net words host port tree before after fault
+
+-- What snmpd did and, of the warnings of its modules, wrote on standard error, and why it stopped,
+-- if it stopped before its turns were done: nothing where it was refused before the modules were
+-- loaded; else their warnings were written, before anything else.
+pub data IsServeOutcome {N V D : Type 0} (net : Network N V D) (Loads : LoadFacts)
+    (words : ServeWords) (before after : Seen N) (fault : Option Fault) : Type 0 where
+  not_loaded : (why : Fault) → IsServeRefusal words before.files why → after ≡ before
+      → fault ≡ Some why → IsServeOutcome net Loads words before after fault
+  loaded : (at : IsPlaced words) (tree : Contents)
+      → IsLoaded (MayHold before.files) words.mibs tree before.err after.err
+      → Loads words.mibs before.err after.err
+      → IsServedBy net words at.host at.port tree (record before { err = after.err })
+      after fault
+      → IsServeOutcome net Loads words before after fault

@@ -1,0 +1,29 @@
+-- The table that a file states, by the nodes of modules, or why it states none.
+use Rattle.std.specs.Prelude.{◌≡◌, ◌⊎◌, ◌↔◌, ℕ, List, Some, Ok}
+use Rattle.std.specs.Str.Lines.{lines}
+use Rattle.snmp_io.specs.Files.{Holdings, MayHold, MayHoldNone}
+use Rattle.snmp_agent.specs.table.Format.{Names, names_by, numeric_names}
+use Rattle.snmp_agent.specs.{table.Stated.IsFirstFault, table.Stated.IsTableOf, table.Table.MibView}
+use Rattle.snmp_agent.specs.declared.table.error.TableError.{TableError}
+use Rattle.smi_show.specs.{name.Meant.TextMeans}
+use Rattle.snmp_tools.specs.Message.{Fault, bad_table, unreadable}
+use Rattle.smi_tree.specs.{Tree.Contents}
+
+-- a text of the second format names what it means by these nodes
+abbrev pub AreNamesIn : Contents → Names → Type 0
+AreNamesIn tree (names_by look_up) =
+    (text o : List ℕ) → (look_up text ≡ Some o) ↔ TextMeans tree text (Ok o)
+AreNamesIn tree numeric_names = ⊥
+
+-- the file at a path states this table, as far as it is known what the file holds
+abbrev pub HasTable : Holdings → Contents → (path : List ℕ) → MibView → Type 0
+HasTable files tree path view = (names : Names) × AreNamesIn tree names
+    × (text : List ℕ) × MayHold files path text × IsTableOf names (lines text) view
+
+-- the file at a path can't be read, or its text states no table
+abbrev pub TableFails : Holdings → Contents → (path : List ℕ) → Fault → Type 0
+TableFails files tree path why =
+    (MayHoldNone files path × (why ≡ unreadable path))
+    ⊎ ((names : Names) × AreNamesIn tree names
+    × (text : List ℕ) × (error : TableError) × MayHold files path text
+    × IsFirstFault names (lines text) error × (why ≡ bad_table path error))

@@ -1,0 +1,98 @@
+//! Files of SMIv2 modules: each is read and parsed whole, in the order in which they are given, and
+//! their modules are loaded into the tree of names.
+//!
+//! Depends on the parser, on the tree and on what holds the files.
+ghost use Rattle.std.specs.Prelude.{◌≡◌, IfErr, IfOk, List, OnErr, ℕ, OnOk};
+ghost use Rattle.smi_text.specs.declared.trees.tree.Module.{Module};
+ghost use Rattle.snmp_tools.specs.load.Files.{AreModulesOf, IsFilesRefusal, no_memory, texts};
+ghost use Rattle.snmp_io.specs.{Files.Holds, Files.MayHold, Output.Stream};
+ghost use Rattle.snmp_tools.specs.load.{Loaded.IsLoaded, Loaded.any_load, Message.refusal_of};
+
+mod error;
+mod read;
+mod warned;
+
+use crate::messages::Messages;
+pub use error::FilesError;
+pub(crate) use error::{at_line, unreadable_text};
+pub use read::one_list_of_modules;
+use read::read_modules;
+use smi_tree::{NameHash, Tree};
+use snmp_io::{Files, Output};
+use std::alloc::Global;
+use warned::warning_lines;
+
+/// Loads the tree of names from module files (RFC 2578, section 3), and writes the line of each
+/// warning on `err`, in order. Its names are hashed by the key of the files, if they have one.
+///
+/// The first file that can't be read, or whose text has a fault anywhere, is the error, and then
+/// nothing is written. An `err` that fails changes nothing else.
+pub fn load_tree<'a, F: Files, E: Output>(
+    alloc: Global,
+    files: &F,
+    paths: &[&'a str],
+    err: &mut E,
+) -> Result<Tree, FilesError<'a>>
+    ensures loaded { IfOk result (λ tree. IsLoaded (MayHold (F.text_at files.now))
+        (texts paths.now) tree (E.stream err.old) (E.stream err.new)) }
+    ensures refused { IfErr result (λ e.
+        IsFilesRefusal (F.text_at files.now) (texts paths.now) (refusal_of e)) }
+    // Files that are known to hold modules are loaded, unless memory runs out.
+    ensures only { (ms : List Module)
+        → AreModulesOf (Holds (F.text_at files.now)) (texts paths.now) ms
+        → IfErr result (λ e. refusal_of e ≡ no_memory) }
+    // After an error nothing was written.
+    ensures untold { OnErr result (E.stream err.new ≡ E.stream err.old) }
+{
+    let modules = read_modules(alloc, files, paths)?;
+    let key = NameHash::of_key(files.hash_key());
+    let (tree, warnings) = Tree::load_with_key(alloc, key, modules)?;
+    let lines = warning_lines(alloc, &warnings)?;
+    err.tell(&lines);
+    Ok(tree)
+}
+
+/// Files from which a job loads the tree of names of its modules, and writes the warnings on its
+/// error output, of the type `E`. Implemented for all files.
+///
+/// A job is generic in this trait and in `E`, which keeps it from loading in another way: only
+/// `load` relates the states of the error output by `loads`, as the job promises, and a job has no
+/// other output of the type `E` over which it could load before it acts.
+pub(crate) trait ModuleLoader<E: Messages>: Files {
+    /// How a load of the module files at these paths relates the states of the error output before
+    /// and after it.
+    ghost loads: { Self → List (List ℕ) → Stream → Stream → Type 0 };
+
+    /// Loads the tree of names of module files, as [`load_tree`] does.
+    fn load<'a>(
+        &self,
+        alloc: Global,
+        paths: &[&'a str],
+        err: &mut E,
+    ) -> Result<Tree, FilesError<'a>>
+        ensures loaded { IfOk result (λ tree. IsLoaded (MayHold (Self.text_at self.now))
+            (texts paths.now) tree (E.stream err.old) (E.stream err.new)) }
+        // Nothing else says this of the error output. So a job that acts before it loads, or that
+        // writes the warnings by itself, doesn't meet its contract.
+        ensures loads { OnOk result (
+            loads self.now (texts paths.now) (E.stream err.old) (E.stream err.new)) }
+        ensures refused { IfErr result (λ e.
+            IsFilesRefusal (Self.text_at self.now) (texts paths.now) (refusal_of e)) }
+        ensures only { (ms : List Module)
+            → AreModulesOf (Holds (Self.text_at self.now)) (texts paths.now) ms
+            → IfErr result (λ e. refusal_of e ≡ no_memory) }
+        ensures untold { OnErr result (E.stream err.new ≡ E.stream err.old) };
+}
+
+impl<F: Files, E: Output> ModuleLoader<E> for F {
+    ghost loads = { λ _. any_load };
+
+    fn load<'a>(
+        &self,
+        alloc: Global,
+        paths: &[&'a str],
+        err: &mut E,
+    ) -> Result<Tree, FilesError<'a>> {
+        load_tree(alloc, self, paths, err)
+    }
+}

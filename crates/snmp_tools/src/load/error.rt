@@ -1,0 +1,87 @@
+//! Why the modules of files can't be had.
+ghost use Rattle.std.specs.Prelude.{◌≡◌, ◌++◌, codes, decimal};
+ghost use Rattle.snmp_io.specs.Draft.{Adds};
+ghost use Rattle.snmp_tools.specs.load.Message.{at_line, fault_text, refusal_of, refusal_text};
+ghost use Rattle.snmp_tools.specs.declared.load.error.FilesError.TheVariants.{Memory};
+
+use smi_text::{LexError, ParseError};
+use snmp_io::Draft;
+use std::alloc::AllocError;
+use thiserror::Error;
+
+/// Why the modules of files can't be had, with the path of the file.
+#[derive(Clone, Copy, Debug, Error)]
+pub enum FilesError<'a> {
+    /// The file can't be read.
+    #[error("{0}: cannot be read")]
+    Unreadable(&'a str),
+    /// The text of the file is refused as a whole.
+    #[error("{0}: {1}")]
+    Text(&'a str, ParseError),
+    /// Memory ran out.
+    #[error("Out of memory.")]
+    Memory,
+}
+
+impl From<AllocError> for FilesError<'_> {
+    ghost from_gives = { λ _ e. e ≡ Memory };
+
+    fn from(_error: AllocError) -> Self {
+        FilesError::Memory
+    }
+}
+
+impl FilesError<'_> {
+    /// Appends the message: the path, the line where there is one, and what is wrong.
+    pub fn message(&self, draft: &mut Draft)
+        ensures { Adds draft.old (refusal_text (refusal_of self.now)) draft.new }
+    {
+        match self {
+            FilesError::Unreadable(path) => unreadable_text(path, draft),
+            FilesError::Text(path, fault) => fault_text(path, fault, draft),
+            FilesError::Memory => draft.octets(b"Out of memory."),
+        }
+    }
+}
+
+/// Appends that the file at a path can't be read.
+pub(crate) fn unreadable_text(path: &str, draft: &mut Draft)
+    ensures { Adds draft.old (path.now ++ codes ": cannot be read") draft.new }
+{
+    draft.octets(path.as_bytes());
+    draft.octets(b": cannot be read");
+}
+
+// Appends the path of a file, and what is wrong with its text.
+fn fault_text(path: &str, fault: &ParseError, draft: &mut Draft)
+    ensures { Adds draft.old (fault_text path.now fault.now) draft.new }
+{
+    match fault {
+        ParseError::Lex(LexError::BadByte { line }) => at_line(
+            path,
+            *line,
+            b"bad character",
+            draft,
+        ),
+        ParseError::Lex(LexError::OpenString { line }) => at_line(
+            path,
+            *line,
+            b"open string",
+            draft,
+        ),
+        ParseError::Syntax { line } => at_line(path, *line, b"syntax", draft),
+        ParseError::DoubleName { line } => at_line(path, *line, b"double name", draft),
+        ParseError::Memory => draft.octets(b"Out of memory."),
+    }
+}
+
+/// Appends the path of a file, a line of it, and what is wrong there.
+pub(crate) fn at_line(path: &str, line: usize, what: &[u8], draft: &mut Draft)
+    ensures { Adds draft.old (at_line path.now line what.now) draft.new }
+{
+    draft.octets(path.as_bytes());
+    draft.octets(b":");
+    draft.number(line as u64);
+    draft.octets(b": ");
+    draft.octets(what);
+}

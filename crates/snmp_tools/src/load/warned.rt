@@ -1,0 +1,110 @@
+//! Warnings of modules that are loaded, as lines of text.
+ghost use Rattle.std.specs.Prelude.{◌≡◌, ◌++◌, IfOk, codes};
+ghost use Rattle.snmp_io.specs.Draft.{Adds};
+ghost use Rattle.snmp_tools.specs.load.Warned.{symbol, warning_line, warning_lines};
+ghost use Rattle.snmp_tools.specs.load.Warned.{warning_text};
+
+use smi_names::Warning;
+use snmp_io::Draft;
+use std::alloc::{AllocError, Global};
+
+/// The lines of warnings, in order.
+pub(crate) fn warning_lines(alloc: Global, warnings: &[Warning]) -> Result<Vec<u8>, AllocError>
+    ensures { IfOk result (λ text. text.items ≡ warning_lines warnings.now) }
+{
+    let mut lines = Vec::new(alloc);
+    let mut draft = Draft::after(&mut lines);
+    add_lines(warnings, &mut draft);
+    draft.finish(&mut lines)?;
+    Ok(lines)
+}
+
+// Appends the line of each warning.
+fn add_lines(warnings: &[Warning], draft: &mut Draft)
+    ensures { Adds draft.old (warning_lines warnings.now) draft.new }
+{
+    'warnings: for warning in warnings {
+        warning_line(warning, draft);
+    }
+}
+
+// Appends the line of a warning.
+fn warning_line(warning: &Warning, draft: &mut Draft)
+    ensures { Adds draft.old (warning_line warning.now) draft.new }
+{
+    draft.octets(b"snmp: ");
+    warning_text(warning, draft);
+    draft.octets(b"\n");
+}
+
+// Appends what a warning says.
+fn warning_text(warning: &Warning, draft: &mut Draft)
+    ensures { Adds draft.old (warning_text warning.now) draft.new }
+{
+    match warning {
+        Warning::DoubleModule(home) => double_module(home.as_bytes(), draft),
+        Warning::MissingModule(home, from) => {
+            missing_module(home.as_bytes(), from.as_bytes(), draft);
+        }
+        Warning::MissingImport(home, name, from) => {
+            missing_import(home.as_bytes(), name.as_bytes(), from.as_bytes(), draft);
+        }
+        Warning::Cycle(home, label) => {
+            of_symbol(
+                home.as_bytes(),
+                label.as_bytes(),
+                b" stands on a cycle",
+                draft,
+            );
+        }
+        Warning::Unresolved(home, label) => {
+            of_symbol(home.as_bytes(), label.as_bytes(), b" is unresolved", draft);
+        }
+        Warning::TooLong(home, label) => {
+            of_symbol(home.as_bytes(), label.as_bytes(), b" is too long", draft);
+        }
+    }
+}
+
+// Appends that an earlier module has the same name.
+fn double_module(home: &[u8], draft: &mut Draft)
+    ensures { Adds draft.old (home.now ++ codes " is loaded twice") draft.new }
+{
+    draft.octets(home);
+    draft.octets(b" is loaded twice");
+}
+
+// Appends that the module after FROM is not loaded.
+fn missing_module(home: &[u8], from: &[u8], draft: &mut Draft)
+    ensures { Adds draft.old (home.now ++ codes " imports from " ++ from.now
+        ++ codes ", which is not loaded") draft.new }
+{
+    draft.octets(home);
+    draft.octets(b" imports from ");
+    draft.octets(from);
+    draft.octets(b", which is not loaded");
+}
+
+// Appends that the module after FROM has no such symbol.
+fn missing_import(home: &[u8], name: &[u8], from: &[u8], draft: &mut Draft)
+    ensures { Adds draft.old (home.now ++ codes " imports " ++ name.now ++ codes " from "
+        ++ from.now ++ codes ", which has no " ++ name.now) draft.new }
+{
+    draft.octets(home);
+    draft.octets(b" imports ");
+    draft.octets(name);
+    draft.octets(b" from ");
+    draft.octets(from);
+    draft.octets(b", which has no ");
+    draft.octets(name);
+}
+
+// Appends a definition by its module and label, and what is wrong with it.
+fn of_symbol(home: &[u8], label: &[u8], what: &[u8], draft: &mut Draft)
+    ensures { Adds draft.old (symbol home.now label.now ++ what.now) draft.new }
+{
+    draft.octets(home);
+    draft.octets(b"::");
+    draft.octets(label);
+    draft.octets(what);
+}

@@ -1,0 +1,49 @@
+//! How the words that each job that asks an agent has are judged.
+ghost use Rattle.std.specs.Prelude.{◌≡◌, ◌↔◌, ◌≤◌, codes, length, IfErr, IfOk, IsTrue};
+ghost use Rattle.std.specs.Prelude.{string_bytes};
+ghost use Rattle.snmp_words.specs.Words.{asking_words};
+ghost use Rattle.snmp_net.specs.Address.{address_of};
+ghost use Rattle.snmp_tools.specs.{Asking.AreShown, Asking.HasAgent, Message.fault_of};
+ghost use Rattle.snmp_tools.specs.private.Planned.{AgentFails, ShowingFails};
+
+use crate::failure::Failure;
+use smi_show::Letters;
+use snmp_net::AgentAddress;
+use snmp_words::Asking;
+
+/// What the version and the letters of `-O` say: how lines are shown.
+pub(super) fn read_shown<'a>(asking: &Asking<'a>) -> Result<Letters, Failure<'a>>
+    ensures version { IfOk result (λ _. asking.now.protocol.now ≡ codes "2c") }
+    ensures letters { IfOk result (AreShown (string_bytes asking.now.letters)) }
+    ensures err { IfErr result (λ e. ShowingFails (asking_words asking.now) (fault_of e)) }
+{
+    if !is_2c(asking.protocol) {
+        return Err(Failure::Version(asking.protocol));
+    }
+    match Letters::parse(asking.letters.as_bytes()) {
+        Ok(letters) => Ok(letters),
+        Err(letter) => Err(Failure::Letter(letter)),
+    }
+}
+
+/// What the community and the agent's word say: where the agent is.
+pub(super) fn read_agent<'a>(asking: &Asking<'a>) -> Result<AgentAddress<'a>, Failure<'a>>
+    ensures community { IfOk result (λ _. length asking.now.community.now ≤ 255) }
+    ensures agent { IfOk result (λ agent. HasAgent asking.now.agent.now (address_of agent)) }
+    ensures err { IfErr result (λ e. AgentFails (asking_words asking.now) (fault_of e)) }
+{
+    if asking.community.len() > 255 {
+        return Err(Failure::Community);
+    }
+    match AgentAddress::read(asking.agent) {
+        Some(agent) => Ok(agent),
+        None => Err(Failure::Agent(asking.agent)),
+    }
+}
+
+/// Whether the word is that of version 2c of SNMP (RFC 1901).
+fn is_2c(word: &str) -> bool
+    ensures { IsTrue result ↔ word.now ≡ codes "2c" }
+{
+    word == "2c"
+}

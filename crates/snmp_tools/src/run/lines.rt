@@ -1,0 +1,163 @@
+//! Lines on an output: one for each binding of a walk or a Get, as its reply comes, and the count
+//! after them.
+ghost use Rattle.std.specs.Prelude.{◌≡◌, ◌+◌, ◌++◌, IfErr, IfOk, OnOk};
+ghost use Rattle.snmp_io.specs.Output.{FailsWithin, extended};
+ghost use Rattle.snmp_tools.specs.Lines.{ArePrinted, IsTextPrinted, count_line, TakesLine};
+ghost use Rattle.snmp_tools.specs.{Answer.CanBeSent, Answer.IsAskedOver, Message.fault_of};
+ghost use Rattle.snmp_tools.specs.{Message.outcome_of, private.Start.BeginFails};
+ghost use Rattle.snmp_tools.specs.private.Planned.{plan_of, question_of};
+
+use crate::failure::Failure;
+use crate::plan::Plan;
+use crate::run::start::run_plan;
+use smi_show::{Letters, LineWriter};
+use smi_tree::Tree;
+use snmp_io::{Draft, Output, OutputFault, write_all};
+use snmp_oid::Oid;
+use snmp_walk::{Link, Rows, Sink, SinkFault, WalkEnd};
+use snmp_wire::{Binding, ValueRef};
+use std::alloc::AllocError;
+
+/// What writes the lines of bindings, by the names and types of a tree and the letters of `-O`.
+#[derive(Drop)]
+pub(crate) struct Printer<'a, O: Output> {
+    writer: LineWriter<'a>,
+    letters: Letters,
+    // The lines of a reply until they are written. The buffer is used again for the next reply.
+    text: &'a mut Vec<u8>,
+    out: &'a mut O,
+}
+
+impl<O: Output> Sink for Printer<'_, O> {
+    ghost takes = { λ old binding result new.
+        (new.writer ≡ old.writer) × (new.letters ≡ old.letters)
+        × (new.out.ghost_name ≡ old.out.ghost_name)
+        × TakesLine old.writer old.letters
+        (O.stream old.out.now) binding result (O.stream new.out.now) };
+
+    fn row(&mut self, binding: &Binding<'_>) -> Result<(), SinkFault> {
+        self.text.clear();
+        let (name, value) = (&binding.name, &binding.value);
+        if self
+            .writer
+            .line(&self.letters, name, value, self.text)
+            .is_err()
+        {
+            return Err(SinkFault::Memory);
+        }
+        write_lines(self.out, self.text.as_slice())
+    }
+
+    // All lines of a reply are written at once. Their buffer needs no more room than a single line
+    // may: a reply may be one long binding.
+    fn rows(&mut self, mut rows: Rows<'_>) -> Result<(), SinkFault> {
+        let mut binding = Binding {
+            name: Oid::new(),
+            value: ValueRef::Null,
+        };
+        if !rows.read_next(&mut binding) {
+            return Ok(());
+        }
+        self.text.clear();
+        if self
+            .writer
+            .line(&self.letters, &binding.name, &binding.value, self.text)
+            .is_err()
+        {
+            return Err(SinkFault::Memory);
+        }
+        'rows: while rows.read_next(&mut binding) {
+            if self
+                .writer
+                .line(&self.letters, &binding.name, &binding.value, self.text)
+                .is_err()
+            {
+                write_lines(self.out, self.text.as_slice())?;
+                return Err(SinkFault::Memory);
+            }
+        }
+        write_lines(self.out, self.text.as_slice())
+    }
+}
+
+/// Asks the question of a plan over a link, whose bindings become lines on the output. `text` is
+/// the memory for a line.
+pub(crate) fn print_lines<'a, L: Link, O: Output>(
+    link: &mut L,
+    plan: &Plan<'_, 'a>,
+    retries: u32,
+    tree: &Tree,
+    text: &mut Vec<u8>,
+    out: &mut O,
+) -> Result<WalkEnd, Failure<'a>>
+    ensures sendable { OnOk result (CanBeSent (question_of plan.now.question)) }
+    ensures printed { IfOk result (λ end. ArePrinted tree.now plan.now.orders.letters
+        (O.stream out.old) (O.stream out.new) end
+        (λ given refused. IsAskedOver L.Link link.old link.new (retries + 1)
+        (plan_of plan.now) (question_of plan.now.question) given refused end)) }
+    ensures refused { IfErr result (λ e. BeginFails plan.now.question (fault_of e)
+        × (O.stream out.new ≡ O.stream out.old)) }
+{
+    let mut printer = Printer {
+        writer: LineWriter::new(tree),
+        letters: plan.orders.letters,
+        text,
+        out,
+    };
+    let done = run_plan(link, plan, retries, &mut printer);
+    let Printer {
+        writer: _writer,
+        letters: _letters,
+        text: _text,
+        out: _out,
+    } = printer;
+    let end = done?;
+    Ok(end)
+}
+
+/// Prints the number of bindings that were found. `text` is the memory for the line.
+pub(crate) fn print_count<'a, O: Output>(
+    count: u64,
+    text: &mut Vec<u8>,
+    out: &mut O,
+) -> Result<(), Failure<'a>>
+    ensures { IsTextPrinted (O.stream out.old) (count_line count) (O.stream out.new)
+        (outcome_of result) }
+{
+    text.clear();
+    count_line(count, text)?;
+    print_text(text.as_slice(), out)
+}
+
+/// Prints a text, or a front of it where the output fails.
+pub(crate) fn print_text<'a, O: Output>(text: &[u8], out: &mut O) -> Result<(), Failure<'a>>
+    ensures { IsTextPrinted (O.stream out.old) text.now (O.stream out.new) (outcome_of result) }
+{
+    match write_all(out, text) {
+        Ok(()) => Ok(()),
+        Err(OutputFault) => Err(Failure::Output),
+    }
+}
+
+/// Writes lines, or a front of them where the output fails.
+fn write_lines<O: Output>(out: &mut O, lines: &[u8]) -> Result<(), SinkFault>
+    ensures whole_at_ok { OnOk result (O.stream out.new ≡ extended (O.stream out.old) lines.now) }
+    ensures front_at_fault { IfErr result (λ fault. (fault ≡ SinkFault.Output)
+        × FailsWithin (O.stream out.old) lines.now (O.stream out.new)) }
+{
+    match write_all(out, lines) {
+        Ok(()) => Ok(()),
+        Err(OutputFault) => Err(SinkFault::Output),
+    }
+}
+
+/// Appends the line that says how many bindings were found.
+fn count_line(count: u64, out: &mut Vec<u8>) -> Result<(), AllocError>
+    ensures { OnOk result (out.new.items ≡ out.old.items ++ count_line count) }
+{
+    let mut draft = Draft::after(out);
+    draft.octets(b"Variables found: ");
+    draft.number(count);
+    draft.octets(b"\n");
+    draft.finish(out)
+}

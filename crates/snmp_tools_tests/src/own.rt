@@ -1,0 +1,75 @@
+//! The tools over files and outputs of a caller's own.
+ghost use Rattle.std.specs.Prelude.{None, refl};
+
+use crate::run::{THREE, THREE_LINES};
+use snmp_io::{FileFault, Files, Output, OutputFault};
+use snmp_net::memory::MemoryLinks;
+use snmp_tools::tool;
+use std::alloc::Global;
+use std::cell::Cell;
+use std::hash::RandomState;
+
+/// Files that hold one text, whatever the path, and count how often their key is asked for.
+#[derive(Drop)]
+struct OneText<'a> {
+    text: &'a [u8],
+    asked: &'a Cell<u32>,
+}
+
+impl Files for OneText<'_> {
+    ghost text_at = { λ _ _. None };
+
+    fn read(&self, alloc: Global, _path: &str) -> Result<Vec<u8>, FileFault> {
+        Vec::from_slice(alloc, self.text).map_err(|_| FileFault::Memory)
+    }
+
+    fn hash_key(&self) -> Option<RandomState> {
+        self.asked.set(self.asked.get().saturating_add(1));
+        None
+    }
+}
+
+/// An output that counts what it takes.
+#[derive(Drop)]
+struct Counter {
+    octets: usize,
+}
+
+impl Output for Counter {
+    ghost stream = { λ _. record { taken = None; faults = 0 } };
+
+    ghost after = { λ counter _. counter };
+
+    fn write(&mut self, piece: &[u8]) -> Result<usize, OutputFault> {
+        self.octets = self.octets.saturating_add(piece.len());
+        Ok(piece.len())
+    }
+
+    fn faults(&self) -> u64 {
+        0
+    }
+
+    ghost after_takes = { λ _ _. refl };
+}
+
+#[test]
+fn files_and_outputs_may_be_a_callers_own(rt: HostRuntime) {
+    let alloc = rt.alloc();
+    let asked = Cell::new(0);
+    let files = OneText {
+        text: THREE,
+        asked: &asked,
+    };
+    let mut links = MemoryLinks::new(alloc, &[], &[]);
+    let (mut out, mut err) = (Counter { octets: 0 }, Counter { octets: 0 });
+    let words = [
+        "snmp",
+        "snmpwalk",
+        "-On",
+        "table:any.tab",
+        ".1.3.6.1.4.1.32473.1",
+    ];
+    assert!(rt; tool(alloc, &words, &files, &mut links, &mut out, &mut err) == 0);
+    assert!(rt; out.octets == THREE_LINES.len() && err.octets == 0);
+    assert!(rt; asked.get() == 1);
+}
