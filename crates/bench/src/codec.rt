@@ -6,7 +6,7 @@ ghost use Rattle.snmp_wire.specs.Message.{Message, datum, var_bind, var_binds};
 ghost use Rattle.snmp_wire.specs.Spelling.{Spells};
 ghost use Rattle.snmp_wire.specs.Canon.{IsEncodable, canon, canon_bindings};
 ghost use Rattle.snmp_wire.specs.Parts.{parts_message};
-ghost use Rattle.bench.specs.codec.Bench.{IsSpelt, counts, ends_in, has_number};
+ghost use Rattle.bench.specs.Bench.{IsSpelt, counts, ends_in, has_number};
 
 use snmp_wire::{
     Binding, Bindings, MessageRef, Oid, Parts, ValueRef, binding_size, decode, encode,

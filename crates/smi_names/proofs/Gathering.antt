@@ -1,6 +1,6 @@
 -- Nodes and warnings are added at the end.
 use Rattle.std.proofs.{lemmas.Grind.common_steps, lemmas.List.append-nil, lemmas.List.length_push}
-use Rattle.std.proofs.Common.{◌≡◌, ℕ, zero, suc, false, is_some, List, [], ◌∷◌, ◌++◌, length, take, Some, None, refl, sym, ap, ◌∙◌}
+use Rattle.std.proofs.Common.{◌≡◌, ℕ, zero, suc, false, is_some, List, [], ◌∷◌, ◌++◌, length, take, Some, refl, sym, ap, ◌∙◌}
 use Rattle.std.proofs.Common.{arith, append_assoc, Result, Ok, Err, OnOk}
 use Rattle.std.specs.{List.slice_get, declared.alloc.AllocError.AllocError}
 use Rattle.smi_names.specs.{chains.Resolution.ComesTo, meaning.Meaning.origin, meaning.Meaning.module_named}
@@ -9,9 +9,8 @@ use Rattle.smi_names.specs.declared.chains.shared.Resolution.{Resolution}
 use Rattle.smi_text.specs.declared.trees.tree.Module.{Module}
 use Rattle.smi_text.specs.{declared.trees.tree.Def.Def, declared.trees.tree.Part.Part, trees.Lookup.identifier_value_of}
 use Rattle.smi_names.proofs.Knowing.{same_itself}
-use Rattle.smi_names.specs.nodes.Nodes.{Node, nodes_by, warnings_by, roots, none, more, is_loaded, then_module}
-use Rattle.smi_names.specs.nodes.Gathered.{node_from, nodes_of, IsSourceOf, GrowsByDefinition, AddsNodes, AddsDefinition, AddsDefinitions, AddsModule}
-use Rattle.smi_names.specs.nodes.Gathered.{AreGathered}
+use Rattle.smi_names.specs.nodes.Nodes.{Node, nodes_by, warnings_by, roots, more, is_loaded, then_module, GivesNodes, Gathers, Brings}
+use Rattle.smi_names.specs.nodes.Gathered.{node_from, nodes_of, IsSourceOf, GrowsByDefinition, AddsNodes, Adds, AreGathered}
 
 nodes_of-push : (ms : List Module) (ss : List Source) (os : List (List ℕ)) (s : Source) (o : List ℕ) → length ss ≡ length os
     → nodes_of ms (ss ++ s ∷ []) (os ++ o ∷ []) ≡ nodes_of ms ss os ++ node_from ms s o ∷ []
@@ -27,24 +26,24 @@ pub AddsNodes-extended : (ms : List Module) (old new : Gathered) (s : Source) (m
     → IsSourceOf ms s m d → GrowsByDefinition old new s m d r → AddsNodes ms old new (nodes_by m d r) (warnings_by m d r)
 AddsNodes-extended ms old new s m d r long is e = grind (arith, common_steps, length_push, append-nil, nodes_of-push)
 
-pub AddsDefinition-by : (ms : List Module) (old new : Gathered) (s : Source) (m : Module) (d : Def) (r : Resolution) (v : List Part)
+pub GivesNodes-added : (ms : List Module) (old new : Gathered) (s : Source) (m : Module) (d : Def) (r : Resolution) (v : List Part)
     (out : Result (Unit {0}) AllocError) → length old.sources.items ≡ length old.oids.items → IsSourceOf ms s m d
     → identifier_value_of d.kind ≡ Some v → ComesTo (origin ms) (record { home = m.name.octets; name = d.label.octets }) r
-    → OnOk out (GrowsByDefinition old new s m d r) → OnOk out (AddsDefinition ms old new m d)
-AddsDefinition-by ms old new s m d r v (Ok u) long is value comes e = record {
+    → OnOk out (GrowsByDefinition old new s m d r) → OnOk out (Adds ms old new (GivesNodes ms m d))
+GivesNodes-added ms old new s m d r v (Ok u) long is value comes e = record {
   ns = nodes_by m d r;
   ws = warnings_by m d r;
   gives = rw value (r, comes, refl, refl);
   adds = AddsNodes-extended ms old new s m d r long is e;
 }
-AddsDefinition-by ms old new s m d r v (Err x) long is value comes e = tt
+GivesNodes-added ms old new s m d r v (Err x) long is value comes e = tt
 
-pub AddsDefinition-none : (ms : List Module) (g : Gathered) (m : Module) (d : Def) → length g.sources.items ≡ length g.oids.items
-    → identifier_value_of d.kind ≡ None → AddsDefinition ms g g m d
-AddsDefinition-none ms g m d long value = record {
+pub Adds-none : (ms : List Module) (g : Gathered) (are_given : List Node → List Warning → Type 0) → length g.sources.items ≡ length g.oids.items
+    → are_given [] [] → Adds ms g g are_given
+Adds-none ms g are_given long gives = record {
   ns = [];
   ws = [];
-  gives = rw value (refl, refl);
+  gives = gives;
   adds = record { long = long; nodes = sym (append-nil (nodes_of ms g.sources.items g.oids.items)); warnings = sym (append-nil g.warnings.items) };
 }
 
@@ -52,31 +51,22 @@ pub AddsNodes-then : (ms : List Module) (a b c : Gathered) (ns ms' : List Node) 
     → AddsNodes ms a c (ns ++ ms') (ws ++ vs)
 AddsNodes-then ms a b c ns ms' ws vs f g = grind (arith, common_steps, append_assoc)
 
-pub AddsDefinitions-none : (ms : List Module) (g : Gathered) (m : Module) → length g.sources.items ≡ length g.oids.items → AddsDefinitions ms g g m []
-AddsDefinitions-none ms g m long = record {
-  ns = [];
-  ws = [];
-  gathers = none;
-  adds = record { long = long; nodes = sym (append-nil (nodes_of ms g.sources.items g.oids.items)); warnings = sym (append-nil g.warnings.items) };
-}
-
-pub AddsDefinitions-more : (ms : List Module) (a b c : Gathered) (m : Module) (ds : List Def) (d : Def) → AddsDefinitions ms a b m ds
-    → AddsDefinition ms b c m d
-    → AddsDefinitions ms a c m (ds ++ d ∷ [])
-AddsDefinitions-more ms a b c m ds d f g = record {
+pub Gathers-more : (ms : List Module) (a b c : Gathered) (m : Module) (ds : List Def) (d : Def) → Adds ms a b (Gathers ms m ds)
+    → Adds ms b c (GivesNodes ms m d) → Adds ms a c (Gathers ms m (ds ++ d ∷ []))
+Gathers-more ms a b c m ds d f g = record {
   ns = f.ns ++ g.ns;
   ws = f.ws ++ g.ws;
-  gathers = more ds d f.ns g.ns f.ws g.ws f.gathers g.gives;
+  gives = more ds d f.ns g.ns f.ws g.ws f.gives g.gives;
   adds = AddsNodes-then ms a b c f.ns g.ns f.ws g.ws f.adds g.adds;
 }
 
-pub AreGathered-more : (ms : List Module) (a b : Gathered) (before : List Module) (m : Module) → AreGathered ms a before → AddsModule ms a b before m
-    → AreGathered ms b (before ++ m ∷ [])
+pub AreGathered-more : (ms : List Module) (a b : Gathered) (before : List Module) (m : Module) → AreGathered ms a before
+    → Adds ms a b (Brings ms before m) → AreGathered ms b (before ++ m ∷ [])
 AreGathered-more ms a b before m f g = record {
   ns = f.ns ++ g.ns;
   long = g.adds.long;
   nodes = g.adds.nodes ∙ rw f.nodes (append_assoc roots f.ns g.ns);
-  loads = rw g.adds.warnings (then_module before m f.ns g.ns a.warnings.items g.ws f.loads g.brings);
+  loads = rw g.adds.warnings (then_module before m f.ns g.ns a.warnings.items g.ws f.loads g.gives);
 }
 
 -- only warnings are added

@@ -16,9 +16,9 @@ stated : (d : Option Def) (i : Option Import) (n : Option ℕ)
 stated d i n = grind (arith, common_steps)
 
 -- what decides says whether the module has the name
-pub defines_or_imports-by : (o : Option Module) (x : List ℕ) (r : Option Decision) → r ≡ option_and_then (λ m. decision m x) o
+pub defines_or_imports_by : (o : Option Module) (x : List ℕ) (r : Option Decision) → r ≡ option_and_then (λ m. decision m x) o
     → is_stated_some r ≡ defines_or_imports o x
-defines_or_imports-by o x r e = grind (arith, common_steps, stated)
+defines_or_imports_by o x r e = grind (arith, common_steps, stated)
 
 -- a name's first place is before i exactly when one of the first i modules has the name: the first
 -- place in the front is before i, and one behind it isn't
@@ -35,8 +35,8 @@ is_loaded-at ms x i =
         → MatchOption (or_else p q) (is_loaded (take i ms) x ≡ false) (λ j. nat_lt j i ≡ is_loaded (take i ms) x)
     by p f q g = grind (arith, common_steps)
 
-pub is_loaded-before : (ms : List Module) (x : List ℕ) (i j : ℕ) → module_place ms x ≡ Some j → nat_lt j i ≡ is_loaded (take i ms) x
-is_loaded-before ms x i j e = rw e at (is_loaded-at ms x i)
+pub is_loaded_before : (ms : List Module) (x : List ℕ) (i j : ℕ) → module_place ms x ≡ Some j → nat_lt j i ≡ is_loaded (take i ms) x
+is_loaded_before ms x i j e = rw e at (is_loaded-at ms x i)
 
-pub is_loaded-none : (ms : List Module) (x : List ℕ) (i : ℕ) → module_place ms x ≡ None → is_loaded (take i ms) x ≡ false
-is_loaded-none ms x i e = rw e at (is_loaded-at ms x i)
+pub is_loaded_none : (ms : List Module) (x : List ℕ) (i : ℕ) → module_place ms x ≡ None → is_loaded (take i ms) x ≡ false
+is_loaded_none ms x i e = rw e at (is_loaded-at ms x i)

@@ -71,16 +71,16 @@ AreEach-more ms scopes old added m at_end scope are knows within last of decided
   decided = All-append IsDecided old added are.decided decided;
 }
 
-pub arcs-push : (ps : List Part) (p : Part) (ns : List ℕ) (n : ℕ) → arcs ps ≡ Some ns → part_number p ≡ Some n → arcs (ps ++ p ∷ []) ≡ Some (ns ++ n ∷ [])
-arcs-push [] p ns n e f = let none : [] ≡ ns = cc in rw (f, sym none) refl
-arcs-push (q ∷ qs) p ns n e f = grind (arith, common_steps, arcs-push qs p)
+pub arcs_push : (ps : List Part) (p : Part) (ns : List ℕ) (n : ℕ) → arcs ps ≡ Some ns → part_number p ≡ Some n → arcs (ps ++ p ∷ []) ≡ Some (ns ++ n ∷ [])
+arcs_push [] p ns n e f = let none : [] ≡ ns = cc in rw (f, sym none) refl
+arcs_push (q ∷ qs) p ns n e f = grind (arith, common_steps, arcs_push qs p)
 
 -- parts have numbers together where each has one
 pub numbered : (ps : List Part) → list_all (λ p. is_some (part_number p)) ps ≡ is_some (arcs ps)
 numbered [] = refl
 numbered (p ∷ ps) = grind (arith, common_steps, numbered ps, is_some)
 
-pub arcs-none : (ps : List Part) (k : ℕ) (p : Part) → k < length ps → p ≡ get_or ps k p → part_number p ≡ None → arcs ps ≡ None
-arcs-none [] k p l e f = absurd (omega arith)
-arcs-none (q ∷ qs) zero p l e f = let is : part_number q ≡ None = ap part_number (sym e) ∙ f in rw is refl
-arcs-none (q ∷ qs) (suc k) p l e f = grind (arith, common_steps, arcs-none qs k p)
+pub arcs_none : (ps : List Part) (k : ℕ) (p : Part) → k < length ps → p ≡ get_or ps k p → part_number p ≡ None → arcs ps ≡ None
+arcs_none [] k p l e f = absurd (omega arith)
+arcs_none (q ∷ qs) zero p l e f = let is : part_number q ≡ None = ap part_number (sym e) ∙ f in rw is refl
+arcs_none (q ∷ qs) (suc k) p l e f = grind (arith, common_steps, arcs_none qs k p)

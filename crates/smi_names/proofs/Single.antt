@@ -4,12 +4,12 @@ use Rattle.smi_names.specs.chains.Chain.{Origin, next_of, HasEnd, ends, leads_on
 use Rattle.smi_names.specs.{chains.Resolution.ComesTo, declared.chains.shared.Resolution.Resolution}
 
 -- a thing has one identifier at most
-pub Means-one : {A : Type 0} (origin : A → Origin A) {a : A} {o : List ℕ} → HasIdentifier origin a o → (p : List ℕ) → HasIdentifier origin a p → o ≡ p
-Means-one origin {a} {o} (by_itself e) p (by_itself f) = cc
-Means-one origin {a} {o} (by_itself e) p (after_another f n) = absurd (cc)
-Means-one origin {a} {o} (after_another e m) p (by_itself f) = absurd (cc)
-Means-one origin {a} {o} (after_another {b = b} {ns = ns} {o = o'} e m) p (after_another {b = c} {ns = ms} {o = p'} f n) =
-    grind (arith, common_steps, Means-one origin m p')
+pub one_meaning : {A : Type 0} (origin : A → Origin A) {a : A} {o : List ℕ} → HasIdentifier origin a o → (p : List ℕ) → HasIdentifier origin a p → o ≡ p
+one_meaning origin {a} {o} (by_itself e) p (by_itself f) = cc
+one_meaning origin {a} {o} (by_itself e) p (after_another f n) = absurd (cc)
+one_meaning origin {a} {o} (after_another e m) p (by_itself f) = absurd (cc)
+one_meaning origin {a} {o} (after_another {b = b} {ns = ns} {o = o'} e m) p (after_another {b = c} {ns = ms} {o = p'} f n) =
+    grind (arith, common_steps, one_meaning origin m p')
 
 module _ {A : Type 0} (origin : A → Origin A) where
   has_end : {a : A} {o : List ℕ} → HasIdentifier origin a o → HasEnd (λ b. next_of (origin b)) a
@@ -27,7 +27,7 @@ module _ {A : Type 0} (origin : A → Origin A) where
   not_both (after_another {b = b} e m) (further {b = c} f h) = grind (arith, common_steps, not_both m)
 
   not_longer : {a : A} {o p : List ℕ} → HasIdentifier origin a o → length o ≤ 128 → HasIdentifier origin a p → 128 < length p → ⊥
-  not_longer {a} {o} {p} m short n long = let same = ap (λ x. length x) (Means-one origin m p n) in omega arith
+  not_longer {a} {o} {p} m short n long = let same = ap (λ x. length x) (one_meaning origin m p n) in omega arith
 
   pub one_resolution : (a : A) (r s : Resolution) → ComesTo origin a r → ComesTo origin a s → r ≡ s
-  one_resolution a r s c d = grind (arith, common_steps, Means-one, has_end, not_both, not_longer, ends_there)
+  one_resolution a r s c d = grind (arith, common_steps, one_meaning, has_end, not_both, not_longer, ends_there)

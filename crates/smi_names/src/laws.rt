@@ -8,12 +8,14 @@ ghost use Rattle.smi_text.specs.declared.trees.tree.Module.{Module};
 ghost use Rattle.smi_names.specs.meaning.Meaning.{Means, QualifiedName, origin};
 
 /// A name has at most one identifier, whatever the order of modules and definitions.
+#[tactic(auto, using(crate::proofs::Single::one_meaning))]
 pub fn one_identifier()
     ensures { (modules : List Module) (a : QualifiedName) (o p : List ℕ)
         → Means modules a o → Means modules a p → o ≡ p }
 {}
 
 /// A name resolves to one identifier, or to none for one reason.
+#[tactic(auto, using(crate::proofs::Single::one_resolution))]
 pub fn one_resolution()
     ensures { (modules : List Module) (a : QualifiedName) (one other : Resolution)
         → ComesTo (origin modules) a one → ComesTo (origin modules) a other

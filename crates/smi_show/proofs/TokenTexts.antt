@@ -11,7 +11,7 @@ use Rattle.smi_text.specs.declared.trees.tree.Refinement.TheVariants as R
 use Rattle.smi_text.specs.declared.trees.tree.Syntax.TheVariants as T
 use Rattle.smi_show.specs.details.Syntax.{named_number_text, numbers_text, high_text, range_text, ranges_text, refinement_text, refined_text}
 use Rattle.smi_show.specs.details.Syntax.{syntax_text}
-use Rattle.smi_show.specs.private.details.Tokens.{AreTokensOf, joined_by_blanks}
+use Rattle.smi_show.specs.private.Tokens.{AreTokensOf, joined_by_blanks}
 
 -- the text that a mark asks of its token
 abbrev text_of : Mark → List ℕ

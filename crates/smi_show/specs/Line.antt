@@ -8,11 +8,6 @@ use Rattle.smi_show.specs.{name.Name.IsName, private.name.Shown.name_text}
 use Rattle.smi_value.specs.Value.{ShowsValue}
 use Rattle.smi_tree.specs.{Naming.nearest_syntax, Tree.Contents}
 
--- the texts of identifiers, each its name by the letters
-abbrev pub AreNamesBy : Contents → Letters → (names : List ℕ → List ℕ) → Type 0
-AreNamesBy tree letters names =
-    (o : List ℕ) → IsName tree letters.names letters.numeric_index o (names o)
-
 -- what stands between name and value: a blank if q is given
 abbrev pub separator : TypeForm → List ℕ
 separator Typed = codes " = "
@@ -23,11 +18,12 @@ separator Quick = codes " "
 abbrev pub front_text : Letters → List ℕ → List ℕ
 front_text letters name = if letters.value_alone then codes "" else name ++ separator letters.types
 
--- the text of a value of the instance of this name, by the letters and the syntax of its object
+-- the text of a value of the instance of this name, by the letters and the syntax of its object;
+-- `names` are the texts of identifiers, each its name by the letters
 pub record IsValueText (tree : Contents) (letters : Letters) (name : List ℕ) (value : Datum)
     (text : List ℕ) : Type 0 where
   pub names : List ℕ → List ℕ
-  pub are_names : AreNamesBy tree letters names
+  pub are_names : (o : List ℕ) → IsName tree letters.names letters.numeric_index o (names o)
   pub shows : ShowsValue names letters (nearest_syntax tree name) value text
 
 -- the text is the line of a binding: its name, its value and a newline, by the letters

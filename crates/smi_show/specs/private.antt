@@ -1,3 +1,3 @@
-pub mod details
+pub mod Tokens
 pub mod index
 pub mod name

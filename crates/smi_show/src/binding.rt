@@ -9,11 +9,10 @@ ghost use Rattle.smi_tree.specs.{Found.IsFound, Tree.Contents};
 ghost use Rattle.smi_tree.specs.Naming.{nearest_node, nearest_syntax, standing_of};
 ghost use Rattle.smi_show.specs.Line.{IsLine, IsValueText, front_text, names_by, separator};
 
-use crate::name::{name_by_node, name_text, numeric};
+use crate::name::{name_by_node, name_text};
 use smi_tree::{Found, Near, NearestNode, Tree};
 use smi_value::{
-    Letters, NameForm, TypeForm, ValueSyntax, append_identifier_word, append_value,
-    one_value_by_names,
+    Letters, TypeForm, ValueSyntax, append_identifier_word, append_value, one_value_by_names,
 };
 use snmp_io::Draft;
 use snmp_oid::Oid;
@@ -63,6 +62,7 @@ pub fn line(
 /// A value has one text, by the letters and the syntax of its object.
 ///
 /// A law: the call does nothing, and its caller may use what it ensures.
+#[tactic(auto, using(crate::proofs::NamesStated::same_name))]
 pub fn one_value()
     ensures { (tree : Contents) (letters : Letters) (name : List ℕ) (value : Datum)
         (text other : List ℕ) → IsValueText tree letters name value text
@@ -132,25 +132,6 @@ fn append_front(
         Adds draft.old (front_text letters.now shown) draft.new }
 {
     if !letters.value_alone {
-        append_name(tree, letters, name, node, draft);
-        append_separator(letters.types, draft);
-    }
-}
-
-/// Appends the name, in numbers or by its node.
-fn append_name(
-    tree: &Tree,
-    letters: &Letters,
-    name: &Oid,
-    node: Option<NearestNode<'_>>,
-    draft: &mut Draft,
-)
-    requires { option_map standing_of node ≡ nearest_node tree.now name.now }
-    ensures { Adds draft.old (names_by tree.now letters.now name.now) draft.new }
-{
-    if letters.names == NameForm::Numeric {
-        numeric(name, draft);
-    } else {
         name_by_node(
             tree,
             letters.names,
@@ -159,6 +140,7 @@ fn append_name(
             node,
             draft,
         );
+        append_separator(letters.types, draft);
     }
 }
 

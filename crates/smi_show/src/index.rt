@@ -32,6 +32,7 @@ pub fn reads(parts: &[IndexPart], numbers: &[u32]) -> bool
 /// Numbers are the encodings of at most one list of values.
 ///
 /// A law: the call does nothing, and its caller may use what it ensures.
+#[tactic(auto, using(crate::proofs::ReadingLemmas::one_reading_of_all))]
 #[inline]
 pub fn one_list()
     ensures { (parts : List IndexPart) (numbers : List ℕ) (values others : List (List ℕ))

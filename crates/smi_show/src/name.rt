@@ -9,7 +9,7 @@ ghost use Rattle.snmp_oid.specs.Numeric.{numeric_text};
 ghost use Rattle.snmp_io.specs.Draft.{Adds};
 ghost use Rattle.smi_tree.specs.Naming.{standing_of, nearest_node};
 ghost use Rattle.smi_show.specs.name.Name.{arc_text, node_text, path_text, qualified};
-ghost use Rattle.smi_show.specs.private.name.Shown.{instance_text, name_text, standing_text};
+ghost use Rattle.smi_show.specs.private.name.Shown.{instance_text, name_text};
 
 mod cut;
 mod error;
@@ -41,7 +41,7 @@ pub fn name_text(tree: &Tree, form: NameForm, numeric_index: bool, oid: &Oid, dr
 }
 
 /// Appends the name of an identifier by `node`, its deepest node, and what follows that; in numbers
-/// if there is no node.
+/// in the numeric form, or if there is no node.
 pub fn name_by_node(
     tree: &Tree,
     form: NameForm,
@@ -51,17 +51,15 @@ pub fn name_by_node(
     draft: &mut Draft,
 )
     requires { option_map standing_of node ≡ nearest_node tree.now oid.now }
-    ensures { let standing = nearest_node tree.now oid.now in
-        let text = standing_text tree.now form numeric_index oid.now standing in
-        Adds draft.old text draft.new }
+    ensures { Adds draft.old (name_text tree.now form numeric_index oid.now) draft.new }
 {
     tree.is_sound();
     match node {
-        None => numeric(oid, draft),
-        Some(node) => {
+        Some(node) if form != NameForm::Numeric => {
             node_text(tree, form, oid, node, draft);
             instance_text(numeric_index, oid, node, draft);
         }
+        _ => numeric(oid, draft),
     }
 }
 

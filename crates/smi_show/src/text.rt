@@ -32,6 +32,7 @@ pub fn name_text(
 /// An identifier has one name, by its form and by a tree.
 ///
 /// A law: the call does nothing, and its caller may use what it ensures.
+#[tactic(auto, using(crate::proofs::NamesStated::same_name))]
 pub fn one_name()
     ensures { (tree : Contents) (form : NameForm) (numeric_index : Bool) (o text other : List ℕ)
         → IsName tree form numeric_index o text → IsName tree form numeric_index o other
@@ -61,6 +62,7 @@ pub fn detail(
 /// An identifier has one text of its details, by the form of its name and by a tree.
 ///
 /// A law: the call does nothing, and its caller may use what it ensures.
+#[tactic(auto, using(std::proofs::lemmas::Grind::common_steps))]
 pub fn one_detail()
     ensures { (tree : Contents) (form : NameForm) (numeric_index : Bool)
         (o text other : List ℕ) → IsDetail tree form numeric_index o text

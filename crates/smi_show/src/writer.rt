@@ -81,18 +81,14 @@ fn find<'t>(tree: &'t Tree, name: &Oid, near: &mut Near, found: &mut Found<'t>)
     ensures found { IsFound tree.now name.now found.new }
     ensures below { IsFoundBelow tree.now found.new }
 {
-    if is_known(found, name) {
-        return;
+    if !is_known(found, name) {
+        *found = tree.found_for(name, near);
     }
-    *found = tree.found_for(name, near);
 }
 
 /// Whether what was found holds for a name too: whether it is below `found.below`.
 fn is_known(found: &Found<'_>, name: &Oid) -> bool
     ensures { IsTrue result ↔ MatchOption found.now.below ⊥ (λ root. IsBelow name.now root.now) }
 {
-    match found.below {
-        Some(root) => name.is_below(root),
-        None => false,
-    }
+    matches!(found.below, Some(root) if name.is_below(root))
 }

@@ -66,9 +66,9 @@ unfolding is_balanced
 counted-as d [] = rw (within-none d) (grind arith)
 counted-as d (x ∷ xs) = grind (arith, common_steps, outside, step, depth-counted, counted-as (depth_after x.kind d) xs)
 
-pub fronts-counted : (xs : List TokenText) → has_balanced_braces xs ≡ is_balanced 0 xs
+pub fronts_counted : (xs : List TokenText) → has_balanced_braces xs ≡ is_balanced 0 xs
 unfolding has_balanced_braces
-fronts-counted xs = simp (is_within, zero-add) at (counted-as 0 xs)
+fronts_counted xs = simp (is_within, zero-add) at (counted-as 0 xs)
 
 -- ---- balanced tokens leave the count as it was
 
@@ -122,6 +122,6 @@ closes-each (x ∷ xs) d h =
 pub counted : (xs : List TokenText) → is_balanced 0 xs ≡ true → IsBalanced xs
 counted xs h = closes-each xs 0 h
 
-pub balanced-counted : (xs : List TokenText) → IsBalanced xs → is_balanced 0 xs ≡ true
+pub balanced_counted : (xs : List TokenText) → IsBalanced xs → is_balanced 0 xs ≡ true
 unfolding is_balanced
-balanced-counted xs b = ap (λ ys. is_balanced 0 ys) (sym (append-nil xs)) ∙ leaves b 0 []
+balanced_counted xs b = ap (λ ys. is_balanced 0 ys) (sym (append-nil xs)) ∙ leaves b 0 []

@@ -21,21 +21,23 @@ pub worth-grows : (base n : ℕ) (cs : List ℕ) → 0 < base → n ≤ worth ba
 worth-grows base n cs h = grind (arith, common_steps, le-mul_of_pos_right, one-le-pow)
 
 -- one digit more
-pub worth-step : (base n i : ℕ) (cs : List ℕ) → i < length cs → worth base n (drop i cs) ≡ worth base (base * n + digit_value (get_or cs i 0)) (drop (i + 1) cs)
-worth-step base n i cs h = rw (add-one, drop-cons cs i 0) (worth-digit base n (get_or cs i 0) (drop (suc i) cs))
+pub worth_step : (base n i : ℕ) (cs : List ℕ) → i < length cs → worth base n (drop i cs) ≡ worth base (base * n + digit_value (get_or cs i 0)) (drop (i + 1) cs)
+worth_step base n i cs h = rw (add-one, drop-cons cs i 0) (worth-digit base n (get_or cs i 0) (drop (suc i) cs))
 
 -- where the digits so far are worth too much, all of them are
-pub worth-above : (base n i most : ℕ) (cs : List ℕ) → 0 < base → i < length cs → worth base n (drop i cs) ≡ number_value base cs
+pub worth_above : (base n i most : ℕ) (cs : List ℕ) → 0 < base → i < length cs → worth base n (drop i cs) ≡ number_value base cs
     → most < base * n + digit_value (get_or cs i 0) → None ≡ up_to most (number_value base cs)
-worth-above base n i most cs pos h e over = grind (arith, common_steps, worth-grows, worth-step, lt-leb)
+worth_above base n i most cs pos h e over = grind (arith, common_steps, worth-grows, worth_step, lt-leb)
 
 nothing-more : (base n : ℕ) → worth base n [] ≡ n
 unfolding number_value
 nothing-more base n = let one : n * base ^ 0 ≡ n = ap (λ m. n * m) (pow-zero base) ∙ mul-one n in omega (arith, one)
 
-pub worth-end : (base n i : ℕ) (cs : List ℕ) → length cs ≤ i → worth base n (drop i cs) ≡ n
+pub worth_end : (base n i : ℕ) (cs : List ℕ) → length cs ≤ i → worth base n (drop i cs) ≡ n
 unfolding number_value
-worth-end base n i cs h = rw (drop_all i cs h) (nothing-more base n)
+worth_end base n i cs h = rw (drop_all i cs h) (nothing-more base n)
 
-pub value-within : (v most : ℕ) → v ≤ most → Some v ≡ up_to most v
-value-within v most h = rw (le-leb v most h) refl
+pub value_within : (v most : ℕ) → v ≤ most → Some v ≡ up_to most v
+value_within v most h = rw (le-leb v most h) refl
+
+pub ruleset worths = (worth_step, worth_above, worth_end, value_within, mul_comm)

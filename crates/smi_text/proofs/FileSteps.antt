@@ -19,7 +19,7 @@ use Rattle.smi_text.proofs.{Marks.StandsAhead-append, Laws.starts-with, Laws.som
 use Rattle.smi_text.proofs.ProductionLaws.{definition-law, head-law, module_text-law}
 use Rattle.smi_text.specs.declared.error.ParseError.TheVariants as E
 use Rattle.smi_text.proofs.Many.{reading-shorter, many-fails, many-goes_on, many-done, with_front-append, with_front-none, with_front-end}
-use Rattle.smi_text.proofs.Many.{with_front-nil}
+use Rattle.smi_text.proofs.Many.{with_front_nil}
 use Rattle.smi_text.proofs.Shorter.{definition-solid, module_text-solid}
 
 -- the label of a definition is the text of its first token
@@ -93,7 +93,7 @@ pub record HasRead (names : BTreeSet (ℕ × Bor (List ℕ))) (defs : List Def) 
   pub distinct : are_distinct (labels defs) ≡ true
 
 pub has_read-start : (names : BTreeSet (ℕ × Bor (List ℕ))) (defs : List Def) (ts : List Item) → names.keys ≡ [] → defs ≡ [] → HasRead names defs ts ts
-has_read-start names defs ts e d = grind (arith, common_steps, with_front-nil)
+has_read-start names defs ts e d = grind (arith, common_steps, with_front_nil)
 
 module _ (names : BTreeSet (ℕ × Bor (List ℕ))) (defs : List Def) (from now : List Item) (have : HasRead names defs from now) where
   pub has_read-done : begins definition.first now ≡ false → ReadsDefinitions defs from now
@@ -173,7 +173,7 @@ pub record HasModules (ms : List Module) (from now : List Item) : Type 0 where
 
 pub has_modules-start : (ms : List Module) (ts : List Item) → ms ≡ [] → HasModules ms ts ts
 unfolding file
-has_modules-start ms ts e = grind (arith, common_steps, with_front-nil)
+has_modules-start ms ts e = grind (arith, common_steps, with_front_nil)
 
 module _ (ms : List Module) (from now : List Item) (have : HasModules ms from now) where
   pub has_modules-done : now ≡ [] → ReadsModules ms from

@@ -3,7 +3,7 @@ use Rattle.std.proofs.Common.{arith, ◌≡◌, ℕ, Bool, true, List, ◌∷◌
 use Rattle.std.proofs.{lemmas.Grind.common_steps, lemmas.Bool.and_from, lemmas.Bool.false≢true, Math.Bool.Bool-set, Math.Logic.∥∥₁_elim}
 use Rattle.std.specs.Prelude.{drop, IfOk, IfErr}
 use Rattle.smi_text.specs.{declared.lexer.token.TokenKind.TokenKind, lexer.Lexeme.IsLexeme, lexer.Token.Lexeme, lexer.Token.Item}
-use Rattle.smi_text.specs.{trees.Mark.sign_text, trees.Mark.same_text, declared.trees.names.Name.Name, private.Kinds.is_sign_kind}
+use Rattle.smi_text.specs.{lexer.Lexeme.sign_text, trees.Mark.same_text, declared.trees.names.Name.Name, private.Kinds.is_sign_kind}
 use Rattle.smi_text.specs.{declared.error.Stop.Stop, declared.error.Stop.TheVariants.Memory, private.Returned.ReturnsReading}
 use Rattle.smi_text.specs.{private.Returned.is_memory, private.Format.Ahead, private.Format.name_of, private.Format.name_where, private.Format.token}
 use Rattle.smi_text.proofs.{Marks.same_kind-same, Marks.same_text-same, NameLaws.name_of-octets}
@@ -15,10 +15,10 @@ sign-of k x e h = grind (arith, common_steps)
 sign_is : (k : TokenKind) (x : List ℕ) → is_sign_kind k ≡ true → ∥ IsLexeme k x ∥₁ → same_text x (sign_text k) ≡ true
 sign_is k x e t = ∥∥₁_elim t (Bool-set (same_text x (sign_text k)) true) (λ h. rw (sign-of k x e h) (same_text-same (sign_text k)))
 
-pub sign-read : (k : TokenKind) (t : Lexeme) (ts : List Item) → t.kind ≡ k → is_sign_kind k ≡ true → ∥ IsLexeme t.kind t.text ∥₁
+pub sign_read : (k : TokenKind) (t : Lexeme) (ts : List Item) → t.kind ≡ k → is_sign_kind k ≡ true → ∥ IsLexeme t.kind t.text ∥₁
     → (token k).read (Ok t ∷ ts) ≡ Some (tt, ts)
 unfolding token
-sign-read k t ts e s l = grind (arith, common_steps, sign_is, and_from, same_kind-same)
+sign_read k t ts e s l = grind (arith, common_steps, sign_is, and_from, same_kind-same)
 
 -- the octets of a name give it
 pub name_at : (x : List ℕ) (n : Name) → n.octets ≡ x → name_of x ≡ Some n

@@ -73,9 +73,9 @@ pub with_front-end : {A : Type 0} (xs : List A) (ts : List Item) → with_front 
 unfolding with_front
 with_front-end {A} xs ts = ap (λ (zs : List A). Some (zs, ts)) (append-nil xs)
 
-pub with_front-nil : {A : Type 0} (r : Parsed (List A)) → with_front [] r ≡ r
+pub with_front_nil : {A : Type 0} (r : Parsed (List A)) → with_front [] r ≡ r
 unfolding with_front
-with_front-nil r = grind (arith, common_steps)
+with_front_nil r = grind (arith, common_steps)
 
 -- one step of a loop that reads several parts: what is left to read, and a bound that is enough for it
 pub next-many : {A : Type 0} (f : Format A) (n : ℕ) (x : A) (ts rest : List Item) → begins f.first ts ≡ true → f.read ts ≡ Some (x, rest) → length ts ≤ n

@@ -1,31 +1,23 @@
 -- Marks, kinds and texts: what the tests of tokens mean.
-use Rattle.std.proofs.Common.{arith, ◌≡◌, ℕ, Bool, true, false, ◌||◌, not, List, [], ◌∷◌, ◌++◌, Option, Some, None, Ok, refl, sym, ◌∙◌, ap, subst}
-use Rattle.std.proofs.Common.{get_or, eq-eqb, ◌⊎◌, if◌then◌else◌}
+use Rattle.std.proofs.Common.{arith, ◌≡◌, ℕ, Bool, true, false, ◌||◌, not, List, [], ◌∷◌, ◌++◌, Option, Some, None, Ok, refl, sym, subst}
+use Rattle.std.proofs.Common.{◌⊎◌, if◌then◌else◌}
 use Rattle.std.proofs.{lemmas.Grind.common_steps, lemmas.List.Folds.list_any-append, lemmas.Slice.Eq.bytes_eq-Decides}
-use Rattle.std.proofs.lemmas.Bool.{and_parts, false_from_ne_true, eqb-true, or_cases}
+use Rattle.std.proofs.lemmas.Bool.{and_parts, false_from_ne_true, or_cases}
 use Rattle.std.specs.{Prelude.option_map, Prelude.option_and_then, List.list_any, List.list_all}
+use denote.Enum.Bare.{same_true, true_same}
+use Rattle.smi_text.specs.contracts.lexer.token.TokenKind.{the_type}
 use Rattle.smi_text.specs.{declared.lexer.token.TokenKind.TokenKind, lexer.Token.Lexeme, lexer.Token.Item}
 use Rattle.smi_text.specs.declared.lexer.token.TokenKind.TheVariants as K
-use Rattle.smi_text.specs.trees.Mark.{Mark, kind_number, same_kind, same_text}
-use Rattle.smi_text.specs.private.Format.{StandsAhead, Ahead, a_kind, is_this_word, meets, begins, half_apart, apart}
+use Rattle.smi_text.specs.trees.Mark.{Mark, same_kind, same_text}
+use Rattle.smi_text.specs.private.Format.{StandsAhead, Ahead, is_this_word, meets, begins, half_apart, apart}
 
 -- kinds and texts
 
-kinds : List TokenKind
-kinds =
-    K.Lower ∷ K.Upper ∷ K.Number ∷ K.Text ∷ K.Hex ∷ K.Binary ∷ K.Assign ∷ K.Range ∷ K.OpenBrace ∷ K.CloseBrace ∷ K.OpenParen ∷ K.CloseParen ∷
-    K.OpenBracket ∷ K.CloseBracket ∷ K.Less ∷ K.Greater ∷ K.Comma ∷ K.Semicolon ∷ K.Colon ∷ K.Bar ∷ K.Dot ∷ K.Equals ∷ []
-
-kind_at : (k : TokenKind) → get_or kinds (kind_number k) K.Lower ≡ k
-unfolding kinds
-kind_at K.Lower = refl
-kind_at _ = refl
-
 pub same_kind-eq : (a b : TokenKind) → same_kind a b ≡ true → a ≡ b
-same_kind-eq a b h = sym (kind_at a) ∙ ap (λ (n : ℕ). get_or kinds n K.Lower) (eqb-true (kind_number a) (kind_number b) h) ∙ kind_at b
+same_kind-eq a b h = same_true the_type tt a b h
 
 pub same_kind-same : (k : TokenKind) → same_kind k k ≡ true
-same_kind-same k = eq-eqb (kind_number k) (kind_number k) refl
+same_kind-same k = true_same the_type k k refl
 
 pub same_text-eq : (x y : List ℕ) → same_text x y ≡ true → x ≡ y
 same_text-eq x y h = (bytes_eq-Decides x y).0 h
@@ -65,8 +57,8 @@ pub begins-append : (cs ds : List Ahead) (ts : List Item) → begins (cs ++ ds) 
 unfolding begins
 begins-append cs ds ts = grind (arith, common_steps, list_any-append)
 
-pub begins-two : (j k : TokenKind) (ts : List Item) → begins (a_kind j ∷ a_kind k ∷ []) ts ≡ (begins (a_kind j ∷ []) ts || begins (a_kind k ∷ []) ts)
-begins-two j k ts = begins-append (a_kind j ∷ []) (a_kind k ∷ []) ts
+pub begins_cons : (c : Ahead) (cs : List Ahead) (ts : List Item) → begins (c ∷ cs) ts ≡ (begins (c ∷ []) ts || begins cs ts)
+begins_cons c cs ts = begins-append (c ∷ []) cs ts
 
 pub begins-none : (ts : List Item) → begins [] ts ≡ false
 unfolding begins

@@ -204,9 +204,9 @@ macro-ahead t k h = rw (same_kind-eq t.kind K.Upper k) h
 macro_name-law : Lawful (λ (x : Name). spelled K.Upper x.octets (is_macro x.octets) ∷ []) g.macro_name
 macro_name-law = unfold all in name_where-law g.macro_words K.Upper is_macro macro-ahead
 
-pub begins-macro : (t : Lexeme) (ts : List Item) → t.kind ≡ K.Upper → begins g.macro_words (Ok t ∷ ts) ≡ is_macro t.text
+pub begins_macro : (t : Lexeme) (ts : List Item) → t.kind ≡ K.Upper → begins g.macro_words (Ok t ∷ ts) ≡ is_macro t.text
 unfolding begins is_macro
-begins-macro t ts e = rw e refl
+begins_macro t ts e = rw e refl
 
 -- definitions
 

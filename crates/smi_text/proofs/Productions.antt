@@ -5,11 +5,11 @@ use Rattle.smi_text.specs.private.Format.{begins, maybe, behind, lower, word, to
 use Rattle.smi_text.specs.private.Format.{separated, lined, many}
 use Rattle.smi_text.specs.private.Grammar.{arc, assigned, balanced, base, before_assign, before_end, bound, braced, choice, clause, default_value}
 use Rattle.smi_text.specs.private.Grammar.{definition, field, group, head, heading, identifier, import_clause, imported_symbol, imports, index}
-use Rattle.smi_text.specs.private.Grammar.{index_names, later_part, lower_definition, macro_body, macro_definition, macro_name, module_identity}
+use Rattle.smi_text.specs.private.Grammar.{index_names, later_part, lower_definition, macro_definition, macro_name, module_identity}
 use Rattle.smi_text.specs.private.Grammar.{module_text, named_number, names, notification_type, object_identifier, object_identifier_words}
 use Rattle.smi_text.specs.private.Grammar.{object_identity, object_type, objects, octet_string_words, of_row, opening, parenthesized, part, range}
-use Rattle.smi_text.specs.private.Grammar.{ranges, raw_definition, refinement, revision, sequence, simple_type, size, status, syntax_clause}
-use Rattle.smi_text.specs.private.Grammar.{syntax_type, tag, tagged, textual_convention, upper_definition, value, file}
+use Rattle.smi_text.specs.private.Grammar.{ranges, raw_definition, refinement, revision, simple_type, size, status, syntax_clause}
+use Rattle.smi_text.specs.private.Grammar.{syntax_type, tag, textual_convention, upper_definition, value, file, read_index, with_names}
 
 -- one token, or none
 unfoldable pub tokens : ℕ
@@ -35,9 +35,19 @@ of_clauses = 0
 
 unfoldable pub of_definitions : ℕ
 unfolding formats braced module_identity object_identity object_type notification_type group raw_definition object_identifier textual_convention syntax_clause
-    lower_definition tag choice tagged sequence assigned macro_body macro_definition upper_definition macro_name definition objects object_identifier_words
+    lower_definition tag choice assigned macro_definition upper_definition macro_name definition objects object_identifier_words
     default_value
 of_definitions = 0
+
+-- no more than the parts of these two, which have many
+unfoldable pub of_many : ℕ
+unfolding shaped pair behind module_identity textual_convention
+of_many = 0
+
+-- the loop of an index
+unfoldable pub of_index : ℕ
+unfolding read_index with_names shaped pair behind lower
+of_index = 0
 
 unfoldable pub of_modules : ℕ
 unfolding formats braced imported_symbol import_clause imports heading opening head module_text is_symbol

@@ -11,7 +11,7 @@ use Rattle.smi_text.specs.private.Format.{no_kind, with_front}
 use Rattle.smi_text.specs.private.Grammar.{index_parts, implied_name, index_names, read_index, with_names, depth_after, is_outside, balanced}
 use Rattle.smi_text.specs.private.Grammar.{before_assign, before_end, read_balanced}
 use Rattle.smi_text.specs.trees.Spelling as say
-use Rattle.smi_text.proofs.{Productions.formats, Lawful.Lawful, Many.StandsAhead-length, Braces.is_balanced, Braces.fronts-counted}
+use Rattle.smi_text.proofs.{Productions.formats, Lawful.Lawful, Many.StandsAhead-length, Braces.is_balanced, Braces.fronts_counted}
 use Rattle.smi_text.proofs.Marks.{begins-append, begins-none, if-inv, map-inv}
 use Rattle.smi_text.proofs.Laws.{never-stands, lower-law, pair-law, maybe-law, either-law, made-law, after-word, after-sign, some-inj, same-token}
 use Rattle.smi_text.proofs.Laws.{kept-law}
@@ -131,12 +131,12 @@ balanced-starts (x ∷ xs) ts rest b h = grind (arith, common_steps, and_parts)
 
 balanced-pieces : (xs : List TokenText) (ts rest : List Item) → StandsAhead (of_balanced xs) ts rest
     → (is_balanced 0 xs ≡ true) × StandsAhead (raw_marks xs) ts rest
-balanced-pieces xs ts rest h = grind (arith, common_steps, is_balanced, never-stands, fronts-counted)
+balanced-pieces xs ts rest h = grind (arith, common_steps, is_balanced, never-stands, fronts_counted)
 
 pub balanced-law : Lawful of_balanced balanced
 unfolding balanced
 balanced-law = record {
-  takes = λ ts rest xs h. let p = balanced-takes 0 ts rest xs h in rw (fronts-counted xs, p.0) p.1;
+  takes = λ ts rest xs h. let p = balanced-takes 0 ts rest xs h in rw (fronts_counted xs, p.0) p.1;
   again = λ xs ts rest h s. let p = balanced-pieces xs ts rest h in balanced-again 0 xs ts rest p.0 p.1 s;
   starts = grind (arith, common_steps, balanced-pieces, balanced-starts);
 }

@@ -9,12 +9,12 @@ use Rattle.smi_text.specs.trees.Mark.{same_text}
 abbrev pub is_one_of : List ℕ → List (Bor (List ℕ)) → Bool
 is_one_of x ws = list_any (same_text x) (map (λ w. w.now) ws)
 
-pub is_one_of-drop : (x : List ℕ) (ws : List (Bor (List ℕ))) (i : ℕ) (d : Bor (List ℕ)) (b : Bool) → i < length ws → b ≡ same_text x (get_or ws i d).now
+pub is_one_of_drop : (x : List ℕ) (ws : List (Bor (List ℕ))) (i : ℕ) (d : Bor (List ℕ)) (b : Bool) → i < length ws → b ≡ same_text x (get_or ws i d).now
     → is_one_of x (drop i ws) ≡ (b || is_one_of x (drop (i + 1) ws))
-is_one_of-drop x ws i d b h e = rw (add-one, drop-cons ws i d, e) refl
+is_one_of_drop x ws i d b h e = rw (add-one, drop-cons ws i d, e) refl
 
-pub is_one_of-none : (x : List ℕ) (ws : List (Bor (List ℕ))) (i : ℕ) → length ws ≤ i → is_one_of x (drop i ws) ≡ false
-is_one_of-none x ws i h = rw (drop_all i ws h) refl
+pub is_one_of_none : (x : List ℕ) (ws : List (Bor (List ℕ))) (i : ℕ) → length ws ≤ i → is_one_of x (drop i ws) ≡ false
+is_one_of_none x ws i h = rw (drop_all i ws h) refl
 
 -- a text is no word of a list whose second octets all pass a test that its own fails
 pub other_second : (test : ℕ → Bool) (words : List (List ℕ)) (x : List ℕ) → list_all (λ w. test (get_or w 1 0)) words ≡ true

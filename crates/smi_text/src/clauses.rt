@@ -153,6 +153,7 @@ impl<'a> Parser<'a> {
     }
 
     /// Reads the names of an INDEX: IMPLIED may stand before the last one.
+    #[tactic(auto, unfolding(crate::proofs::Productions::of_index))]
     fn index_names(&mut self) -> Result<IndexParts, Stop>
         ensures { ReturnsReading result self.new (grammar.index_names.read self.old) }
     {
@@ -213,10 +214,7 @@ impl<'a> Parser<'a> {
     fn at_other_than_assign(&self) -> bool
         ensures { result ≡ begins (no_kind TokenKind.Assign ∷ []) self.now }
     {
-        match self.peek() {
-            Some(token) => token.kind != TokenKind::Assign,
-            None => false,
-        }
+        matches!(self.peek(), Some(token) if token.kind != TokenKind::Assign)
     }
 
     /// Reads a token that isn't `::=`.
@@ -235,10 +233,7 @@ impl<'a> Parser<'a> {
     fn at_other_than_end(&self) -> bool
         ensures { result ≡ begins (no_word (codes "END") ∷ []) self.now }
     {
-        match self.peek() {
-            Some(_) => !self.at_word(b"END"),
-            None => false,
-        }
+        self.peek().is_some() && !self.at_word(b"END")
     }
 
     /// Reads a token that isn't END.

@@ -70,6 +70,7 @@ impl<'a> Parser<'a> {
     }
 
     /// Reads MODULE-IDENTITY and its clauses.
+    #[tactic(auto, unfolding(crate::proofs::Productions::of_many))]
     fn module_identity(&mut self) -> Result<ModuleIdentity, Stop>
         ensures { ReturnsReading result self.new (grammar.module_identity.read self.old) }
     {
@@ -158,6 +159,7 @@ impl<'a> Parser<'a> {
     }
 
     /// Reads TEXTUAL-CONVENTION and its clauses.
+    #[tactic(auto, unfolding(crate::proofs::Productions::of_many))]
     fn textual_convention(&mut self) -> Result<TextualConvention, Stop>
         ensures { ReturnsReading result self.new (grammar.textual_convention.read self.old) }
     {

@@ -110,9 +110,8 @@ fn first_fault(text: &[u8]) -> Option<LexError>
     ensures { IfSome result (λ fault. BreaksOff fault text.now) }
 {
     'each: for item in Lexer::new(text) {
-        match item {
-            Ok(_) => {}
-            Err(fault) => return Some(fault),
+        if let Err(fault) = item {
+            return Some(fault);
         }
     }
     None
@@ -129,9 +128,7 @@ fn cause_of(stop: ParseError, text: &[u8]) -> ParseError
             // A text that lexes to its end has no such stop.
             None => ParseError::Syntax { line: 1 },
         },
-        ParseError::Syntax { line } => ParseError::Syntax { line },
-        ParseError::DoubleName { line } => ParseError::DoubleName { line },
-        ParseError::Memory => ParseError::Memory,
+        _ => stop,
     }
 }
 
@@ -169,6 +166,7 @@ pub fn one_module_list()
 /// Kinds and texts of tokens are the spelling of at most one list of modules, apart from its lines.
 ///
 /// A law: the call does nothing, and its caller may use what it ensures.
+#[tactic(auto, using(crate::proofs::Lines::same_but_lines))]
 pub fn one_module_list_without_lines()
     ensures { (ms ns : List Tree) (tokens : List Lexeme)
         → Stands (map plain (spelling ms)) tokens [] → Stands (map plain (spelling ns)) tokens [] →
@@ -179,6 +177,7 @@ pub fn one_module_list_without_lines()
 /// by the one that closes it, and no other brace closes among them.
 ///
 /// A law: the call does nothing, and its caller may use what it ensures.
+#[tactic(auto, using(crate::proofs::Braces::counted, crate::proofs::Braces::balanced_counted, crate::proofs::Braces::fronts_counted))]
 pub fn balanced_braces()
     ensures { (xs : List TokenText) → has_balanced_braces xs ≡ true ↔ IsBalanced xs }
 {}

@@ -64,6 +64,7 @@ impl Production for OneImport {
 
 impl<'a> Parser<'a> {
     /// Whether a symbol is ahead.
+    #[tactic(auto, unfolding(crate::proofs::Productions::all))]
     fn at_symbol(&self) -> bool
         ensures { result ≡ begins grammar.imported_symbol.first self.now }
     {

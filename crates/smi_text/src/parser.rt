@@ -186,13 +186,11 @@ impl<'a> Parser<'a> {
     pub(crate) fn at_kind(&self, kind: TokenKind) -> bool
         ensures { result ≡ begins (a_kind kind ∷ []) self.now }
     {
-        match self.peek() {
-            Some(token) => token.kind == kind,
-            None => false,
-        }
+        matches!(self.peek(), Some(token) if token.kind == kind)
     }
 
     /// Whether a token of one of these two kinds is ahead.
+    #[tactic(auto, using(crate::proofs::Marks::begins_cons))]
     pub(crate) fn at_either(&self, first: TokenKind, second: TokenKind) -> bool
         ensures { result ≡ begins (a_kind first ∷ a_kind second ∷ []) self.now }
     {
@@ -344,6 +342,7 @@ impl<'a> Parser<'a> {
     }
 
     /// Reads any number of a production.
+    #[tactic(auto, using(crate::proofs::Many::with_front_nil))]
     pub(crate) fn many<P: Production>(&mut self) -> Result<Items<P::Output>, Stop>
     where
         P::Output: Drop,

@@ -213,19 +213,12 @@ impl<'a> Parser<'a> {
     }
 
     /// Whether an end of a range is ahead.
+    #[tactic(auto, using(crate::proofs::Marks::begins_cons))]
     fn at_bound(&self) -> bool
         ensures { result ≡ begins (a_kind TokenKind.Number ∷ a_kind TokenKind.Hex ∷ a_kind
             TokenKind.Binary ∷ []) self.now }
     {
-        match self.peek() {
-            Some(token) => {
-                matches!(
-                    token.kind,
-                    TokenKind::Number | TokenKind::Hex | TokenKind::Binary
-                )
-            }
-            None => false,
-        }
+        self.at_kind(TokenKind::Number) || self.at_either(TokenKind::Hex, TokenKind::Binary)
     }
 
     /// Reads an end of a range.

@@ -13,7 +13,7 @@ use Rattle.smi_tree.specs.{declared.branches.branch.Branch.Branch, declared.bran
 use Rattle.smi_names.specs.meaning.Meaning.{or_else}
 use Rattle.smi_tree.proofs.{First.none_if, PlacesLemmas.place_found, PlacesLemmas.place_push_itself, PlacesLemmas.place_push_other}
 use Rattle.smi_tree.proofs.Growing.{follower_past, standing_inside, get-set_same, get-set_other}
-use Rattle.smi_tree.proofs.Walking.{walk-push, walk_off, walk_within, walk_kept, walk_back}
+use Rattle.smi_tree.proofs.Walking.{walk_push, walk_off, walk_within, walk_kept, walk_back}
 
 module _ (bs new : List Branch) (at n b : ℕ) (grows : GrowsBranch bs new at n b) where
   -- where numbers led to a branch they still do
@@ -22,7 +22,7 @@ module _ (bs new : List Branch) (at n b : ℕ) (grows : GrowsBranch bs new at n 
 
   -- one number more leads to what was there, or is made
   pub branch_grown : (q : List ℕ) → branch_of bs q ≡ Some at → branch_of new (q ++ n ∷ []) ≡ Some b
-  branch_grown q here = walk-push (follower new) 0 q n ∙ rw (branch_kept q at here) grows.leads
+  branch_grown q here = walk_push (follower new) 0 q n ∙ rw (branch_kept q at here) grows.leads
 
 module _ (known oids : List (List ℕ)) (bs : List Branch) (are : AreBranches known oids bs) where
   -- what no branch leads to is none of the identifiers
@@ -45,7 +45,7 @@ module _ (known oids : List (List ℕ)) (bs : List Branch) (are : AreBranches kn
   module _ (new : List Branch) (q : List ℕ) (at n b : ℕ) (here : branch_of bs q ≡ Some at) (grows : GrowsBranch bs new at n b) where
     module _ (a : AddsBranch bs new at n b) (begins : IsBeginning known (q ++ n ∷ [])) where
       off : place_of oids (q ++ n ∷ []) ≡ None
-      off = place_off (q ++ n ∷ []) (walk-push (follower bs) 0 q n ∙ rw here a.none)
+      off = place_off (q ++ n ∷ []) (walk_push (follower bs) 0 q n ∙ rw here a.none)
 
       empty : (m : ℕ) → follower new b m ≡ None
       empty m = grind (arith, follower_past bs b m, a.is, a.back b m, branch_inside q at here)
@@ -153,7 +153,7 @@ Branches-none b none stands = record {
 -- the walk goes on by the next of the numbers
 pub branch_more : (bs : List Branch) (o : List ℕ) (i at : ℕ) → i < length o → branch_of bs (take i o) ≡ Some at
     → branch_of bs (take (i + 1) o) ≡ follower bs at (get_or o i 0)
-branch_more bs o i at l e = rw (take_more o i 0 l, walk-push (follower bs) 0 (take i o) (get_or o i 0), e) refl
+branch_more bs o i at l e = rw (take_more o i 0 l, walk_push (follower bs) 0 (take i o) (get_or o i 0), e) refl
 
 pub branch_off : (bs : List Branch) (o : List ℕ) (i at : ℕ) → i < length o → branch_of bs (take i o) ≡ Some at
     → follower bs at (get_or o i 0) ≡ None → branch_of bs o ≡ None

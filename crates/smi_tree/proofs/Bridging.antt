@@ -16,13 +16,13 @@ parts ms (S.Root n) o = refl
 parts ms (S.Definition i k) o = grind (arith, common_steps)
 
 module _ (ms : List Module) where
-  pub length-nodes : (ss : List Source) (os : List (List ℕ)) → length ss ≡ length os → length (nodes_of ms ss os) ≡ length ss
-  length-nodes [] os e = refl
-  length-nodes (s ∷ ss) os e = grind (arith, common_steps, length-nodes ss)
+  pub length_nodes : (ss : List Source) (os : List (List ℕ)) → length ss ≡ length os → length (nodes_of ms ss os) ≡ length ss
+  length_nodes [] os e = refl
+  length_nodes (s ∷ ss) os e = grind (arith, common_steps, length_nodes ss)
 
-  pub oids-nodes : (ss : List Source) (os : List (List ℕ)) → length ss ≡ length os → oids_of (nodes_of ms ss os) ≡ os
-  oids-nodes [] os e = grind (arith, common_steps)
-  oids-nodes (s ∷ ss) os e = grind (arith, common_steps, oids-nodes ss, parts)
+  pub oids_nodes : (ss : List Source) (os : List (List ℕ)) → length ss ≡ length os → oids_of (nodes_of ms ss os) ≡ os
+  oids_nodes [] os e = grind (arith, common_steps)
+  oids_nodes (s ∷ ss) os e = grind (arith, common_steps, oids_nodes ss, parts)
 
   -- the node of a source has the identifier at the source's place
   pub node-at : (ss : List Source) (os : List (List ℕ)) → length ss ≡ length os → (k : ℕ) (s : Source) → slice_get ss k ≡ Some s
@@ -36,14 +36,14 @@ module _ (ms : List Module) where
   position-nodes t u e [] os b l = refl
   position-nodes t u e (s ∷ ss) os b l = grind (arith, common_steps, position-nodes t u e ss, e)
 
-pub anywhere-sources : (ms : List Module) (ss : List Source) (os : List (List ℕ)) (x : List ℕ) → length ss ≡ length os
+pub anywhere_sources : (ms : List Module) (ss : List Source) (os : List (List ℕ)) (x : List ℕ) → length ss ≡ length os
     → place_anywhere (nodes_of ms ss os) x ≡ position_from (places.has_label ms x) 0 ss
-anywhere-sources ms ss os x l = position-nodes ms (has_label x) (places.has_label ms x) (λ s o. rw (parts ms s o) refl) ss os 0 l
+anywhere_sources ms ss os x l = position-nodes ms (has_label x) (places.has_label ms x) (λ s o. rw (parts ms s o) refl) ss os 0 l
 
 pub in_module-sources : (ms : List Module) (ss : List Source) (os : List (List ℕ)) (home x : List ℕ) → length ss ≡ length os
     → place_in_module (nodes_of ms ss os) home x ≡ position_from (places.is_of ms home x) 0 ss
 in_module-sources ms ss os home x l = position-nodes ms (is_of home x) (places.is_of ms home x) (λ s o. rw (parts ms s o) refl) ss os 0 l
 
-pub is_some-find : {A : Type 0} (t : A → Bool) (b : ℕ) (xs : List A) → is_some (position_from t b xs) ≡ is_some (find t xs)
-is_some-find t b [] = refl
-is_some-find t b (x ∷ xs) = grind (arith, common_steps, is_some-find t (b + 1) xs, is_some)
+pub is_some_find : {A : Type 0} (t : A → Bool) (b : ℕ) (xs : List A) → is_some (position_from t b xs) ≡ is_some (find t xs)
+is_some_find t b [] = refl
+is_some_find t b (x ∷ xs) = grind (arith, common_steps, is_some_find t (b + 1) xs, is_some)

@@ -84,16 +84,16 @@ child-below nodes o label n k e =
     omega (arith, up_to_highest (oids_of nodes) k at.0, ap last_number at.1, last_number-push o n)
 
 -- the computed child is the first one, and no other is
-pub child-first : (nodes : List Node) (o label : List ℕ) → IsFirstChild nodes o label (child_of nodes o label)
-child-first nodes o label = of_lowest-lowest (child_at nodes o label) (suc (highest (oids_of nodes))) (child-below nodes o label)
+pub child_first : (nodes : List Node) (o label : List ℕ) → IsFirstChild nodes o label (child_of nodes o label)
+child_first nodes o label = of_lowest-lowest (child_at nodes o label) (suc (highest (oids_of nodes))) (child-below nodes o label)
 
-pub child-is : (nodes : List Node) (o label : List ℕ) (r : Option ℕ) → IsFirstChild nodes o label r → r ≡ child_of nodes o label
-child-is nodes o label r is = one_lowest is (child-first nodes o label)
+pub child_is : (nodes : List Node) (o label : List ℕ) (r : Option ℕ) → IsFirstChild nodes o label r → r ≡ child_of nodes o label
+child_is nodes o label r is = one_lowest is (child_first nodes o label)
 
 -- the first child is found among the children
-pub child-found : (nodes : List Node) (o label : List ℕ) (places : List ℕ) → AreChildren (oids_of nodes) o places
+pub child_found : (nodes : List Node) (o label : List ℕ) (places : List ℕ) → AreChildren (oids_of nodes) o places
     → IsFirstChild nodes o label (find (is_labelled nodes label) places)
-child-found nodes o label places c =
+child_found nodes o label places c =
     rw (
       c.there,
       find-first (is_labelled nodes label) (λ n. place_of (oids_of nodes) (o ++ n ∷ [])) (child_at nodes o label) c.numbers

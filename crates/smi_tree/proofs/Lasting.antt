@@ -7,7 +7,7 @@ use Rattle.smi_tree.specs.branches.Standing.{place_of, oid_at, HasNoneBelow, IsD
 use Rattle.smi_tree.specs.branches.Branches.{follower, standing_at, AreBranchesOf}
 use Rattle.snmp_oid.specs.Identifier.{IsBelow}
 use Rattle.smi_tree.specs.declared.branches.branch.Branch.{Branch}
-use Rattle.smi_tree.proofs.{Branching.places_off, Branching.standing_way, PlacesLemmas.place_found, Walking.walk-push}
+use Rattle.smi_tree.proofs.{Branching.places_off, Branching.standing_way, PlacesLemmas.place_found, Walking.walk_push}
 
 -- nothing is below what stands at a branch after which no number follows
 pub none_below : (oids : List (List ℕ)) (bs : List Branch) → AreBranchesOf oids bs → (at place : ℕ) → standing_at bs at ≡ Some place
@@ -15,7 +15,7 @@ pub none_below : (oids : List (List ℕ)) (bs : List Branch) → AreBranchesOf o
 none_below oids bs are at place stands ends p ([], some, is) = absurd (some refl)
 none_below oids bs are at place stands ends p (n ∷ more, some, is) =
     let known = oid_at oids place in
-    let off = walk-push (follower bs) 0 (oid_at oids place) n ∙ rw (standing_way oids oids bs are at place stands) (ends n) in
+    let off = walk_push (follower bs) 0 (oid_at oids place) n ∙ rw (standing_way oids oids bs are at place stands) (ends n) in
     rw (is, ← append_assoc known (n ∷ []) more) (places_off oids oids bs are (known ++ n ∷ []) more off)
 
 -- what stands for one identifier stands for each that is below it

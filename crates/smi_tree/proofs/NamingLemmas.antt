@@ -6,7 +6,7 @@ use Rattle.smi_names.specs.meaning.Meaning.{QualifiedName, defined, imported, de
 use Rattle.smi_names.specs.meaning.Along.{decided, next_name, Comes, unknown, of_root, through as by_import, at_end, after, IsMeant, leads_nowhere}
 use Rattle.smi_names.specs.meaning.Along.{stands_at}
 use Rattle.smi_tree.specs.columns.Definitions.{IsDefinedBy, own, through}
-use Rattle.smi_tree.specs.private.columns.Named.{IsFoundAt, IsUndefined}
+use Rattle.smi_tree.specs.private.Named.{IsFoundAt, IsUndefined}
 
 -- the definition to which an imported name leads is that of the name in the module after FROM
 behind : (ms : List Module) (home : Module) (i : Import) {a : QualifiedName} {m : Module} {d : Def} → IsDefinedBy ms a m d

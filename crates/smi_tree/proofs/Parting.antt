@@ -8,7 +8,7 @@ use Rattle.smi_text.specs.{declared.trees.tree.Module.Module, declared.trees.tre
 use Rattle.smi_tree.specs.{types.Chain.TypeOrigin, columns.Parts.IsPartOf, columns.Index.IsIndexPart, columns.Kept.HasNoPart}
 use Rattle.smi_tree.specs.types.Types.{Facts, HasSyntax, HasNoSyntax, object_origin, origin_of_object}
 use Rattle.smi_tree.specs.columns.Definitions.{qualified_name, IsDefinedBy, own, through}
-use Rattle.smi_tree.specs.private.columns.Named.{IsFoundAt}
+use Rattle.smi_tree.specs.private.Named.{IsFoundAt}
 
 -- ---- a name leads to one definition
 

@@ -41,10 +41,10 @@ up_to oids o (suc j) within above = by (place_of oids (take (suc j) o)) refl (up
     by (Some place) e rest = record { within = within; here = e; none_longer = above }
 
 -- what is found is the longest
-pub longest-found : {D : Type 0} (of : D → Longest) (oids : List (List ℕ)) (o : List ℕ) (r : Option D)
+pub longest_found : {D : Type 0} (of : D → Longest) (oids : List (List ℕ)) (o : List ℕ) (r : Option D)
     → MatchOption r (HasNoBeginning oids o) (λ d. IsDeepestAt oids o (of d).place (of d).depth) → option_map of r ≡ longest_up_to oids o (length o)
-longest-found of oids o r h = grind (arith, common_steps, longest-none, longest-some)
+longest_found of oids o r h = grind (arith, common_steps, longest-none, longest-some)
 
-pub longest-is : (oids : List (List ℕ)) (o : List ℕ)
+pub longest_is : (oids : List (List ℕ)) (o : List ℕ)
     → MatchOption (longest_up_to oids o (length o)) (HasNoBeginning oids o) (λ at. IsDeepestAt oids o at.place at.depth)
-longest-is oids o = up_to oids o (length o) (omega arith) (λ k more l. absurd (omega arith))
+longest_is oids o = up_to oids o (length o) (omega arith) (λ k more l. absurd (omega arith))

@@ -14,11 +14,11 @@ use Rattle.smi_tree.specs.types.Types.{origin_of_base, origin_of_simple, object_
 use Rattle.smi_tree.specs.types.Types.{HasSyntax, HasNoSyntax}
 use Rattle.smi_tree.specs.types.Kept.{facts_of, facts_at, type_in, names_of, sizes_of, def_of, IsKept, refines, type_at, base_or, refined_by}
 use Rattle.smi_tree.specs.types.Kept.{AreKeptOf, AreKeptOfAll}
-use Rattle.smi_tree.specs.{declared.types.syntax.TypeSyntax.TypeSyntax, declared.types.KeptSyntax.KeptSyntax}
+use Rattle.smi_tree.specs.{declared.syntax.TypeSyntax.TypeSyntax, declared.types.KeptSyntax.KeptSyntax}
 use Rattle.smi_tree.proofs.{Pairing.pair_at, Following.by_decision, Following.has_end, Following.no_syntax, Following.past_get}
 
-pub is_some-copied : {X : Type 0} (r : Option (Bor X)) → is_some r ≡ is_some (option_copied r)
-is_some-copied r = grind (arith, common_steps, is_some)
+pub is_some_copied : {X : Type 0} (r : Option (Bor X)) → is_some r ≡ is_some (option_copied r)
+is_some_copied r = grind (arith, common_steps, is_some)
 
 -- a definition of an object states its type and no hint
 pub object_states : (kind : DefKind) (s : SimpleType) → option_and_then simple_in (object_syntax kind) ≡ Some s

@@ -70,10 +70,10 @@ root-home : (k : ℕ) (n : Node) → slice_get roots k ≡ Some n → n.home ≡
 root-home = root-case (λ n. n.home ≡ None) refl refl refl
 
 -- a root by its place
-pub among-roots : (ns : List Node) (x : List ℕ) (k : ℕ) → Some k ≡ place_anywhere roots x
+pub roots_first : (ns : List Node) (x : List ℕ) (k : ℕ) → Some k ≡ place_anywhere roots x
     → oid_of (roots ++ ns) (Some k) ≡ oid_of roots (place_anywhere roots x)
-among-roots ns x (suc (suc (suc k))) e = grind (arith, common_steps, first)
-among-roots ns x _ e = rw (← e) refl
+roots_first ns x (suc (suc (suc k))) e = grind (arith, common_steps, first)
+roots_first ns x _ e = rw (← e) refl
 
 -- a node's module and label lead to its identifier
 abbrev pub OneMeaning : Type 0
@@ -132,9 +132,9 @@ sound-from t each = record {
       (each s.place s.n s.there).1;
 }
 
-pub sound-by : (t : Contents) (ns : List Node) (ws : List Warning) → OneMeaning → t.nodes ≡ roots ++ ns → Loads t.modules t.modules ns ws
+pub sound_by : (t : Contents) (ns : List Node) (ws : List Warning) → OneMeaning → t.nodes ≡ roots ++ ns → Loads t.modules t.modules ns ws
     → IsSound t
-sound-by t ns ws law nodes l = sound-from t (λ k n e.
+sound_by t ns ws law nodes l = sound-from t (λ k n e.
     let there = subst (λ (ns : List Node). slice_get ns k ≡ Some n) nodes e in
     let r = root-or-module t.modules ns ws k n l there in
     (word-by t n r, leads-by t ns ws law nodes l k n there r))

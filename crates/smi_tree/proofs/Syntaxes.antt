@@ -1,6 +1,6 @@
 -- What is kept for the sources of nodes is their syntax.
 use Rattle.std.proofs.{lemmas.Grind.common_steps, lemmas.List.length-map, lemmas.List.get_or_past}
-use Rattle.std.proofs.Common.{◌≡◌, ℕ, zero, suc, List, ◌∷◌, Option, Some, None, slice_index_or, length, refl, sym, ◌∙◌, arith}
+use Rattle.std.proofs.Common.{◌≡◌, ℕ, zero, suc, ◌≤◌, List, ◌∷◌, Option, Some, None, slice_index_or, length, refl, sym, ◌∙◌, arith}
 use Rattle.std.specs.List.{slice_get}
 use Rattle.smi_text.specs.declared.trees.tree.Module.{Module}
 use Rattle.smi_names.specs.{nodes.Nodes.Node, declared.nodes.gather.Gathered.Gathered, declared.nodes.gather.Source.Source}
@@ -11,7 +11,7 @@ use Rattle.smi_tree.specs.{types.Chain.no_type, types.Types.object_in, types.Typ
 use Rattle.smi_tree.specs.{declared.types.Types.Types, columns.Index.AreIndexesOf, Tree.IsTree, Kept.contents}
 use Rattle.smi_tree.specs.Shown.{IsSyntaxOf, AreSyntaxesOf, syntax_from, syntaxes_from}
 use Rattle.smi_tree.specs.declared.columns.index_part.IndexPart.{IndexPart}
-use Rattle.smi_tree.proofs.{Bridging.parts, Bridging.length-nodes, Following.no_syntax, Following.past_get}
+use Rattle.smi_tree.proofs.{Bridging.length_nodes, Following.no_syntax}
 
 same_object : (ms : List Module) (i k : ℕ) → object_in (slice_get ms i) (gathered.def_of_module (slice_get ms i) k) ≡ object_origin ms i k
 same_object ms i k = grind (arith, common_steps)
@@ -19,7 +19,7 @@ same_object ms i k = grind (arith, common_steps)
 module _ (ms : List Module) (t : Types) (right : AreTypesOf ms t) where
   of_source : (s : Source) (o : List ℕ) → IsSyntaxOf ms (node_from ms s o) (syntax_from ms t s)
   of_source (S.Root n) o = no_syntax ms no_type refl
-  of_source (S.Definition i k) o = rw (parts ms (S.Definition i k) o, same_object ms i k) (right i k)
+  of_source (S.Definition i k) o = rw (same_object ms i k) (right i k)
 
   each_right : (ss : List Source) (os : List (List ℕ)) (k : ℕ) (n : Node) → slice_get (nodes_of ms ss os) k ≡ Some n
       → IsSyntaxOf ms n (slice_index_or (syntaxes_from ms t ss) k None)
@@ -28,10 +28,10 @@ module _ (ms : List Module) (t : Types) (right : AreTypesOf ms t) where
   each_right _ _ k n e = absurd (cc)
 
   pub syntaxes_right : (ss : List Source) (os : List (List ℕ)) → length ss ≡ length os → AreSyntaxesOf ms (nodes_of ms ss os) (syntaxes_from ms t ss)
-  syntaxes_right ss os l = record { long = length-map ss (syntax_from ms t) ∙ sym (length-nodes ms ss os l); each = each_right ss os }
+  syntaxes_right ss os l = record { long = length-map ss (syntax_from ms t) ∙ sym (length_nodes ms ss os l); each = each_right ss os }
 
-pub kept-none : (ms : List Module) (t : Types) (ss : List Source) (k : ℕ) → slice_get ss k ≡ None → slice_index_or (syntaxes_from ms t ss) k None ≡ None
-kept-none ms t ss k e = get_or_past (syntaxes_from ms t ss) k None (rw (length-map ss (syntax_from ms t)) (past_get ss k e))
+pub kept_none : (ms : List Module) (t : Types) (ss : List Source) (k : ℕ) → length ss ≤ k → slice_index_or (syntaxes_from ms t ss) k None ≡ None
+kept_none ms t ss k past = get_or_past (syntaxes_from ms t ss) k None (rw (length-map ss (syntax_from ms t)) past)
 
 -- what is gathered, with the types and indexes of the modules, is a tree: each of its clauses is one of
 -- these premises, said of the nodes that the sources and identifiers make

@@ -1,18 +1,18 @@
 -- The rows of columns, and the INDEX clauses that they use.
 use Rattle.std.proofs.{lemmas.Grind.common_steps, lemmas.List.same_from_push}
 use Rattle.std.proofs.lemmas.Option.{slice_get_within, slice_get-get_or, slice_get_read}
-use Rattle.std.proofs.Common.{◌≡◌, ℕ, ◌<◌, ◌≤◌, List, [], ◌∷◌, ◌++◌, length, get_or, MatchOption, Option, Some, None, refl, sym, ap, ◌∙◌, arith}
+use Rattle.std.proofs.Common.{◌≡◌, ℕ, ◌<◌, ◌≤◌, List, [], ◌∷◌, ◌++◌, length, get_or, MatchOption, Option, Some, None, refl, sym, subst, ap, ◌∙◌, arith}
 use Rattle.std.specs.List.{slice_get}
-use Rattle.smi_tree.specs.{branches.Standing.place_of, branches.Standing.oid_at, columns.Definitions.qualified_name}
+use Rattle.smi_tree.specs.{branches.Standing.place_of, branches.Standing.oid_at, columns.Definitions.qualified_name, Places.definition_from}
 use Rattle.smi_text.specs.{declared.trees.tree.Module.Module, declared.trees.tree.Def.Def, declared.trees.tree.Index.TheVariants.Own}
 use Rattle.smi_text.specs.{declared.trees.tree.Index.TheVariants.Augments, declared.trees.tree.IndexParts.IndexParts, declared.trees.names.Name.Name}
 use Rattle.smi_names.specs.{nodes.Nodes.Node, nodes.Nodes.node_of, nodes.Gathered.node_from, nodes.Gathered.nodes_of}
 use Rattle.smi_names.specs.declared.nodes.gather.Source.{Source}
 use Rattle.smi_names.specs.declared.nodes.gather.Source.TheVariants as S
 use Rattle.smi_tree.specs.columns.Index.{IsObjectType, IsColumnOf, StandsAt, clause_of}
-use Rattle.smi_tree.specs.private.columns.Named.{IsFoundAt, IsUndefined}
+use Rattle.smi_tree.specs.private.Named.{IsFoundAt, IsUndefined}
 use Rattle.smi_tree.specs.columns.Kept.{UsesAt, UsesNone, HasNoRow, HasRowOrNone}
-use Rattle.smi_tree.proofs.Bridging.{parts, length-nodes, oids-nodes, node-at}
+use Rattle.smi_tree.proofs.Bridging.{parts, length_nodes, oids_nodes, node-at}
 
 -- ---- the clause that a row uses
 
@@ -40,11 +40,15 @@ module _ (ms : List Module) (i k : ℕ) (m : Module) (d : Def) (in_ms : i < leng
     uses = rw is (refl, refl);
   })
 
+  uses_none : (name : Name) → clause_of d.kind ≡ Some (Augments name) → IsUndefined ms (qualified_name m name.octets) → (o : List ℕ)
+      → UsesNone ms (node_of m d o)
+  uses_none name is none o = grind (arith, common_steps)
+
   pub uses_named : (name : Name) (r : Option (ℕ × ℕ)) → clause_of d.kind ≡ Some (Augments name)
       → MatchOption r (IsUndefined ms (qualified_name m name.octets)) (λ p. IsFoundAt ms (qualified_name m name.octets) p.0 p.1)
       → MatchOption r ((o : List ℕ) → UsesNone ms (node_from ms (S.Definition i k) o))
       (λ p. (o : List ℕ) → UsesAt ms (node_from ms (S.Definition i k) o) p.0 p.1)
-  uses_named name None is none = grind (arith, common_steps, node_here)
+  uses_named name None is none = λ o. subst (λ (n : Node). UsesNone ms n) (sym (node_here o)) (uses_none name is none o)
   uses_named name (Some p) is found = λ o. rw (node_here o) (record {
     row_module = m;
     home = refl;
@@ -64,7 +68,7 @@ module _ (ms : List Module) (ss : List Source) (os : List (List ℕ)) (long : le
   nodes = nodes_of ms ss os
 
   stands_at : (oid : List ℕ) (row : Node) (st : StandsAt nodes oid row) → place_of os oid ≡ Some st.place
-  stands_at oid row st = rw (oids-nodes ms ss os long) at st.first
+  stands_at oid row st = rw (oids_nodes ms ss os long) at st.first
 
   module _ (k : ℕ) (within : k < length ss) where
     abbrev source : Source
@@ -73,20 +77,18 @@ module _ (ms : List Module) (ss : List Source) (os : List (List ℕ)) (long : le
     node_is : (node : Node) → slice_get nodes k ≡ Some node → node ≡ node_from ms source (oid_at os k)
     node_is node there = let is = node-at ms ss os long k source (slice_get-get_or ss k (S.Root 0) within) in cc
 
-    definition_is : (node : Node) → slice_get nodes k ≡ Some node → node.definition ≡ (node_from ms source (oid_at os k)).definition
-    definition_is node there = ap (λ (n : Node). n.definition) (node_is node there)
+    definition_is : (node : Node) → slice_get nodes k ≡ Some node → node.definition ≡ definition_from ms source
+    definition_is node there = ap (λ (n : Node). n.definition) (node_is node there ∙ parts ms source (oid_at os k))
 
     oid_is : (node : Node) → slice_get nodes k ≡ Some node → node.oid ≡ oid_at os k
     oid_is node there = ap (λ (n : Node). n.oid) (node_is node there ∙ parts ms source (oid_at os k))
 
-    pub no_row_undefined : ((o : List ℕ) → None ≡ (node_from ms source o).definition) → (node : Node) → slice_get nodes k ≡ Some node
-        → HasNoRow ms nodes node
-    no_row_undefined none node there row column =
-        let some = column.object.2 in let is = definition_is node there in let other = none (oid_at os k) in absurd (cc)
+    pub no_row_undefined : None ≡ definition_from ms source → (node : Node) → slice_get nodes k ≡ Some node → HasNoRow ms nodes node
+    no_row_undefined none node there row column = let some = column.object.2 in let is = definition_is node there in absurd (cc)
 
-    pub no_row_other : (d : Def) → ((o : List ℕ) → Some d ≡ (node_from ms source o).definition) → (IsObjectType (Some d) → ⊥)
+    pub no_row_other : (d : Def) → Some d ≡ definition_from ms source → (IsObjectType (Some d) → ⊥)
         → (node : Node) → slice_get nodes k ≡ Some node → HasNoRow ms nodes node
-    no_row_other d is other node there row column = absurd (other (rw (definition_is node there ∙ sym (is (oid_at os k))) at column.object))
+    no_row_other d is other node there row column = absurd (other (rw (definition_is node there ∙ sym is) at column.object))
 
     pub no_row_place : ((front : List ℕ) (last row : ℕ) → oid_at os k ≡ front ++ last ∷ [] → place_of os front ≡ Some row → ⊥)
         → (node : Node) → slice_get nodes k ≡ Some node → HasNoRow ms nodes node
@@ -104,9 +106,9 @@ module _ (ms : List Module) (ss : List Source) (os : List (List ℕ)) (long : le
 
       pub no_row_source : length ss ≤ r → (node : Node) → slice_get nodes k ≡ Some node → HasNoRow ms nodes node
       no_row_source past node there row column =
-          let inside = slice_get_within nodes r row (row_at node there row column) in absurd (omega (arith, length-nodes ms ss os long))
+          let inside = slice_get_within nodes r row (row_at node there row column) in absurd (omega (arith, length_nodes ms ss os long))
 
-      pub row_is : (d : Def) (rs : Source) (at : Option (ℕ × ℕ)) → ((o : List ℕ) → Some d ≡ (node_from ms source o).definition) → IsObjectType (Some d)
+      pub row_is : (d : Def) (rs : Source) (at : Option (ℕ × ℕ)) → Some d ≡ definition_from ms source → IsObjectType (Some d)
           → slice_get ss r ≡ Some rs
           → MatchOption at ((o : List ℕ) → UsesNone ms (node_from ms rs o)) (λ p. (o : List ℕ) → UsesAt ms (node_from ms rs o) p.0 p.1)
           → (node : Node) → slice_get nodes k ≡ Some node → HasRowOrNone ms nodes node at
@@ -116,11 +118,11 @@ module _ (ms : List Module) (ss : List Source) (os : List (List ℕ)) (long : le
       row_is d rs (Some p) is object read uses node there = record {
         row = node_from ms rs (oid_at os r);
         of_row = record {
-          object = rw (definition_is node there ∙ sym (is (oid_at os k))) object;
+          object = rw (definition_is node there ∙ sym is) object;
           front = front;
           last = last;
           below = oid_is node there ∙ below;
-          stands = record { place = r; first = rw (oids-nodes ms ss os long) first; there = node-at ms ss os long r rs read };
+          stands = record { place = r; first = rw (oids_nodes ms ss os long) first; there = node-at ms ss os long r rs read };
         };
         used = uses (oid_at os r);
       }

@@ -10,8 +10,8 @@ module _ (f : ℕ → ℕ → Option ℕ) where
   walk-append (x ∷ xs) ys at = grind (arith, common_steps, walk-append xs ys)
 
   -- a walk along one number more goes on from where the walk came to, if it came anywhere
-  pub walk-push : (at : ℕ) (xs : List ℕ) (n : ℕ) → walk f at (xs ++ n ∷ []) ≡ option_and_then (λ b. f b n) (walk f at xs)
-  walk-push at xs n = grind (arith, common_steps, walk-append)
+  pub walk_push : (at : ℕ) (xs : List ℕ) (n : ℕ) → walk f at (xs ++ n ∷ []) ≡ option_and_then (λ b. f b n) (walk f at xs)
+  walk_push at xs n = grind (arith, common_steps, walk-append)
 
   -- where a walk comes to nothing, none goes on
   pub walk_off : (at : ℕ) (xs ys : List ℕ) → walk f at xs ≡ None → walk f at (xs ++ ys) ≡ None

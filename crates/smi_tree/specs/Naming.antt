@@ -11,7 +11,7 @@ use Rattle.smi_tree.specs.declared.columns.index_part.IndexPart.{IndexPart}
 use Rattle.smi_tree.specs.declared.nearest.NearestNode.{NearestNode}
 use Rattle.smi_tree.specs.{Shown.shown_at, Tree.Contents}
 use Rattle.smi_tree.specs.Nodes.{oids_of, place_in_module, place_anywhere, child_of}
-use Rattle.smi_tree.specs.Standing.{Longest, longest, definition_at}
+use Rattle.smi_tree.specs.Standing.{Longest, longest}
 
 -- a node: its module, None for a built-in root; its label; how many numbers its identifier has; the
 -- parts of the index that reads the numbers after it, None if it isn't a column with such an index
@@ -75,7 +75,9 @@ nearest_node tree o = option_and_then (standing_of_longest tree) (longest tree.n
 
 -- its definition
 unfoldable pub nearest_definition : Contents → List ℕ → Option Def
-nearest_definition tree o = definition_at tree.nodes o
+nearest_definition tree o =
+    option_and_then (λ l. option_and_then (λ n. n.definition) (slice_get tree.nodes l.place))
+    (longest tree.nodes o)
 
 -- its syntax, as values are shown by it
 unfoldable pub nearest_syntax : Contents → List ℕ → Option ObjectSyntax

@@ -1,10 +1,8 @@
 -- The node that stands for the longest beginning of an identifier.
 use Rattle.std.specs.Prelude.{ℕ, zero, suc, List, [], length, take, Option, Some, None}
-use Rattle.std.specs.{List.slice_get, Option.option_and_then}
 use Rattle.smi_tree.specs.{branches.Standing.place_of, Nodes.oids_of}
 use Rattle.smi_tree.specs.declared.branches.identifiers.Deepest.{Deepest}
 use Rattle.smi_names.specs.{meaning.Meaning.or_else, nodes.Nodes.Node}
-use Rattle.smi_text.specs.declared.trees.tree.Def.{Def}
 
 -- a place, and how many numbers the beginning has for which it stands
 pub record Longest : Type 0 where
@@ -30,12 +28,6 @@ longest nodes o = longest_up_to (oids_of nodes) o (length o)
 abbrev pub depth_of : Option Longest → ℕ
 depth_of None = 0
 depth_of (Some l) = l.depth
-
--- the definition of the node that stands for the longest beginning
-abbrev pub definition_at : List Node → List ℕ → Option Def
-definition_at nodes o =
-    option_and_then (λ l. option_and_then (λ n. n.definition) (slice_get nodes l.place))
-    (longest nodes o)
 
 -- ---- for private functions
 

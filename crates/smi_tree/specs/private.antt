@@ -1,2 +1,2 @@
 pub mod Resolved
-pub mod columns
+pub mod Named

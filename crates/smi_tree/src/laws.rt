@@ -32,6 +32,7 @@ pub fn one_deepest()
 /// The tree of no modules has the roots alone, without warnings (RFC 2578, section 3.5).
 ///
 /// A law: the call does nothing, and its caller may use what it ensures.
+#[tactic(auto, using(crate::proofs::Bare::is_bare))]
 pub fn bare_tree()
     ensures { IsTree [] bare [] }
 {}
@@ -40,6 +41,7 @@ pub fn bare_tree()
 /// for which a node stands, and the first child with a label (RFC 2578, section 3.6).
 ///
 /// A law: the call does nothing, and its caller may use what it ensures.
+#[tactic(auto, using(crate::proofs::Childhood::child_first, crate::proofs::Reaching::longest_is))]
 pub fn look_ups()
     ensures longest { (nodes : List Node) (o : List ℕ) → MatchOption (longest nodes o)
         (HasNoBeginning (oids_of nodes) o)

@@ -26,12 +26,13 @@ mod nearest;
 mod node;
 mod places;
 mod shown;
+mod syntax;
 mod tree;
 mod types;
 
 pub use crate::branches::Children;
 pub use crate::columns::{Extent, IndexPart};
-pub use crate::types::TypeSyntax;
+pub use crate::syntax::TypeSyntax;
 pub use nearest::{Found, Near, NearestNode};
 pub use node::Node;
 pub use smi_names::{NameHash, TypeBase, Warning};

@@ -52,18 +52,12 @@ pub struct NearestNode<'a> {
 pub(crate) fn root_place(label: &[u8]) -> Option<usize>
     ensures { result ≡ place_anywhere roots label.now }
 {
-    match root_arc(label) {
-        Some(number) => Some(number as usize),
-        None => None,
-    }
+    Some(root_arc(label)? as usize)
 }
 
 /// The name of a module.
 pub(crate) fn home_name(home: Option<&Module>) -> Option<&[u8]>
     ensures { option_copied result ≡ home_name (option_copied home.entry) }
 {
-    match home {
-        Some(module) => Some(module.name.as_bytes()),
-        None => None,
-    }
+    Some(home?.name.as_bytes())
 }

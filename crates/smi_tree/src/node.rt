@@ -1,5 +1,5 @@
 //! The nodes of a tree, by where each comes from.
-ghost use Rattle.std.specs.{Prelude.◌≡◌, List.slice_get, Option.option_copied};
+ghost use Rattle.std.specs.{Prelude.◌≡◌, Option.option_copied};
 ghost use Rattle.smi_tree.specs.Nodes.{is_named};
 ghost use Rattle.smi_tree.specs.Places.{home_from, label_from, definition_from};
 ghost use Rattle.smi_names.specs.chains.Order.{at_place};
@@ -21,21 +21,11 @@ pub struct Node<'a> {
     pub definition: Option<&'a Def>,
 }
 
-/// The item at a place of a list.
-pub(crate) fn at<T>(items: &[T], place: usize) -> Option<&T>
-    ensures { option_copied result ≡ slice_get items.now place }
-{
-    items.get(place)
-}
-
 /// What a list has at a place.
 pub(crate) fn kept<T: Copy>(list: &[Option<T>], place: usize) -> Option<T>
     ensures { result ≡ at_place list.now place }
 {
-    match list.get(place) {
-        Some(found) => *found,
-        None => None,
-    }
+    *list.get(place)?
 }
 
 /// The module of a source, None for a root.
@@ -52,10 +42,7 @@ pub(crate) fn home(modules: &[Module], source: Source) -> Option<&Module>
 pub(crate) fn is_in_module(modules: &[Module], source: Source, name: &[u8]) -> bool
     ensures { result ≡ is_named name.now (home_from modules.now source) }
 {
-    match home(modules, source) {
-        Some(module) => module.name.as_bytes() == name,
-        None => false,
-    }
+    matches!(home(modules, source), Some(module) if module.name.as_bytes() == name)
 }
 
 /// The definition of a source, None for a root.
@@ -64,10 +51,7 @@ pub(crate) fn definition(modules: &[Module], source: Source) -> Option<&Def>
 {
     match source {
         Source::Root(_) => None,
-        Source::Definition(place, k) => match modules.get(place) {
-            Some(module) => module.defs.as_slice().get(k),
-            None => None,
-        },
+        Source::Definition(place, k) => modules.get(place)?.defs.as_slice().get(k),
     }
 }
 

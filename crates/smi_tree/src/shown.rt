@@ -4,7 +4,8 @@ ghost use Rattle.smi_tree.specs.types.Kept.{facts_of};
 ghost use Rattle.smi_tree.specs.Shown.{syntax_from, value_base, between_quotes, units_of};
 ghost use Rattle.smi_tree.specs.Shown.{shown_syntax};
 
-use crate::types::{TypeSyntax, Types};
+use crate::syntax::TypeSyntax;
+use crate::types::Types;
 use smi_names::{Source, TypeBase};
 use smi_text::{DefKind, Module, Text};
 use smi_value::{ValueBase, ValueSyntax};
@@ -42,10 +43,7 @@ pub(crate) fn units_of(kind: &DefKind) -> Option<&Text>
     ensures { option_copied result ≡ units_of kind.now }
 {
     match kind {
-        DefKind::ObjectType(clauses) => match &clauses.units {
-            Some(units) => Some(units),
-            None => None,
-        },
+        DefKind::ObjectType(clauses) => clauses.units.as_ref(),
         _ => None,
     }
 }
@@ -56,18 +54,9 @@ pub(crate) fn value_syntax<'a>(syntax: TypeSyntax<'a>, units: Option<&'a Text>) 
 {
     ValueSyntax::new(
         value_base(syntax.base),
-        match syntax.names {
-            Some(names) => names,
-            None => &[],
-        },
-        match syntax.hint {
-            Some(hint) => Some(between_quotes(hint)),
-            None => None,
-        },
-        match units {
-            Some(units) => Some(between_quotes(units)),
-            None => None,
-        },
+        syntax.names.unwrap_or(&[]),
+        syntax.hint.map(between_quotes),
+        units.map(between_quotes),
     )
 }
 

@@ -20,10 +20,11 @@ ghost use Rattle.smi_tree.specs.Shown.{units_at};
 use crate::branches::{Children, Deepest, Identifiers};
 use crate::columns::{IndexPart, Indexes};
 use crate::nearest::{Found, Near, NearestNode, home_name, root_place};
-use crate::node::{Node, at, definition, home, is_in_module, label};
+use crate::node::{Node, definition, home, is_in_module, label};
 use crate::places::{Others, Places, find, homes, labels};
 use crate::shown::{syntax, units_of, value_syntax};
-use crate::types::{TypeSyntax, Types};
+use crate::syntax::TypeSyntax;
+use crate::types::Types;
 use smi_names::{NameHash, Names, Source, Warning, gather_nodes, one_identifier};
 use smi_text::{Def, Module, Text};
 use smi_value::ValueSyntax;
@@ -172,6 +173,7 @@ impl Tree {
     }
 
     /// How many nodes there are, the roots included.
+    #[tactic(auto, using(crate::proofs::Bridging::length_nodes))]
     pub fn len(&self) -> usize
         ensures { result ≡ length self.now.nodes }
     {
@@ -193,6 +195,7 @@ impl Tree {
     }
 
     /// Whether a module of this name is loaded.
+    #[tactic(auto, using(crate::proofs::Bridging::is_some_find), unfolding(crate::specs::Naming::is_module_loaded))]
     pub fn has_module(&self, name: &[u8]) -> bool
         ensures { result ≡ is_module_loaded self.now name.now }
     {
@@ -213,6 +216,7 @@ impl Tree {
     }
 
     /// The first node of a label, the roots before all others.
+    #[tactic(auto, using(crate::proofs::Bridging::anywhere_sources))]
     pub fn find_any(&self, label: &[u8]) -> Option<NodeId>
         ensures { result ≡ place_anywhere self.now.nodes label.now }
     {
@@ -244,6 +248,7 @@ impl Tree {
     }
 
     /// The first of the children of an identifier that has a label.
+    #[tactic(auto, using(crate::proofs::Childhood::child_found))]
     pub fn child(&self, oid: &Oid, label: &[u8]) -> Option<NodeId>
         ensures { IsFirstChild self.now.nodes oid.now label.now result }
     {
@@ -262,10 +267,8 @@ impl Tree {
     pub fn syntax_of(&self, id: NodeId) -> Option<TypeSyntax<'_>>
         ensures { option_map facts_of result ≡ slice_index_or self.now.syntaxes id None }
     {
-        match at(&self.sources, id) {
-            Some(source) => syntax(&self.types, &self.modules, *source),
-            None => None,
-        }
+        let source = self.sources.get(id)?;
+        syntax(&self.types, &self.modules, *source)
     }
 
     /// The parts of the index of a node. None if it is no column, or if its index can't be read
@@ -297,17 +300,16 @@ impl Tree {
     }
 
     /// The identifier of the root of this label.
+    #[tactic(auto, using(crate::proofs::Sounding::roots_first), unfolding(crate::specs::Naming::oid_of_root))]
     pub fn among_roots(&self, label: &[u8]) -> Option<&Oid>
         ensures { option_copied result ≡ oid_of_root label.now }
     {
         self.is_tree();
-        match root_place(label) {
-            Some(id) => self.found(Some(id)),
-            None => None,
-        }
+        self.found(root_place(label))
     }
 
     /// The identifier of the child of `oid` with this label, which is one number longer.
+    #[tactic(auto, using(crate::proofs::Childhood::child_is), unfolding(crate::specs::Naming::oid_of_child))]
     pub fn child_oid(&self, oid: &Oid, label: &[u8]) -> Option<&Oid>
         ensures { option_copied result ≡ oid_of_child self.now oid.now label.now }
     {
@@ -375,6 +377,7 @@ impl Tree {
     /// Labels are words, and lead to the nodes that they are shown for.
     ///
     /// A law: the call does nothing, and its caller may use what it ensures.
+    #[tactic(auto, using(crate::proofs::Sounding::sound_by))]
     pub fn is_sound(&self)
         ensures { IsSound self.now }
     {
@@ -405,6 +408,7 @@ impl Tree {
     }
 
     /// The identifiers of the nodes.
+    #[tactic(auto, using(crate::proofs::Bridging::oids_nodes))]
     fn oids(&self) -> &Identifiers
         ensures { result.now ≡ oids_of self.now.nodes }
     {
@@ -415,23 +419,15 @@ impl Tree {
     fn found(&self, place: Option<NodeId>) -> Option<&Oid>
         ensures { option_copied result ≡ oid_of self.now.nodes place }
     {
-        match place {
-            Some(id) => match self.node_at(id) {
-                Some(node) => Some(node.oid),
-                None => None,
-            },
-            None => None,
-        }
+        let node = self.node_at(place?)?;
+        Some(node.oid)
     }
 
     /// Whether a node has a label.
     fn has_label(&self, id: NodeId, name: &[u8]) -> bool
         ensures { result ≡ is_labelled self.now.nodes name.now id }
     {
-        match self.node_at(id) {
-            Some(node) => node.label == name,
-            None => false,
-        }
+        matches!(self.node_at(id), Some(node) if node.label == name)
     }
 
     /// The definition of a node, None for a root.
@@ -439,34 +435,27 @@ impl Tree {
         ensures { option_copied result
             ≡ option_and_then (λ n. n.definition) (slice_get self.now.nodes id) }
     {
-        match self.node_at(id) {
-            Some(node) => node.definition,
-            None => None,
-        }
+        self.node_at(id)?.definition
     }
 
     /// UNITS of a node's object, if it has them (RFC 2578, section 7.2).
     fn units(&self, id: NodeId) -> Option<&Text>
         ensures { option_copied result ≡ units_at self.now.nodes id }
     {
-        match self.definition_of(id) {
-            Some(def) => units_of(&def.kind),
-            None => None,
-        }
+        units_of(&self.definition_of(id)?.kind)
     }
 
     /// The syntax by which values of a node's object are shown.
     fn value_syntax(&self, id: NodeId) -> Option<ValueSyntax<'_>>
         ensures { result ≡ shown_at self.now.nodes self.now.syntaxes id }
     {
-        match self.syntax_of(id) {
-            Some(syntax) => Some(value_syntax(syntax, self.units(id))),
-            None => None,
-        }
+        let syntax = self.syntax_of(id)?;
+        Some(value_syntax(syntax, self.units(id)))
     }
 
     /// The node that stands for the longest beginning of an identifier, with the length of that
     /// beginning. The search begins at the node that was found last, if the identifier is below it.
+    #[tactic(auto, using(crate::proofs::Bridging::oids_nodes, crate::proofs::Reaching::longest_found))]
     fn deepest_near(&self, oid: &Oid, near: &mut Near) -> Option<Deepest>
         ensures deepest { MatchOption result (HasNoBeginning (oids_of self.now.nodes) oid.now)
             (λ deepest. IsDeepestAt (oids_of self.now.nodes) oid.now deepest.place
@@ -490,14 +479,12 @@ impl Tree {
         ensures { option_map standing_of result
             ≡ standing_of_longest self.now (longest_of deepest) }
     {
-        match self.node_at(deepest.place) {
-            Some(node) => Some(NearestNode {
-                home: home_name(node.home),
-                label: node.label,
-                depth: deepest.depth,
-                index: self.index_of(deepest.place),
-            }),
-            None => None,
-        }
+        let node = self.node_at(deepest.place)?;
+        Some(NearestNode {
+            home: home_name(node.home),
+            label: node.label,
+            depth: deepest.depth,
+            index: self.index_of(deepest.place),
+        })
     }
 }

@@ -12,17 +12,14 @@ ghost use Rattle.smi_tree.specs.types.Kept.{AreFollowed, AreKeptOf, AreKeptOfAll
 ghost use Rattle.smi_tree.specs.types.Kept.{IsKept, base_or, def_of, facts_of, kept_syntax};
 ghost use Rattle.smi_tree.specs.types.Kept.{refined_by};
 
-mod syntax;
-
 use crate::node::kept;
+use crate::syntax::{
+    TypeSyntax, base_of, hint_of, name_of, names_in_definition, names_of, object_type_of,
+    sizes_in_definition, sizes_of, type_of,
+};
 use smi_names::{Entries, Leads, Meaning, Names, TypeBase};
 use smi_text::{Def, Module, Name, SimpleType};
 use std::alloc::{AllocError, Global};
-pub use syntax::TypeSyntax;
-use syntax::{
-    base_of, hint_of, name_of, names_in_definition, names_of, object_type_of, sizes_in_definition,
-    sizes_of, type_of,
-};
 
 /// A syntax, with the places of the definitions that state its hint, its names and its SIZE: of the
 /// module, and in that. A name means it as a type.
@@ -51,10 +48,7 @@ impl Leads for KeptSyntax {
     ghost leads = { refines };
 
     fn lead(def: &Def) -> Option<&Name> {
-        match type_of(&def.kind) {
-            Some(simple) => name_of(simple),
-            None => None,
-        }
+        name_of(type_of(&def.kind)?)
     }
 }
 
@@ -66,15 +60,14 @@ impl Meaning for KeptSyntax {
     fn meaning(at: (usize, usize), def: &Def, far: Option<KeptSyntax>) -> Option<KeptSyntax>
         ensures { result ≡ type_at at def.now far }
     {
-        match type_of(&def.kind) {
-            Some(simple) => refined(at, hint_of(&def.kind).is_some(), simple, far),
-            None => None,
-        }
+        let simple = type_of(&def.kind)?;
+        refined(at, hint_of(&def.kind).is_some(), simple, far)
     }
 }
 
 impl Types {
     /// The types of modules, whose names are given. Each name is visited once, without recursion.
+    #[tactic(auto, using(crate::proofs::Refining::are_types))]
     pub fn new<'a>(
         alloc: Global,
         names: &Names<'a>,
@@ -94,6 +87,7 @@ impl Types {
     /// The syntax of an OBJECT-TYPE, by the place of its module and by its own place in it; None if
     /// its chain of types is broken, leads back to itself, or ends at no type of a value (RFC 2578,
     /// sections 7.1 and 9). `modules` are those that the types were made of.
+    #[tactic(auto, using(crate::proofs::Refining::by_facts))]
     pub fn syntax<'m>(
         &self,
         modules: &'m [Module],
@@ -121,26 +115,12 @@ impl Types {
         ensures { option_map facts_of result
             ≡ kept_syntax modules.now self.now module_place def_place }
     {
-        let Some(objects) = self.objects.get(module_place) else {
-            return None;
-        };
-        let Some(syntax) = kept(objects, def_place) else {
-            return None;
-        };
+        let syntax = kept(self.objects.get(module_place)?, def_place)?;
         Some(TypeSyntax {
             base: syntax.base,
-            names: match definition(modules, syntax.names) {
-                Some(def) => names_in_definition(def),
-                None => None,
-            },
-            hint: match definition(modules, syntax.hint) {
-                Some(def) => hint_of(&def.kind),
-                None => None,
-            },
-            sizes: match definition(modules, syntax.sizes) {
-                Some(def) => sizes_in_definition(def),
-                None => None,
-            },
+            names: definition(modules, syntax.names).and_then(names_in_definition),
+            hint: definition(modules, syntax.hint).and_then(|def| hint_of(&def.kind)),
+            sizes: definition(modules, syntax.sizes).and_then(sizes_in_definition),
         })
     }
 }
@@ -149,17 +129,13 @@ impl Types {
 fn definition(modules: &[Module], at: Option<(usize, usize)>) -> Option<&Def>
     ensures { option_copied result ≡ def_of modules.now at }
 {
-    match at {
-        Some((i, k)) => match modules.get(i) {
-            Some(module) => module.defs.as_slice().get(k),
-            None => None,
-        },
-        None => None,
-    }
+    let (i, k) = at?;
+    modules.get(i)?.defs.as_slice().get(k)
 }
 
 /// The syntax of a type that the definition at a place states, with a hint or without. What it
 /// states is nearer than what the type states that it refines.
+#[tactic(auto, using(crate::proofs::Refining::is_some_copied))]
 fn refined(
     at: (usize, usize),
     hint: bool,
@@ -168,15 +144,13 @@ fn refined(
 ) -> Option<KeptSyntax>
     ensures { result ≡ refined_by at hint simple.now far }
 {
-    match based(simple, far) {
-        Some(far) => Some(KeptSyntax {
-            base: far.base,
-            hint: nearer(hint, at, far.hint),
-            names: nearer(names_of(simple).is_some(), at, far.names),
-            sizes: nearer(sizes_of(simple).is_some(), at, far.sizes),
-        }),
-        None => None,
-    }
+    let far = based(simple, far)?;
+    Some(KeptSyntax {
+        base: far.base,
+        hint: nearer(hint, at, far.hint),
+        names: nearer(names_of(simple).is_some(), at, far.names),
+        sizes: nearer(sizes_of(simple).is_some(), at, far.sizes),
+    })
 }
 
 /// The syntax of the base type that a type refines by itself, otherwise the one that is given.
@@ -212,10 +186,8 @@ fn named<'a>(
     ensures { (x : List ℕ) → name_in simple.now.base ≡ Some x → IsKept entries.now.modules
         (type_origin entries.now.modules (record { home = home.now; name = x })) result }
 {
-    match name_of(simple) {
-        Some(name) => kept(types, entries.place(home, name.as_bytes())),
-        None => None,
-    }
+    let name = name_of(simple)?;
+    kept(types, entries.place(home, name.as_bytes()))
 }
 
 /// The syntax of an object of a module, by its place.
@@ -230,13 +202,9 @@ fn object<'a>(
     requires there { def_at entries.now.modules at.0 at.1 ≡ Some def.now }
     ensures { IsKept entries.now.modules (origin_of_object home.now.name.octets def.now) result }
 {
-    match object_type_of(&def.kind) {
-        Some(simple) => {
-            let far = named(entries, types, home.name.as_bytes(), simple);
-            refined(at, false, simple, far)
-        }
-        None => None,
-    }
+    let simple = object_type_of(&def.kind)?;
+    let far = named(entries, types, home.name.as_bytes(), simple);
+    refined(at, false, simple, far)
 }
 
 /// The syntaxes of the objects of the module at a place.
@@ -272,8 +240,7 @@ fn objects<'a>(
 {
     let mut objects = Vec::with_capacity(alloc, modules.len())?;
     'modules: for (i, module) in modules.iter().enumerate() {
-        let kept = module_objects(alloc, entries, types, module, i)?;
-        objects.push(kept)?;
+        objects.push(module_objects(alloc, entries, types, module, i)?)?;
     }
     Ok(objects)
 }

@@ -167,3 +167,5 @@ take_rows o (row ∷ rows) more zero few = absurd (omega (arith, few))
 take_rows o (row ∷ rows) more (suc n) few =
     ap (λ (k : ℕ). last_name (last_name row.name (entries_of rows)) (take k more)) (omega arith)
     ∙ take_rows row.name rows more n (omega (arith, few))
+
+pub ruleset last_rows = (common_steps, last_name-last)

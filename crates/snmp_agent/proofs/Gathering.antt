@@ -142,3 +142,5 @@ had_one es m late o had h none has is =
       Contains-permutation (entries m) es (o, found.0) (IsPermutation-sym es (entries m) moved)
           (listed_from_find o found.0 (entries m) found.1),
     )
+
+pub ruleset sorting = (common_steps, IsPermutation-trans)

@@ -78,6 +78,7 @@ fn append_get(
 /// Appends the exception that a Get of a binding's name returns where no row has the name. Not
 /// inlined: its local binding, of over a thousand octets, is set to zeros as the function begins.
 #[inline(never)]
+#[tactic(auto, using(crate::proofs::Encodings::answer_value, crate::proofs::Each::same_get, crate::proofs::Each::is_got))]
 fn append_exception(
     table: &Table,
     asked: &BindingRef<'_>,

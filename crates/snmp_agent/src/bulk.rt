@@ -21,6 +21,7 @@ const MAX_PLACES: usize = 64;
 
 /// The most octets that the bindings of a message of these parts may take if it is to have at most
 /// `max_size`, or 0 where it has more even without bindings.
+#[tactic(auto, using(std::proofs::lemmas::Grind::common_steps))]
 pub fn room_for_bindings(parts: &Parts<'_>, max_size: usize) -> usize
     requires community { length parts.now.community.now ≤ 255 }
     requires datagram { max_size ≤ 65507 }

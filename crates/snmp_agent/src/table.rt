@@ -145,6 +145,7 @@ impl Table {
     }
 
     /// The exception that a Get gives for a name that no instance has, as [`Table::get`] says.
+    #[tactic(auto, using(crate::proofs::Finding::get_no_instance, crate::proofs::Finding::get_no_object))]
     pub(crate) fn exception(&self, name: &Oid) -> ValueRef<'_>
         requires { get self.now.rows name.now ≡ None }
         ensures answer { IsGet self.now name.now
@@ -194,6 +195,7 @@ impl Table {
     }
 
     /// The row of this name. No row has a name without an encoding.
+    #[tactic(auto, using(crate::proofs::Changing::unnamed))]
     fn row_of(&self, name: &Oid) -> Option<&EncodedBinding>
         ensures { option_map (λ row. row.now.value) result ≡ get self.now.rows name.now }
     {

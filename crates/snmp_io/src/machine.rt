@@ -89,10 +89,8 @@ impl<R: rt::Files> Files for MachineFiles<R> {
     ghost text_at = { λ _ _. None };
 
     fn read(&self, alloc: Global, path: &str) -> Result<Vec<u8>, FileFault> {
-        match File::open(&self.rt, path) {
-            Ok(file) => read_whole(alloc, file).map_err(|error| error.fault()),
-            Err(error) => Err(ReadError::Failed(error).fault()),
-        }
+        let file = File::open(&self.rt, path).map_err(|error| ReadError::Failed(error).fault())?;
+        read_whole(alloc, file).map_err(|error| error.fault())
     }
 }
 

@@ -61,8 +61,7 @@ pub fn open_after(before: Option<u8>, octet: u8) -> Option<u8>
 {
     match before {
         None if is_quote(octet) => Some(octet),
-        None => None,
         Some(quote) if octet == quote => None,
-        Some(quote) => Some(quote),
+        _ => before,
     }
 }

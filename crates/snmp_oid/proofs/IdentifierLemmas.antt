@@ -1,6 +1,6 @@
 -- Facts about identifiers as lists of numbers.
 use Rattle.std.proofs.Common.{◌≡◌, ℕ, ◌<◌, ◌↔◌, inl, inr, List, [], ◌∷◌, ◌++◌, length, take, drop, refl, sym, ◌∙◌, ap, subst, arith, length-drop}
-use Rattle.std.proofs.{lemmas.List.take-append-drop, Math.Seq.take-append_seam}
+use Rattle.std.proofs.{lemmas.List.take-append-drop, Math.Seq.take-append_seam, lemmas.Map.Text.is_eq-slice_cmp, lemmas.Slice.Eq.bytes_eq-Decides}
 use Rattle.std.specs.Ordering.{MatchOrdering, nat_cmp, ordering_then, ordering_reverse}
 use Rattle.std.specs.{Cmp.ranked, Cmp.nat_cmp_is, Cmp.Lexicographic.slice_cmp, Cmp.Lexicographic.nat_list_cmp_total, declared.cmp.Ordering.Ordering}
 use Rattle.std.specs.declared.cmp.Ordering.TheVariants.{Less, Equal, Greater}
@@ -19,6 +19,8 @@ below_from_front o root longer e =
 -- what stands below root begins with it
 pub front_from_below : (o root : List ℕ) → IsBelow o root → take (length root) o ≡ root
 front_from_below o root h = ap (take (length root)) h.2 ∙ take-append_seam root h.0
+
+pub ruleset fronts = (is_eq-slice_cmp, bytes_eq-Decides, below_from_front, front_from_below)
 
 -- one more equal number in front
 precedes_behind : (n : ℕ) (o p : List ℕ) → Precedes o p → Precedes (n ∷ o) (n ∷ p)

@@ -276,6 +276,7 @@ fn split_part(text: &[u8]) -> (&[u8], Option<&[u8]>)
 }
 
 /// The number of 32 bits that decimal digits write, None where the part is no such numeral.
+#[tactic(auto, using(crate::proofs::Numeral::read_large_at, crate::proofs::Numeral::read_more_at, crate::proofs::Numeral::read_all))]
 pub fn parse_number(part: &[u8]) -> Option<u32>
     ensures found { IfSome result (IsNumeral part.now) }
     ensures none { IfNone result ((n : ℕ) → IsNumeral part.now n → ⊥) }

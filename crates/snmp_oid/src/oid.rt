@@ -64,10 +64,8 @@ impl Oid {
         ensures variant { IsOk result ↔ (length numbers.now ≤ 128) }
         ensures err { IfErr result (λ e. e ≡ OidError.TooLong) }
     {
-        match ArrayVec::try_from(numbers) {
-            Ok(numbers) => Ok(Oid { numbers }),
-            Err(_) => Err(OidError::TooLong),
-        }
+        let numbers = ArrayVec::try_from(numbers).map_err(|_| OidError::TooLong)?;
+        Ok(Oid { numbers })
     }
 
     /// A copy of the identifier. It allocates nothing and so can't fail, as by its signature
@@ -139,10 +137,9 @@ impl Oid {
         ensures err { IfErr result (λ e. e ≡ OidError.TooLong) }
         ensures unchanged_on_error { OnErr result (self.new ≡ self.old) }
     {
-        match self.numbers.try_extend_from_slice(numbers) {
-            Ok(()) => Ok(()),
-            Err(_) => Err(OidError::TooLong),
-        }
+        self.numbers
+            .try_extend_from_slice(numbers)
+            .map_err(|_| OidError::TooLong)
     }
 
     /// Removes all numbers.
@@ -181,6 +178,7 @@ impl Oid {
     }
 
     /// Whether the identifier begins with `root` and is longer.
+    #[tactic(auto, using(std::proofs::lemmas::Grind::common_steps, crate::proofs::IdentifierLemmas::fronts))]
     pub fn is_below(&self, root: &Oid) -> bool
         ensures { IsTrue result ↔ IsBelow self.now root.now }
     {
@@ -235,6 +233,7 @@ impl Oid {
 ///
 /// A law: the call does nothing, and its caller knows what it states.
 #[inline]
+#[tactic(auto, using(crate::proofs::IdentifierLemmas::ordered_less, crate::proofs::IdentifierLemmas::ordered_equal, crate::proofs::IdentifierLemmas::ordered_greater))]
 pub fn order()
     ensures less { (o p : List ℕ) → (⟦<Oid as Ord>⟧.cmp o p ≡ Ordering.Less) ↔ Precedes o p }
     ensures equal { (o p : List ℕ) → (⟦<Oid as Ord>⟧.cmp o p ≡ Ordering.Equal) ↔ (o ≡ p) }
@@ -245,6 +244,7 @@ pub fn order()
 /// How identifiers of these numbers compare ([`order`]). It is quickest where both begin with the
 /// same eight numbers, as most names of one table do.
 #[inline]
+#[tactic(auto, using(crate::proofs::Comparing::first_decides, crate::proofs::Comparing::one_more_alike, crate::proofs::Comparing::longer_after))]
 pub fn compare_numbers(o: &[u32], p: &[u32]) -> Ordering
     ensures { result ≡ slice_cmp nat_cmp o.now p.now }
 {
@@ -261,6 +261,7 @@ pub fn compare_numbers(o: &[u32], p: &[u32]) -> Ordering
 /// Whether both begin with the same eight numbers.
 // Hot: each comparison in a search. A few instructions, where a call would be as many.
 #[inline(always)]
+#[tactic(auto, using(crate::proofs::Comparing::eight_alike))]
 fn begin_alike(o: &[u32], p: &[u32]) -> bool
     ensures { result ≡ true → (8 ≤ length o.now) × (8 ≤ length p.now)
         × (take 8 o.now ≡ take 8 p.now) }

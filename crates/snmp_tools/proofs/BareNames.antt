@@ -10,13 +10,10 @@ use Rattle.smi_tree.specs.{Tree.Contents}
 use Rattle.smi_tree.specs.Naming.{nearest_syntax}
 use Rattle.snmp_tools.proofs.RowLines.{HasNoSyntax}
 
-abbrev pub bare_mib : Contents
-bare_mib = bare
-
 -- no module files are loaded, whatever files hold
-pub bare_is_loaded : IsTree [] bare [] → (files : Holdings) (paths : List (List ℕ)) → paths ≡ [] → AreLoaded (Holds files) paths bare_mib []
+pub bare_is_loaded : IsTree [] bare [] → (files : Holdings) (paths : List (List ℕ)) → paths ≡ [] → AreLoaded (Holds files) paths bare []
 bare_is_loaded loads files paths none =
-    subst (λ (ps : List (List ℕ)). AreLoaded (Holds files) ps bare_mib []) (sym none)
+    subst (λ (ps : List (List ℕ)). AreLoaded (Holds files) ps bare []) (sym none)
     record { modules = []; read = refl; loads = loads }
 
 abbrev none_three : List (Option Facts)
@@ -32,6 +29,6 @@ none_shown : (l : Option Longest) → option_and_then (λ l. shown_at roots none
 none_shown None = refl
 none_shown (Some l) = ap (option_map (λ f. shown_syntax f (units_at roots l.place))) (none_at l.place)
 
-pub bare_has_no_syntax : HasNoSyntax bare_mib
+pub bare_has_no_syntax : HasNoSyntax bare
 unfolding nearest_syntax
 bare_has_no_syntax o = none_shown (longest roots o)

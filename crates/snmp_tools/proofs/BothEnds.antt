@@ -18,7 +18,7 @@ use Rattle.snmp_words.specs.Words.{ServeWords, StateJob, Stated, StatesNumber, r
 use Rattle.snmp_tools.specs.serve.Outcome as serve
 use Rattle.snmp_tools.specs.{serve.Outcome.IsServedBy, serve.Outcome.IsServeOutcome, serve.Outcome.listening_line, serve.Service.IsPlaced}
 use Rattle.snmp_tools.specs.{serve.Service.served_agent, serve.TableFile.HasTable, load.Loaded.LoadFacts, Headline.IsWholeText, Message.Fault}
-use Rattle.snmp_tools.specs.{load.Loaded.AreLoaded, Seen.Seen, Serving.IsServeRun, Outcome.IsOutcome, Outcome.IsOutcomeBy, Outcome.IsRun}
+use Rattle.snmp_tools.specs.{load.Loaded.AreLoaded, Seen.Seen, Done.IsServeRun, Outcome.IsOutcome, Outcome.IsOutcomeBy, Outcome.IsRun}
 use Rattle.snmp_tools.specs.{Outcome.IsShown, Answer.AreRowsOf, Answer.Counts, Answer.HasFacts, Answer.IsAskedOver}
 use Rattle.snmp_tools.specs.BothEnds as ends
 use Rattle.snmp_tools.specs.BothEnds.{AreEndsOfOneRun, IsAskOfServer, IsAtAsker, IsAtServer, PrintsServed, ServesInTurn, events_of}

@@ -24,7 +24,7 @@ use Rattle.snmp_tools.specs.Question.{IsQuestionOf, LaterStep, LoadingStep, Plan
 use Rattle.snmp_tools.specs.Question.{asking, choices_step, mibs_step, get, names, subtree, walk, name_steps, reaching_steps, sent_steps, below_step}
 use Rattle.snmp_tools.specs.Question.{name_step, reach_step, sent_step}
 use Rattle.snmp_tools.proofs.ChosenLetters.{among, both, no_choice, one_choice}
-use Rattle.snmp_tools.proofs.TableNames.{OneMeaning, no_name, one_look_up, one_name}
+use Rattle.snmp_tools.proofs.{Steps.each_name, TableNames.OneMeaning, TableNames.no_name, TableNames.one_look_up, TableNames.one_name}
 
 pub held_is : (held : Option (Option (List ℕ))) (text other : List ℕ) → HoldsIfKnown held (Some text) → held ≡ Some (Some other) → text ≡ other
 held_is None text other h e = let no : ⊥ = cc in absurd no
@@ -146,20 +146,11 @@ module _ (one : OneMeaning)
       absurd (f.4.0 (subst (λ (a : List ℕ). IsAtOrBelow a f.0) (one_name one ask.mib text o f.1 means f.3)
       (subst (IsAtOrBelow o) (one_name one ask.mib root_text root f.0 root_means f.2) at)))
 
-  all_named : (texts os : List (List ℕ)) → AreNames ask.mib texts os → AreDone Wants (map name_step texts)
-  all_named [] os e = tt
-  all_named (text ∷ texts) [] e = absurd e
-  all_named (text ∷ texts) (o ∷ os) e = (name_want text o e.0, all_named texts os e.1)
-
   all_sent : (texts os : List (List ℕ)) → AreNames ask.mib texts os → All (λ o. IsWire (wire o)) os → AreDone Wants (map sent_step texts)
   all_sent [] os e sent = tt
   all_sent (text ∷ texts) [] e sent = absurd e
   all_sent (text ∷ texts) (o ∷ os) e sent =
       (sent_want text o e.0 (All-head (λ n. IsWire (wire n)) o os sent), all_sent texts os e.1 (All-tail (λ n. IsWire (wire n)) o os sent))
-
-  after_named : (given planned : Option (List ℕ)) → IsNameIfGiven ask.mib given planned → AreDone Wants (goes_on_after (λ text. name_step text ∷ []) given)
-  after_named None planned h = tt
-  after_named (Some text) planned h = (name_want text h.0 h.1, tt)
 
   after_sent : (text root : List ℕ) (given planned : Option (List ℕ)) → TextMeans ask.mib text (Ok root) → IsNameIfGiven ask.mib given planned
       → CanGoOn root planned → AreDone Wants (goes_on_after (λ t. below_step text t ∷ sent_step t ∷ []) given)
@@ -167,12 +158,6 @@ module _ (one : OneMeaning)
   after_sent text root (Some t) planned means h can =
       let go = subst (CanGoOn root) h.2 can in
       (below_want text t root h.0 means h.1 go.0, (sent_want t h.0 h.1 go.1, tt))
-
-  named_want : (request : Request) (choices : Choices) (question : Question) → IsQuestionOf request choices ask.mib question
-      → AreDone Wants (name_steps request)
-  named_want (get texts) choices (names os) q = all_named texts os q
-  named_want (walk bulk letters after name) choices (subtree w) q = (name_want (root_text name) w.root q.root, after_named after w.after q.goes_on)
-  named_want request choices question q = absurd q
 
   sending_want : (request : Request) (choices : Choices) (question : Question) → IsQuestionOf request choices ask.mib question → CanBeSent question
       → AreDone Wants (sent_steps request)
@@ -184,7 +169,7 @@ module _ (one : OneMeaning)
   reaching_want : AreDone Wants (reaching_steps words.request)
   reaching_want =
       both Wants (name_steps words.request) (reach_step ∷ [])
-      (named_want words.request ask.asked.choices ask.plan.question ask.asked.question) (
+      (each_name ask.mib Wants name_want words.request ask.asked.choices ask.plan.question ask.asked.question) (
         (λ f. table_want_only (subst (λ (a : Address). ReachFails files ask.mib a why) (agent_is f.0 f.1) f.2)),
         tt,
       )

@@ -50,11 +50,11 @@ module _ {S : Type 0} (takes : S → VarBind → Result (Unit {0}) SinkFault →
   printed_up_to old new rows turned why is h = printed old new rows is h.0
 
 -- a printer: it keeps its tree, its letters and its output
-module _ {S R N : Type 0} (tree : S → R) (letters : S → Letters) (name : S → N) (stream : S → Stream) (mib : R → Contents) where
+module _ {S N : Type 0} (tree : S → Contents) (letters : S → Letters) (name : S → N) (stream : S → Stream) where
   abbrev pub prints : S → VarBind → Result (Unit {0}) SinkFault → S → Type 0
   prints old binding result new =
       (tree new ≡ tree old) × (letters new ≡ letters old) × (name new ≡ name old)
-      × TakesLine (mib (tree old)) (letters old) (stream old) binding result (stream new)
+      × TakesLine (tree old) (letters old) (stream old) binding result (stream new)
 
   module _ (first : S) where
     abbrev Is : S → Type 0
@@ -64,21 +64,21 @@ module _ {S R N : Type 0} (tree : S → R) (letters : S → Letters) (name : S �
     stays old new binding result is h = (h.0 ∙ is.0, h.1 ∙ is.1, h.2 ∙ is.2)
 
     writes : (old new : S) (binding : VarBind) (result : Result (Unit {0}) SinkFault) → Is old → prints old binding result new
-        → TakesLine (mib (tree first)) (letters first) (stream old) binding result (stream new)
+        → TakesLine (tree first) (letters first) (stream old) binding result (stream new)
     writes old new binding result is h =
-        let P : R → Type 0 = λ r. TakesLine (mib r) (letters old) (stream old) binding result (stream new) in
-        let Q : Letters → Type 0 = λ l. TakesLine (mib (tree first)) l (stream old) binding result (stream new) in
+        let P : Contents → Type 0 = λ m. TakesLine m (letters old) (stream old) binding result (stream new) in
+        let Q : Letters → Type 0 = λ l. TakesLine (tree first) l (stream old) binding result (stream new) in
         subst Q is.1 (subst P is.0 h.3)
 
     module _ (new : S) (end : WalkEnd) (Facts : (rows refused : List VarBind) → Type 0) (run : IsRun prints first end new Facts) where
       pub same_name : name new ≡ name first
-      same_name = (stays_to_the_end prints stream Is (mib (tree first)) (letters first) stays writes first new run.rows run.refused end (refl, refl, refl)
+      same_name = (stays_to_the_end prints stream Is (tree first) (letters first) stays writes first new run.rows run.refused end (refl, refl, refl)
           run.took).2
 
-      pub are_printed : ArePrinted (mib (tree first)) (letters first) (stream first) (stream new) end Facts
+      pub are_printed : ArePrinted (tree first) (letters first) (stream first) (stream new) end Facts
       are_printed = record {
         rows = run.rows;
         refused = run.refused;
-        lines = printed_up_to prints stream Is (mib (tree first)) (letters first) stays writes first new run.rows run.refused end (refl, refl, refl) run.took;
+        lines = printed_up_to prints stream Is (tree first) (letters first) stays writes first new run.rows run.refused end (refl, refl, refl) run.took;
         facts = run.facts;
       }

@@ -9,14 +9,6 @@ use Rattle.snmp_tools.specs.translate.Refusal.{IsTranslateRefusal, TranslationFa
 use Rattle.snmp_tools.specs.translate.Style.{IsStyleOf, first_other_of_t}
 use Rattle.snmp_tools.proofs.Steps.{first, later}
 
-pub letters_fail : (words : TranslateWords) (files : Holdings) (octet : ℕ) → first_other words.letters ≡ Some octet
-    → TranslationFails words files (bad_letter octet)
-letters_fail words files octet other = first _ _ _ letters_step _ (octet, other, refl)
-
-pub details_fail : (words : TranslateWords) (files : Holdings) (octet : ℕ) → first_other words.letters ≡ None
-    → first_other_of_t words.details ≡ Some octet → TranslationFails words files (bad_letter octet)
-details_fail words files octet known other = later _ _ _ letters_step _ known (first _ _ _ details_step _ (octet, other, refl))
-
 pub modules_fail : (words : TranslateWords) (files : Holdings) (style : Style) (why : Fault) → IsStyleOf words style
     → (why ≡ out_of_memory) ⊎ MibsFail files words.mibs why → IsTranslateRefusal words files why
 modules_fail words files style why styled (inl none) = inl none

@@ -8,7 +8,8 @@ use Rattle.snmp_wire.specs.Message.{VarBind}
 use Rattle.snmp_walk.specs.{declared.end.SinkFault.SinkFault, Sink.Given}
 use Rattle.snmp_walk.specs.declared.end.SinkFault.TheVariants as fault
 use Rattle.snmp_io.specs.{Streams.appended-twice, Streams.extended-twice, Output.FailsWithin, Output.Stream, Output.appended, Output.extended}
-use Rattle.snmp_tools.specs.{Lines.AreLines, Lines.IsLineOf}
+use Rattle.smi_show.specs.Line.{IsLine}
+use Rattle.snmp_tools.specs.Lines.{AreLines}
 use Rattle.smi_tree.specs.{Tree.Contents}
 use Rattle.snmp_tools.proofs.Printed.{lines_of_both, prints}
 
@@ -43,10 +44,10 @@ fails_in_one before after a b f =
 
 -- the line of one more, by what is the tree and are the letters from the start: lines of a list are
 -- those of its first part and of its last
-pub next_line : {R : Type 0} (mib : R → Contents) (tree first : R) (letters from : Letters) (rows : List VarBind) (p : VarBind) (text line all : List ℕ)
-    → tree ≡ first → letters ≡ from → AreLines (mib first) from rows text → IsLineOf (mib tree) letters p line → all ≡ text ++ line
-    → AreLines (mib first) from (rows ++ p ∷ []) all
-next_line {R} mib tree first letters from rows p text line all same_tree same_letters lines is e = grind (arith, common_steps, lines_of_both, append-nil)
+pub next_line : (tree first : Contents) (letters from : Letters) (rows : List VarBind) (p : VarBind) (text line all : List ℕ)
+    → tree ≡ first → letters ≡ from → AreLines first from rows text → IsLine tree letters p.name p.value line → all ≡ text ++ line
+    → AreLines first from (rows ++ p ∷ []) all
+next_line tree first letters from rows p text line all same_tree same_letters lines is e = grind (arith, common_steps, lines_of_both, append-nil)
 
 -- what holds where memory didn't run out
 pub at_ok : {E P : Type 0} (result : Result (Unit {0}) E) → false ≡ is_err result → OnOk result P → P
@@ -59,8 +60,7 @@ at_err (Ok done) e h = let no : ⊥ = cc in absurd no
 at_err (Err why) e h = h
 
 -- a printer, which has a state after each text
-module _ {S R N : Type 0} (tree : S → R) (letters : S → Letters) (name : S → N) (stream : S → Stream) (mib : R → Contents)
-    (later : S → List ℕ → S)
+module _ {S N : Type 0} (tree : S → Contents) (letters : S → Letters) (name : S → N) (stream : S → Stream) (later : S → List ℕ → S)
     (same : (s : S) (text : List ℕ) → (tree (later s text) ≡ tree s) × (letters (later s text) ≡ letters s) × (name (later s text) ≡ name s))
     (reaches : (s : S) (text : List ℕ) → stream (later s text) ≡ extended (stream s) text) where
   abbrev IsLike : S → S → Type 0
@@ -69,14 +69,14 @@ module _ {S R N : Type 0} (tree : S → R) (letters : S → Letters) (name : S �
   like_later : (new old : S) (text : List ℕ) → IsLike new old → IsLike new (later old text)
   like_later new old text is = let s = same old text in (is.0 ∙ sym s.0, is.1 ∙ sym s.1, is.2 ∙ sym s.2)
 
-  lines_later : (old : S) (rows : List VarBind) (line text : List ℕ) → AreLines (mib (tree old)) (letters old) rows text
-      → AreLines (mib (tree (later old line))) (letters (later old line)) rows text
+  lines_later : (old : S) (rows : List VarBind) (line text : List ℕ) → AreLines (tree old) (letters old) rows text
+      → AreLines (tree (later old line)) (letters (later old line)) rows text
   lines_later old rows line text lines = grind (arith, common_steps)
 
   -- all lines were written
   pub given_all : (old new : S) (p : VarBind) (more : List VarBind) (text : List ℕ) → IsLike new old
-      → AreLines (mib (tree old)) (letters old) (p ∷ more) text → stream new ≡ extended (stream old) text
-      → Given (prints tree letters name stream mib) old (p ∷ more) new
+      → AreLines (tree old) (letters old) (p ∷ more) text → stream new ≡ extended (stream old) text
+      → Given (prints tree letters name stream) old (p ∷ more) new
   given_all old new p [] text is (line, rest, here, none, whole) taken = grind (arith, common_steps, append-nil)
   given_all old new p (q ∷ more) text is (line, rest, here, lines, whole) taken =
       let s = same old line in
@@ -91,14 +91,14 @@ module _ {S R N : Type 0} (tree : S → R) (letters : S → Letters) (name : S �
   abbrev IsCutOff : S → List VarBind → SinkFault → S → Type 0
   IsCutOff old rows why new =
       (front : List VarBind) × (p : VarBind) × (back : List VarBind) × (rows ≡ front ++ p ∷ back) × (between : S)
-      × Given (prints tree letters name stream mib) old front between × prints tree letters name stream mib between p (Err why) new
+      × Given (prints tree letters name stream) old front between × prints tree letters name stream between p (Err why) new
 
-  refused_here : (old new : S) (p : VarBind) (more : List VarBind) (line : List ℕ) → IsLike new old → IsLineOf (mib (tree old)) (letters old) p line
-      → FailsWithin (stream old) line (stream new) → IsCutOff old (p ∷ more) fault.Output new
+  refused_here : (old new : S) (p : VarBind) (more : List VarBind) (line : List ℕ) → IsLike new old
+      → IsLine (tree old) (letters old) p.name p.value line → FailsWithin (stream old) line (stream new) → IsCutOff old (p ∷ more) fault.Output new
   refused_here old new p more line is here fails = ([], p, more, refl, old, refl, (is.0, is.1, is.2, (line, here, fails)))
 
   refused_after : (old new : S) (p : VarBind) (more : List VarBind) (line : List ℕ) (why : SinkFault)
-      → IsLineOf (mib (tree old)) (letters old) p line → IsCutOff (later old line) more why new → IsCutOff old (p ∷ more) why new
+      → IsLine (tree old) (letters old) p.name p.value line → IsCutOff (later old line) more why new → IsCutOff old (p ∷ more) why new
   refused_after old new p more line why here (front, q, back, order, between, given, refused) =
       let s = same old line in (
         p ∷ front,
@@ -111,7 +111,7 @@ module _ {S R N : Type 0} (tree : S → R) (letters : S → Letters) (name : S �
       )
 
   pub refused_one : (old new : S) (p : VarBind) (more : List VarBind) (text : List ℕ) → IsLike new old
-      → AreLines (mib (tree old)) (letters old) (p ∷ more) text → FailsWithin (stream old) text (stream new)
+      → AreLines (tree old) (letters old) (p ∷ more) text → FailsWithin (stream old) text (stream new)
       → IsCutOff old (p ∷ more) fault.Output new
   refused_one old new p [] text is (line, rest, here, none, whole) cut =
       let one : text ≡ line = whole ∙ ap (λ t. line ++ t) none ∙ append-nil line in
@@ -132,15 +132,15 @@ module _ {S R N : Type 0} (tree : S → R) (letters : S → Letters) (name : S �
 
   -- The text of the lines was handed to the output, which is as it was before.
   module _ (old new : S) (p : VarBind) (more left all : List VarBind) (text sent : List ℕ) (start : Stream) (is : IsLike new old)
-      (lines : AreLines (mib (tree old)) (letters old) (p ∷ more) text) (parts : all ≡ (p ∷ more) ++ left) (whole : sent ≡ text)
+      (lines : AreLines (tree old) (letters old) (p ∷ more) text) (parts : all ≡ (p ∷ more) ++ left) (whole : sent ≡ text)
       (first : start ≡ stream old) where
     taken : stream new ≡ extended start sent → stream new ≡ extended (stream old) text
     taken e = e ∙ ap (λ (st : Stream). extended st sent) first ∙ ap (extended (stream old)) whole
 
     pub given_if : (result : Result (Unit {0}) SinkFault) → left ≡ [] → OnOk result (stream new ≡ extended start sent)
-        → OnOk result (Given (prints tree letters name stream mib) old all new)
+        → OnOk result (Given (prints tree letters name stream) old all new)
     given_if (Ok done) none e =
-        let P : List VarBind → Type 0 = λ rows. Given (prints tree letters name stream mib) old rows new in
+        let P : List VarBind → Type 0 = λ rows. Given (prints tree letters name stream) old rows new in
         let is_all : all ≡ p ∷ more = parts ∙ ap (λ ps. (p ∷ more) ++ ps) none ∙ append-nil (p ∷ more) in
         subst P (sym is_all) (given_all old new p more text is lines (taken e))
     given_if (Err why) none e = tt

@@ -10,7 +10,8 @@ use Rattle.smi_value.specs.declared.letters.TypeForm.TheVariants as types
 use Rattle.smi_value.specs.declared.letters.StringForm.TheVariants as strings
 use Rattle.smi_value.specs.Pieces as pieces
 use Rattle.smi_value.specs.Texts.{escaped, hexadecimal_text, is_printable}
-use Rattle.snmp_tools.specs.{Lines.AreLines, Lines.IsLineOf, RowText.row_line, RowText.string_text, RowText.value_text}
+use Rattle.smi_show.specs.Line.{IsLine}
+use Rattle.snmp_tools.specs.{Lines.AreLines, RowText.row_line, RowText.string_text, RowText.value_text}
 use Rattle.smi_tree.specs.{Tree.Contents}
 use Rattle.smi_tree.specs.{Naming.nearest_syntax}
 
@@ -71,7 +72,7 @@ value_is names same value text shows = shows
 -- ---- lines
 
 -- without a syntax both parts of a line are the stated ones: the name in numbers, and the value
-line_is : (mib : Contents) → HasNoSyntax mib → (row : VarBind) (line : List ℕ) → IsLineOf mib numeric_letters row line → line ≡ row_line row
+line_is : (mib : Contents) → HasNoSyntax mib → (row : VarBind) (line : List ℕ) → IsLine mib numeric_letters row.name row.value line → line ≡ row_line row
 line_is mib none row line is = grind (arith, common_steps, value_is)
 
 pub lines_are : (mib : Contents) → HasNoSyntax mib → (rows : List VarBind) (text : List ℕ) → AreLines mib numeric_letters rows text

@@ -9,7 +9,7 @@ use Rattle.snmp_net.specs.Address.{Address, address_of}
 use Rattle.snmp_words.specs.Words.{texts_at}
 use Rattle.snmp_tools.specs.Asking.{HasAgent, IsNameIfGiven, IsReached, MibsFail, NameFails, ReachFails, agent_step, community_step, letters_step}
 use Rattle.snmp_tools.specs.Asking.{version_step}
-use Rattle.snmp_tools.specs.{private.Chosen.chosen, Letters.Choices, Message.Fault, Message.out_of_memory, Message.unsendable, load.Loaded.IsMibOf}
+use Rattle.snmp_tools.specs.{private.Planned.chosen, Letters.Choices, Message.Fault, Message.out_of_memory, Message.unsendable, load.Loaded.IsMibOf}
 use Rattle.snmp_tools.specs.{private.Start.BeginFails, private.Start.ResumeFails, declared.plan.Orders.Orders, declared.plan.Plan.Plan}
 use Rattle.snmp_tools.specs.private.Planned.{AgentFails, AreOrdersOf, HasTextsOf, NamesFail, ShowingFails, plan_of, question_of}
 use Rattle.snmp_tools.specs.Question.{AreNames, AskFor, AskWords, FailsBy, FailsFor, HasMeaning, HasSendable, HasUnsendable, IsDoneBy, IsDoneFor}
@@ -78,6 +78,22 @@ pub are_named : (mib : Contents) (texts os : List (List ℕ)) → AreNames mib t
 are_named mib [] os e = tt
 are_named mib (text ∷ texts) [] e = absurd e
 are_named mib (text ∷ texts) (name ∷ os) e = ((name, e.0), are_named mib texts os e.1)
+
+-- what is true of the step of each text that states a name is true of all steps of a request's names
+module _ (mib : Contents) (P : LaterStep → Type 0) (one : (text o : List ℕ) → TextMeans mib text (Ok o) → P (name_step text)) where
+  each_text : (texts os : List (List ℕ)) → AreNames mib texts os → AreDone P (map name_step texts)
+  each_text [] os e = tt
+  each_text (text ∷ texts) [] e = absurd e
+  each_text (text ∷ texts) (o ∷ os) e = (one text o e.0, each_text texts os e.1)
+
+  each_after : (given planned : Option (List ℕ)) → IsNameIfGiven mib given planned → AreDone P (goes_on_after (λ text. name_step text ∷ []) given)
+  each_after None planned h = tt
+  each_after (Some text) planned h = (one text h.0 h.1, tt)
+
+  pub each_name : (request : Request) (choices : Choices) (question : Question) → IsQuestionOf request choices mib question → AreDone P (name_steps request)
+  each_name (get texts) choices (names os) q = each_text texts os q
+  each_name (walk bulk letters after name) choices (subtree w) q = (one (root_text name) w.root q.root, each_after after w.after q.goes_on)
+  each_name request choices question q = absurd q
 
 -- one more text that states a name
 pub more_names : (mib : Contents) (texts : List (Bor (List ℕ))) (i : ℕ) (d : Bor (List ℕ)) (os : List (List ℕ)) (o : List ℕ) → i < length texts
@@ -190,16 +206,9 @@ module _ (words : AskWords) (files : Holdings) (why : Fault) where
           by_names (inl e) = loaded (inl e)
           by_names (inr h) = loaded (inr (before_more DoneBy FailsLater why (name_steps words.request) (reach_step ∷ []) h))
 
-      after_named : (given planned : Option (List ℕ)) → IsNameIfGiven mib given planned
-          → AreDone DoneBy (goes_on_after (λ text. name_step text ∷ []) given)
-      after_named None planned h = tt
-      after_named (Some text) planned h = ((h.0, h.1), tt)
-
       names_done : (request : Request) (choices : Choices) (question : Question) → IsQuestionOf request choices mib question
           → AreDone DoneBy (name_steps request)
-      names_done (get texts) choices (names os) q = map_done name_step (HasMeaning mib) DoneBy (λ text d. d) texts (are_named mib texts os q)
-      names_done (walk bulk letters after name) choices (subtree w) q = ((w.root, q.root), after_named after w.after q.goes_on)
-      names_done request choices question q = absurd q
+      names_done = each_name mib DoneBy (λ text o means. (o, means))
 
       -- the name to go on after isn't below the root, or can't be sent
       resumed : (root after : List ℕ) (text : List ℕ) (given planned : Option (List ℕ)) → IsNameIfGiven mib given planned → planned ≡ Some after

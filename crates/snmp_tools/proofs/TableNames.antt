@@ -5,7 +5,7 @@ use Rattle.snmp_oid.specs.Identifier.{IsIdentifier}
 use Rattle.snmp_agent.specs.table.Format.{IsFrontRead, Names, bar, names_by, numeric_names}
 use Rattle.smi_show.specs.{name.Meaning.meaning, name.Meant.FrontMeans, name.Meant.TextMeans}
 use Rattle.smi_show.specs.declared.name.error.NameError.{NameError}
-use Rattle.snmp_tools.specs.{private.Resolved.names_in, serve.TableFile.AreNamesIn}
+use Rattle.snmp_tools.specs.{serve.TableFile.names_in, serve.TableFile.AreNamesIn}
 use Rattle.smi_tree.specs.{Tree.Contents}
 
 -- a text means one thing

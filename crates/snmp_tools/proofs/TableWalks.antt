@@ -20,14 +20,14 @@ use Rattle.smi_tree.specs.{Bare.bare, Tree.IsTree}
 use Rattle.snmp_io.specs.{Files.Holdings, Count.HasRisen, Output.IsWritten, Output.Stream, Output.TakesFront, Output.extended, Streams.extended-nil}
 use Rattle.snmp_net.specs.Address.{Address, IsAgent, udp, table as table_at}
 use Rattle.snmp_words.specs.Words.{ServeWords, StateJob, WalkWords, snmpd, walk_line}
-use Rattle.snmp_tools.specs.{private.Resolved.names_in, serve.TableFile.AreNamesIn, Headline.IsAsk, Headline.IsMishap, Headline.WritesRowsOf}
+use Rattle.snmp_tools.specs.{serve.TableFile.names_in, serve.TableFile.AreNamesIn, Headline.IsAsk, Headline.IsMishap, Headline.WritesRowsOf}
 use Rattle.snmp_tools.specs.{Lines.AreLines, private.Planned.numeric_walk, RowText.row_line, Letters.HaveChosen, Letters.no_choices}
 use Rattle.snmp_tools.specs.{Answer.IsFeasible, Answer.agent_over, Answer.first_of, Asking.AreShown, Asking.IsNameIfGiven}
 use Rattle.snmp_tools.specs.Question.{AskFor, Plan, Walk, of_walk, root_text, subtree}
 use Rattle.snmp_tools.specs.BothEnds.{IsAskInNumbers, IsWalkInNumbers}
 use Rattle.snmp_tools.specs.TableWalk as page
 use Rattle.snmp_tools.specs.TableWalk.{AreRowsBelow, AreWalked, HoldsTableFile, IsGot, PrintsRows, table_walk}
-use Rattle.snmp_tools.proofs.BareNames.{bare_has_no_syntax, bare_is_loaded, bare_mib}
+use Rattle.snmp_tools.proofs.BareNames.{bare_has_no_syntax, bare_is_loaded}
 use Rattle.smi_tree.specs.{Tree.Contents}
 use Rattle.snmp_tools.proofs.RowLines.{HasNoSyntax, lines_are, numeric_are, numeric_letters}
 
@@ -38,7 +38,7 @@ begins_with_dot : (o : List ℕ) → codes "." ++ drop 1 (numeric_text o) ≡ nu
 begins_with_dot [] = refl
 begins_with_dot (n ∷ more) = refl
 
-pub words_are : (path root : List ℕ) → table_walk path root ≡ walk_line (codes "-On" ∷ []) path (drop 1 (numeric_text root))
+pub words_are : (path root : List ℕ) → table_walk path root ≡ walk_line path (drop 1 (numeric_text root))
 words_are path root = grind (arith, common_steps, begins_with_dot)
 
 abbrev plain_walk : (root : List ℕ) → Walk
@@ -67,7 +67,7 @@ nothing_chosen = grind (arith, common_steps)
 
 words_ask : NumbersAreRead → (words : WalkWords) (root : List ℕ) (agent : Address) → words.asking.protocol ≡ codes "2c" → words.asking.letters ≡ codes "n"
     → length words.asking.community ≤ 255 → IsAgent words.asking.agent agent → words.letters ≡ [] → words.after ≡ None
-    → words.name ≡ Some (numeric_text root) → IsIdentifier root → AskFor (of_walk false words) bare_mib (walk_plan words root agent)
+    → words.name ≡ Some (numeric_text root) → IsIdentifier root → AskFor (of_walk false words) bare (walk_plan words root agent)
 words_ask read words root agent version numeric short is none whole from identifier = record {
   version = version;
   letters = subst (λ (t : List ℕ). AreShown t numeric_letters) (sym numeric) (record { known = refl; read = numeric_are });
@@ -81,8 +81,8 @@ words_ask read words root agent version numeric short is none whole from identif
     mode = refl;
     method = refl;
     counts = refl;
-    root = subst (λ (n : Option (List ℕ)). TextMeans bare_mib (root_text n) (Ok root)) (sym from) (read bare_mib root identifier);
-    goes_on = subst (λ (a : Option (List ℕ)). IsNameIfGiven bare_mib a None) (sym whole) refl;
+    root = subst (λ (n : Option (List ℕ)). TextMeans bare (root_text n) (Ok root)) (sym from) (read bare root identifier);
+    goes_on = subst (λ (a : Option (List ℕ)). IsNameIfGiven bare a None) (sym whole) refl;
   };
 }
 
@@ -217,19 +217,19 @@ feasible ls path root view got identifier sendable is is_view room short few = r
 -- the table of lines, and what a walk of it gives
 record Walked (ls : List (List ℕ)) (root : List ℕ) : Type 0 where
   view : MibView
-  by_names : IsTableOf (names_in bare_mib) ls view
+  by_names : IsTableOf (names_in bare) ls view
   in_lines : IsTableIn first_format ls view
   is_view : IsMibView view
   got : VarBind
   is_got : IsGet view (wire root) got
   gives : AreWalked ls root (or_only got (rows_below root (variables view)))
 
-module _ (loads : IsTree [] bare []) (read : NumbersAreRead) (named : AreNamesIn bare_mib (names_in bare_mib)) (law : BelowAreRows)
+module _ (loads : IsTree [] bare []) (read : NumbersAreRead) (named : AreNamesIn bare (names_in bare)) (law : BelowAreRows)
     (ordered : (view : MibView) (root : List ℕ) → IsMibView view → AreOrdered (rows_below root (variables view)))
     (one_get : (view : MibView) (o : List ℕ) → HasOne (IsGet view o))
-    (tables : (ls : List (List ℕ)) → AreTableBy (names_in bare_mib) ls
-    → (view : MibView) × IsTableOf (names_in bare_mib) ls view × IsMibView view)
-    (plain : (ls : List (List ℕ)) (view : MibView) → (IsMarked ls → ⊥) → (IsTableOf (names_in bare_mib) ls view ↔ IsTableIn first_format ls view)) where
+    (tables : (ls : List (List ℕ)) → AreTableBy (names_in bare) ls
+    → (view : MibView) × IsTableOf (names_in bare) ls view × IsMibView view)
+    (plain : (ls : List (List ℕ)) (view : MibView) → (IsMarked ls → ⊥) → (IsTableOf (names_in bare) ls view ↔ IsTableIn first_format ls view)) where
   walked : (files : Holdings) (path root text : List ℕ) → HoldsTableFile files path root text → Walked (lines text) root
   walked files path root text holds =
       let stated = tables (lines text) (first_format, holds.unmarked, holds.table) in
@@ -256,7 +256,7 @@ module _ (loads : IsTree [] bare []) (read : NumbersAreRead) (named : AreNamesIn
       let w : Walked (lines text) root = walked files path root text holds in
       let rows : List VarBind = or_only w.got (rows_below root (variables w.view)) in
       let ask : IsAsk (of_walk false (numeric_walk path root)) files rows = record {
-        mib = bare_mib;
+        mib = bare;
         warnings = [];
         known = bare_is_loaded loads files [] refl;
         plan = file_plan path root;
@@ -267,7 +267,7 @@ module _ (loads : IsTree [] bare []) (read : NumbersAreRead) (named : AreNamesIn
         text = text;
         held = holds.held;
         view = w.view;
-        names = names_in bare_mib;
+        names = names_in bare;
         named = named;
         table = w.by_names;
         are_rows = (w.got, w.is_got, refl);
@@ -277,10 +277,10 @@ module _ (loads : IsTree [] bare []) (read : NumbersAreRead) (named : AreNamesIn
       record {
         rows = rows;
         are_walked = w.gives;
-        front = front_is bare_mib before after rows first.0 first.1 first.2 bare_has_no_syntax first.3 first.4 first.5;
+        front = front_is bare before after rows first.0 first.1 first.2 bare_has_no_syntax first.3 first.4 first.5;
         all = λ zero_status. (
             let whole = written.all_written_at_status_0 zero_status in
-            all_are bare_mib before after rows whole.0 bare_has_no_syntax whole.1 whole.2
+            all_are bare before after rows whole.0 bare_has_no_syntax whole.1 whole.2
             );
         ends = λ short few. mishap_is before after err_before err_after status
             (written.ends_at_status_0 (feasible (lines text) path root w.view w.got holds.identifier holds.sendable w.in_lines w.is_view room short few));
@@ -297,7 +297,7 @@ module _ (loads : IsTree [] bare []) (read : NumbersAreRead) (named : AreNamesIn
         rows = rows;
         are_walked = w.gives;
         ask = record {
-          mib = bare_mib;
+          mib = bare;
           warnings = [];
           known = bare_is_loaded loads files words.asking.mibs is.no_modules;
           plan = walk_plan words root (udp is.host is.port);
@@ -308,17 +308,17 @@ module _ (loads : IsTree [] bare []) (read : NumbersAreRead) (named : AreNamesIn
           over = refl;
           line = line;
           stated = stated;
-          nodes = bare_mib;
+          nodes = bare;
           node_warnings = [];
           nodes_known = bare_is_loaded loads server_files serving.mibs no_modules;
           text = text;
           held = holds.held;
           view = w.view;
-          names = names_in bare_mib;
+          names = names_in bare;
           named = named;
           table = w.by_names;
           are_rows = (w.got, w.is_got, refl);
         };
-        front = λ before after p. front_is bare_mib before after rows p.0 p.1 p.2 bare_has_no_syntax p.3 p.4 p.5;
-        all = λ before after p. all_are bare_mib before after rows p.0 bare_has_no_syntax p.1 p.2;
+        front = λ before after p. front_is bare before after rows p.0 p.1 p.2 bare_has_no_syntax p.3 p.4 p.5;
+        all = λ before after p. all_are bare before after rows p.0 bare_has_no_syntax p.1 p.2;
       }

@@ -1,13 +1,15 @@
 -- What is promised of a job, by the words that state it.
 use Rattle.std.specs.Prelude.{◌≡◌, ℕ, true, false, Option}
+use Rattle.snmp_io.specs.{Files.Holdings, Output.Stream}
 use Rattle.snmp_walk.specs.declared.link.Link.{Ghosts as LinkFacts}
 use Rattle.snmp_net.specs.declared.links.Links.{Ghosts as Network}
-use Rattle.snmp_words.specs.Words.{Stated, snmpbulkwalk, snmpd, snmpget, snmptranslate, snmpwalk}
+use Rattle.snmp_words.specs.Words.{ServeWords, Stated, TranslateWords, snmpbulkwalk, snmpd, snmpget}
+use Rattle.snmp_words.specs.Words.{snmptranslate, snmpwalk}
 use Rattle.snmp_tools.specs.{load.Loaded.LoadFacts, Headline.WritesRowsOf, Message.Fault}
-use Rattle.snmp_tools.specs.{Outcome.IsOutcome, Outcome.IsRun, Seen.Seen, Serving.IsServeRun}
-use Rattle.snmp_tools.specs.{Translating.IsTranslated, serve.Outcome.IsServeOutcome}
+use Rattle.snmp_tools.specs.{Outcome.IsOutcome, Outcome.IsReported, Outcome.IsRun, Seen.Seen}
+use Rattle.snmp_tools.specs.{serve.Outcome.IsServeOutcome, translate.Outcome.IsTranslateOutcome}
 use Rattle.snmp_tools.specs.Question.{AskWords, of_get, of_walk}
-use Rattle.snmp_tools.specs.translate.Outcome.{IsTranslateOutcome}
+use Rattle.snmp_tools.specs.translate.Headline.{PrintsAll, PrintsFront}
 
 -- the job of these words, which ask an agent, was done over the world outside
 pub record IsAskDone {N V D : Type 0} (net : Network N V D) (wire : LinkFacts V)
@@ -15,6 +17,26 @@ pub record IsAskDone {N V D : Type 0} (net : Network N V D) (wire : LinkFacts V)
   pub outcome_reported : IsRun net wire Loads words before after status
   pub rows_written : WritesRowsOf words before.files before.out after.out before.err after.err
       status
+
+-- what the words of snmptranslate print, and what is reported after the modules' warnings
+pub record IsTranslated (Loads : LoadFacts) (words : TranslateWords) (files : Holdings)
+    (out_before out_after err_before err_after : Stream) (status : ℕ) : Type 0 where
+  pub fault : Option Fault
+  pub warned : Stream
+  pub outcome : IsTranslateOutcome Loads words files out_before out_after err_before warned fault
+  pub is_reported : IsReported fault warned err_after status
+  -- at status 0 the texts of all names are printed, and nothing else
+  pub all_at_status_0 : status ≡ 0 → PrintsAll words files out_before out_after
+  -- whatever fails, nothing is printed, or a front of the texts of the first names
+  pub front : PrintsFront words files out_before out_after
+
+-- the outcome of the words of snmpd, which is reported after the modules' warnings
+pub record IsServeRun {N V D : Type 0} (net : Network N V D) (Loads : LoadFacts)
+    (words : ServeWords) (before after : Seen N) (status : ℕ) : Type 0 where
+  pub fault : Option Fault
+  pub warned : Stream
+  pub outcome : IsServeOutcome net Loads words before (record after { err = warned }) fault
+  pub reported : IsReported fault warned after.err status
 
 -- The job that was stated so was done: its status is this, and the world outside went from one
 -- state to the other. `net` is what is known of the network, `wire` of its links, and `Loads` of

@@ -54,17 +54,13 @@ abbrev pub IsWholeWritten : Contents → Plan → (rows : List VarBind) → (bef
 IsWholeWritten mib plan rows before after =
     (text : List ℕ) × IsWholeText mib plan rows text × (after ≡ extended before text)
 
--- It was reported that memory ran out, and before that the modules' warnings, if it was later: of
--- each a front where standard error failed.
-abbrev pub IsOutOfMemory : List Warning → (err_before err_after : Stream) → Type 0
-IsOutOfMemory warnings err_before err_after =
-    (warned : Stream) × IsWritten warned (codes "Out of memory.\n") err_after
-    × ((warned ≡ err_before) ⊎ IsWritten err_before (warning_lines warnings) warned)
-
--- the status is 1, and the output failed, or memory ran out
+-- The status is 1, and the output failed, or memory ran out, as is reported, and before that the
+-- modules' warnings, if it was later: of each a front where standard error failed.
 abbrev pub IsMishap : List Warning → (before after err_before err_after : Stream) → ℕ → Type 0
 IsMishap warnings before after err_before err_after status = (status ≡ 1)
-    × (HasRisen before.faults after.faults ⊎ IsOutOfMemory warnings err_before err_after)
+    × (HasRisen before.faults after.faults
+    ⊎ ((warned : Stream) × IsWritten warned (codes "Out of memory.\n") err_after
+    × ((warned ≡ err_before) ⊎ IsWritten err_before (warning_lines warnings) warned)))
 
 -- what is written of the rows that the words ask for, and the status
 pub record WritesRows (words : AskWords) (files : Holdings) (rows : List VarBind)

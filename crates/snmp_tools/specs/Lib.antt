@@ -9,8 +9,6 @@ pub mod Message
 pub mod Outcome
 pub mod Question
 pub mod Seen
-pub mod Serving
-pub mod Translating
 pub mod Usage
 pub mod translate
 pub mod serve

@@ -11,16 +11,11 @@ use Rattle.snmp_io.specs.Output.{FailsWithin, Stream, extended}
 use Rattle.snmp_tools.specs.{Message.Fault, Message.no_output, Message.out_of_memory}
 use Rattle.smi_tree.specs.{Tree.Contents}
 
--- the line of a binding, by the letters of -O
-abbrev pub IsLineOf : Contents → Letters → VarBind → List ℕ → Type 0
-IsLineOf mib letters binding line =
-    IsLine mib letters binding.name binding.value line
-
--- the lines of bindings, one after the other
+-- the lines of bindings by the letters of -O, one after the other
 abbrev pub AreLines : Contents → Letters → List VarBind → List ℕ → Type 0
 AreLines mib letters [] text = text ≡ []
 AreLines mib letters (binding ∷ more) text =
-    (line : List ℕ) × (rest : List ℕ) × IsLineOf mib letters binding line
+    (line : List ℕ) × (rest : List ℕ) × IsLine mib letters binding.name binding.value line
     × AreLines mib letters more rest × (text ≡ line ++ rest)
 
 -- The lines of the rows were written, whole, and where the output ended the walk a front of the
@@ -56,19 +51,15 @@ count_text counts count = if counts then count_line count else []
 
 -- ---- for private functions
 
--- What the output took of a text: the whole, a front where the output failed, and nothing where
--- memory for the text ran out.
-abbrev pub TakesText : Stream → List ℕ → Result (Unit {0}) SinkFault → Stream → Type 0
-TakesText before text (Ok _) after = after ≡ extended before text
-TakesText before text (Err fault.Output) after = FailsWithin before text after
-TakesText before text (Err fault.Memory) after = after ≡ before
-
--- what it took of the line of a binding; where memory for the line ran out, nothing
+-- what the output took of the line of a binding: the whole, a front where the output failed, and
+-- nothing where memory for the line ran out
 abbrev pub TakesLine : Contents → Letters → Stream → VarBind → Result (Unit {0}) SinkFault → Stream
     → Type 0
+TakesLine mib letters before binding (Ok _) after = (line : List ℕ)
+    × IsLine mib letters binding.name binding.value line × (after ≡ extended before line)
+TakesLine mib letters before binding (Err fault.Output) after = (line : List ℕ)
+    × IsLine mib letters binding.name binding.value line × FailsWithin before line after
 TakesLine mib letters before binding (Err fault.Memory) after = after ≡ before
-TakesLine mib letters before binding result after =
-    (line : List ℕ) × IsLineOf mib letters binding line × TakesText before line result after
 
 -- rows of which these facts hold were given, and their lines printed, until it ended in this way
 pub record ArePrinted (mib : Contents) (letters : Letters) (before after : Stream) (end : WalkEnd)

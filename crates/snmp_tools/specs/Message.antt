@@ -10,7 +10,7 @@ use Rattle.smi_show.specs.declared.name.error.NameError.{NameError}
 use Rattle.smi_show.specs.declared.name.error.NameError.TheVariants as name
 use Rattle.snmp_agent.specs.declared.table.error.TableError.{TableError}
 use Rattle.snmp_agent.specs.declared.table.error.TableError.TheVariants as table
-use Rattle.snmp_walk.specs.{declared.end.WalkEnd.WalkEnd, declared.end.SinkFault.SinkFault}
+use Rattle.snmp_walk.specs.declared.end.WalkEnd.{WalkEnd}
 use Rattle.snmp_walk.specs.declared.end.WalkEnd.TheVariants as walk_end
 use Rattle.snmp_walk.specs.declared.end.SinkFault.TheVariants as sink
 use Rattle.snmp_tools.specs.declared.failure.Failure.TheVariants as failure
@@ -57,17 +57,15 @@ abbrev pub status_of : Fault → ℕ
 status_of (ended agent (walk_end.Fault status index)) = 2
 status_of _ = 1
 
--- the names of the error statuses (RFC 3416, section 3)
-abbrev pub status_names : List (List ℕ)
-status_names =
+-- the name of an error status (RFC 3416, section 3)
+abbrev pub status_name : ℤ → List ℕ
+status_name (pos n) = slice_index_or (
     codes "noError" ∷ codes "tooBig" ∷ codes "noSuchName" ∷ codes "badValue" ∷ codes "readOnly"
     ∷ codes "genErr" ∷ codes "noAccess" ∷ codes "wrongType" ∷ codes "wrongLength"
     ∷ codes "wrongEncoding" ∷ codes "wrongValue" ∷ codes "noCreation" ∷ codes "inconsistentValue"
     ∷ codes "resourceUnavailable" ∷ codes "commitFailed" ∷ codes "undoFailed"
-    ∷ codes "authorizationError" ∷ codes "notWritable" ∷ codes "inconsistentName" ∷ []
-
-abbrev pub status_name : ℤ → List ℕ
-status_name (pos n) = slice_index_or status_names n (codes "unknown")
+    ∷ codes "authorizationError" ∷ codes "notWritable" ∷ codes "inconsistentName" ∷ [])
+    n (codes "unknown")
 status_name (negsuc n) = codes "unknown"
 
 -- what is wrong with the text of a name
@@ -84,10 +82,6 @@ table_message path (table.BadName line) = path ++ codes ":" ++ decimal line ++ c
 table_message path (table.BadValue line) = path ++ codes ":" ++ decimal line ++ codes ": bad value"
 table_message path (table.Double line) = path ++ codes ":" ++ decimal line ++ codes ": double name"
 table_message path table.Memory = codes "Out of memory."
-
-abbrev pub sink_message : SinkFault → List ℕ
-sink_message sink.Output = codes "The output failed."
-sink_message sink.Memory = codes "Out of memory."
 
 -- an error status and error index
 abbrev pub error_status_text : ℤ → ℤ → List ℕ
@@ -106,7 +100,8 @@ end_message agent walk_end.TooManyRequests = codes "Too many requests."
 end_message agent walk_end.RequestTooLong = codes "Request too long."
 end_message agent walk_end.NoResponse = codes "Timeout: No Response from " ++ agent ++ codes "."
 end_message agent walk_end.Link = codes "The link failed."
-end_message agent (walk_end.Sink fault) = sink_message fault
+end_message agent (walk_end.Sink sink.Output) = codes "The output failed."
+end_message agent (walk_end.Sink sink.Memory) = codes "Out of memory."
 
 -- the line of a fault, without its newline
 abbrev pub fault_message : Fault → List ℕ

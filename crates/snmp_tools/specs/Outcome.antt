@@ -1,5 +1,5 @@
 -- What a job that asks an agent writes, and what it reports.
-use Rattle.std.specs.Prelude.{◌≡◌, ◌⊎◌, ◌+◌, ◌++◌, ℕ, Bool, true, List, codes, Option, Some, None}
+use Rattle.std.specs.Prelude.{◌≡◌, ◌⊎◌, ◌+◌, ◌++◌, ℕ, Bool, true, false, List, codes, Option, Some, None}
 use Rattle.snmp_tools.specs.{load.Loaded.LoadFacts, load.Warned.warning_lines}
 use Rattle.snmp_tools.specs.{serve.TableFile.HasTable, load.Loaded.AreLoaded, Seen.Seen}
 use Rattle.smi_names.specs.declared.nodes.warning.Warning.{Warning}
@@ -8,7 +8,6 @@ use Rattle.snmp_wire.specs.Message.{VarBind}
 use Rattle.snmp_walk.specs.{declared.end.WalkEnd.WalkEnd, declared.link.Link.Ghosts as LinkFacts}
 use Rattle.snmp_walk.specs.declared.end.WalkEnd.TheVariants as ending
 use Rattle.snmp_io.specs.{Count.HasRisen, Output.IsWritten, Output.Stream, Files.MayHold}
-use Rattle.smi_value.specs.declared.letters.Letters.{Letters}
 use Rattle.snmp_tools.specs.Lines.{IsPrintedUpTo, IsTextPrinted, count_line}
 use Rattle.snmp_tools.specs.Message.{Fault, ended, fault_message, status_of}
 use Rattle.snmp_net.specs.{Address.table, Address.udp, declared.links.Links.Ghosts as Network}
@@ -19,35 +18,26 @@ use Rattle.smi_tree.specs.{Tree.Contents}
 
 -- ---- what is written
 
--- the fault that is reported of a run that ended in this way
-abbrev pub fault_at : (agent : List ℕ) → WalkEnd → Option Fault
-fault_at agent (ending.Done count) = None
-fault_at agent end = Some (ended agent end)
-
 -- what follows the lines, with -Cp, and the fault that is reported, if any is
 abbrev pub IsFinished : (agent : List ℕ) → WalkEnd → (counts : Bool) → (before after : Stream)
     → Option Fault → Type 0
 IsFinished agent (ending.Done count) true before after fault =
     IsTextPrinted before (count_line count) after fault
-IsFinished agent end counts before after fault = (after ≡ before) × (fault ≡ fault_at agent end)
+IsFinished agent (ending.Done count) false before after fault = (after ≡ before) × (fault ≡ None)
+IsFinished agent end counts before after fault =
+    (after ≡ before) × (fault ≡ Some (ended agent end))
 
--- what a run gave was printed, of which such facts hold, and why not all of it, if not all was
-pub record IsPrinted (Facts : (given refused : List VarBind) → WalkEnd → Type 0) (mib : Contents)
-    (letters : Letters) (counts : Bool) (agent : List ℕ) (before after : Stream)
-    (fault : Option Fault) : Type 0 where
+-- what a run gave to the question of a plan was printed, of which such facts hold, and why not all
+-- of it, if not all was
+pub record IsShown (Facts : (given refused : List VarBind) → WalkEnd → Type 0) (mib : Contents)
+    (plan : Plan) (agent : List ℕ) (before after : Stream) (fault : Option Fault) : Type 0 where
   pub given : List VarBind
   pub refused : List VarBind
   pub end : WalkEnd
   pub between : Stream
   pub facts : Facts given refused end
-  pub lines : IsPrintedUpTo mib letters before given refused end between
-  pub finish : IsFinished agent end counts between after fault
-
--- the same of the question of a plan
-abbrev pub IsShown : (Facts : (given refused : List VarBind) → WalkEnd → Type 0) → Contents → Plan
-    → (agent : List ℕ) → (before after : Stream) → Option Fault → Type 0
-IsShown Facts mib plan agent before after fault =
-    IsPrinted Facts mib plan.letters (counts_in plan.question) agent before after fault
+  pub lines : IsPrintedUpTo mib plan.letters before given refused end between
+  pub finish : IsFinished agent end (counts_in plan.question) between after fault
 
 -- one link was opened to a host and port, the network counted no fault, and else nothing changed
 pub record HasOpened {N V D : Type 0} (net : Network N V D) (host : List ℕ) (port seconds : ℕ)

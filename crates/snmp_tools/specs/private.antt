@@ -1,5 +1,3 @@
 pub mod Choosing
-pub mod Chosen
 pub mod Planned
-pub mod Resolved
 pub mod Start

@@ -1,6 +1,8 @@
 //! From words to status.
-ghost use Rattle.std.specs.{Prelude.◌≡◌, Prelude.ℕ, Prelude.List, Prelude.codes, Str.Lines.lines};
-ghost use Rattle.snmp_words.specs.Words.{AreFaulty, StateJob, Stated, texts_at};
+ghost use Rattle.std.specs.Prelude.{◌≡◌, ◌≢◌, ℕ, List, [], codes};
+ghost use Rattle.std.specs.Str.Lines.{lines};
+ghost use Rattle.snmp_words.specs.{Command.faults_of, Words.StateJob, Words.Stated};
+ghost use Rattle.snmp_words.specs.Words.{texts_at};
 ghost use Rattle.snmp_tools.specs.{Done.IsJobDone, Seen.seen, load.Loaded.any_load};
 ghost use Rattle.snmp_tools.specs.TableWalk.{HoldsTableFile, PrintsRows, table_walk};
 ghost use Rattle.snmp_tools.specs.Usage.{AreFaultless, IsHelpOrMistake, PrintsHelp};
@@ -42,7 +44,7 @@ pub fn tool<F: Files, L: Links, O: Output, E: Output>(
         (seen (F.text_at files.now) links.new (O.stream out.new) (E.stream err.new)) result }
     // Words with a fault give status 1 and a message, or ask for help or the version, which is
     // printed. The network stays as it was.
-    ensures help_or_mistake { AreFaulty (texts_at words.now)
+    ensures help_or_mistake { faults_of (texts_at words.now) ≢ []
         → (links.new ≡ links.old) × IsHelpOrMistake (texts_at words.now)
         (O.stream out.old) (O.stream out.new) (E.stream err.old) (E.stream err.new) result }
 {

@@ -90,10 +90,7 @@ fn try_job<'a, F: ModuleLoader<E>, L: Links, O: Output, E: Messages>(
 fn report<E: Messages>(alloc: Global, done: Result<(), Failure<'_>>, err: &mut E) -> u8
     ensures { IsReported (outcome_of done.entry) (E.stream err.old) (E.stream err.new) result }
 {
-    let failure = match done {
-        Ok(()) => return 0,
-        Err(failure) => failure,
-    };
+    let Err(failure) = done else { return 0 };
     match message_line(alloc, &failure) {
         Ok(text) => err.tell(&text),
         Err(_) => err.tell(b"Out of memory.\n"),

@@ -7,8 +7,8 @@ ghost use Rattle.snmp_words.specs.Words.{ServeWords, StateJob, WalkWords, snmpd,
 ghost use Rattle.snmp_wire.specs.Message.{VarBind};
 ghost use Rattle.snmp_tools.specs.BothEnds.{IsAskInNumbers, IsAskOfServer, IsWalkInNumbers};
 ghost use Rattle.snmp_tools.specs.BothEnds.{PrintsServed, ServesInTurn};
-ghost use Rattle.snmp_tools.specs.{Done.IsAskDone, Headline.WritesRowsOf, Question.AskWords};
-ghost use Rattle.snmp_tools.specs.{Question.of_walk, Seen.Seen, Serving.IsServeRun};
+ghost use Rattle.snmp_tools.specs.{Done.IsAskDone, Done.IsServeRun, Headline.WritesRowsOf};
+ghost use Rattle.snmp_tools.specs.{Question.AskWords, Question.of_walk, Seen.Seen};
 ghost use Rattle.snmp_tools.specs.load.Loaded.{any_load};
 ghost use Rattle.snmp_tools.specs.private.Planned.{numeric_walk};
 ghost use Rattle.snmp_tools.specs.TableWalk.{HoldsTableFile, PrintsRows, table_walk};

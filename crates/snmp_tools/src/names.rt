@@ -67,10 +67,7 @@ pub(crate) fn read_names<'a>(
 {
     let mut names = Vec::new(alloc);
     'texts: for text in texts {
-        let oid = name(tree, text)?;
-        if names.push(oid).is_err() {
-            return Err(Failure::Memory);
-        }
+        names.push(name(tree, text)?).map_err(|_| Failure::Memory)?;
     }
     Ok(names)
 }
@@ -85,9 +82,9 @@ pub(crate) fn check_names<'a>(texts: &[&'a str], names: &[Oid]) -> Result<(), Fa
         (HasUnsendable mib) (fault_of e)) }
 {
     'names: for (place, name) in names.iter().enumerate() {
-        if name.to_wire().is_err() {
+        let Ok(_) = name.to_wire() else {
             return Err(Failure::NotWire(texts[place]));
-        }
+        };
     }
     Ok(())
 }

@@ -110,8 +110,8 @@ pub(crate) enum Question<'j, 'a> {
 }
 
 impl<'j, 'a> Question<'j, 'a> {
-    ghost use Rattle.snmp_tools.specs.private.Chosen.{chosen};
-    ghost use Rattle.snmp_tools.specs.private.Planned.{HasTextsOf, NamesFail, question_of, request_of};
+    ghost use Rattle.snmp_tools.specs.private.Planned.{HasTextsOf, NamesFail, chosen, question_of};
+    ghost use Rattle.snmp_tools.specs.private.Planned.{request_of};
 
     /// Whether the number of bindings is printed after them.
     pub(crate) fn counts(&self) -> bool

@@ -1,8 +1,7 @@
 //! The table that a file states, and the names in it, by the nodes of a tree.
 ghost use Rattle.std.specs.Prelude.{◌≡◌, ◌⊎◌, IfErr, IfOk};
-ghost use Rattle.snmp_tools.specs.private.Resolved.{names_in};
 ghost use Rattle.snmp_tools.specs.Message.{fault_of, out_of_memory};
-ghost use Rattle.snmp_tools.specs.serve.TableFile.{AreNamesIn, HasTable, TableFails};
+ghost use Rattle.snmp_tools.specs.serve.TableFile.{AreNamesIn, HasTable, TableFails, names_in};
 ghost use Rattle.snmp_agent.specs.table.Format.{IsFrontRead};
 ghost use Rattle.smi_tree.specs.{Tree.Contents};
 

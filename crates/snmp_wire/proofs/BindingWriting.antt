@@ -1,12 +1,12 @@
 -- Bindings: how long they are, and how they are written.
-use Rattle.std.proofs.lemmas.Grind.{common_steps}
+use Rattle.std.proofs.{lemmas.Grind.common_steps, lemmas.List.at_drop_all}
 use Rattle.std.proofs.Common.{◌≡◌, ℕ, ◌+◌, ◌-◌, ◌<◌, ◌≤◌, List, [], ◌∷◌, ◌++◌, length, drop, refl, sym, ap, ◌∙◌, arith, length-append}
 use Rattle.std.specs.List.{flat_map}
 use Rattle.snmp_wire.specs.{declared.binding.Binding.Binding, Canon.canon_binding, Canon.canon_bindings, Message.VarBind, Message.var_bind}
 use Rattle.snmp_wire.specs.{Message.var_binds, ber.Value.object_id, ber.Value.null_value, ber.Spelling.sequence_tag, ber.Writing.Writes}
 use Rattle.snmp_wire.specs.ber.Canon.{canon_content, canon_element, canon_header, canon_length, canon_value}
 use Rattle.snmp_wire.proofs.ElementLaws.{header_short, content_fits, element_size, header_fits, sizes_value, writes_element}
-use Rattle.snmp_wire.proofs.WritingLaws.{writes_then}
+use Rattle.snmp_wire.proofs.WritingLaws.{length-flat_map_drop, writes_then}
 
 pub sizes_binding : (header name value : ℕ) (binding : VarBind) → name ≡ length (canon_value (object_id binding.name))
     → value ≡ length (canon_value binding.value) → header ≡ 1 + length (canon_length (name + value)) → header + (name + value) ≡ length (canon_binding binding)
@@ -70,6 +70,8 @@ pub bindings_are : (bindings : List Binding) → flat_map binding_octets binding
 unfolding canon_bindings
 bindings_are [] = refl
 bindings_are (binding ∷ more) = ap (λ rest. canon_binding (var_bind binding) ++ rest) (bindings_are more)
+
+pub ruleset binding_sizes = (common_steps, bindings_are, binding_octets, length-flat_map_drop, at_drop_all)
 
 -- NULL has no content
 pub null_octets : canon_value null_value ≡ 5 ∷ 0 ∷ []

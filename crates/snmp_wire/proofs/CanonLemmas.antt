@@ -10,6 +10,7 @@ use mir.Val.{SFits}
 use mir.Syntax.{w32}
 use lib.IntN.{nat_abs}
 use Rattle.snmp_wire.specs.ber.Canon.{canon_length, canon_number, digit_count, length_size, magnitude_of, number_size, octets, digits}
+use Rattle.snmp_wire.proofs.ElementLaws.{length-canon_element, length-canon_header}
 use Rattle.snmp_wire.proofs.{ElementLaws.canon_length_short, ElementLaws.header_short, WritingLaws.writes_same, WritingLaws.writes_then}
 use Rattle.snmp_wire.specs.ber.Writing.{Writes}
 use Rattle.snmp_wire.proofs.Digits.{digits-add, length-digits, digits-suc}
@@ -234,3 +235,14 @@ short_number (pos n) low high =
     let small : n % 256 ≡ n = omega (arith, below) in
     ap (λ m. m ∷ []) (sym small) ∙ one_octet n ∙ ap (λ k. octets k n) (size_one n below) ∙ octets_from_zero n
 short_number (negsuc n) low high = absurd (cc)
+
+pub ruleset element_lengths = (
+  length-canon_length_short,
+  length-canon_length_long,
+  digit_some,
+  length-from_zero,
+  length-canon_header,
+  length-canon_element,
+  count_rises,
+  length_rises,
+)

@@ -3,16 +3,16 @@
 use Rattle.std.proofs.Common.{◌≡◌, ℕ, ◌+◌, ◌*◌, ◌%◌, ◌^◌, ◌<◌, ◌≤◌, cond, eqb, ltb, List, [], ◌∷◌, length, get_or, drop, Result, Ok, Err, IsOk, refl}
 use Rattle.std.proofs.Common.{sym, ◌∙◌, arith, zero, suc, ◌-◌, ◌++◌, take, All, ap, append_assoc, ◌≢◌, map, lit<, ⊎_elim, inl, inr, is_ok, true}
 use Rattle.std.proofs.lemmas.Bool.{ltb-true, lt-ltb, le-ltb, ltb-false, eqb-false, ne_eqb, cases_lt}
-use Rattle.std.proofs.{lemmas.Grind.common_steps, Math.Nat.pow-suc, Math.Nat.one-le-pow, Math.Nat.mul-le-mul_left}
+use Rattle.std.proofs.{lemmas.Grind.common_steps, lemmas.Result.err_from_is_err_and, Math.Nat.pow-suc, Math.Nat.one-le-pow, Math.Nat.mul-le-mul_left}
 use Rattle.std.proofs.lemmas.List.Elements.{All-head, All-tail, All-cons, All-nil, All-append, All-from_recursion, recursion_from_All}
-use Rattle.std.proofs.lemmas.List.{get_or_append_left, at_drop_more, at_drop_all, length_push, append-nil, nil_from_length, length-append, length-map}
+use Rattle.std.proofs.lemmas.List.{get_or_append_left, at_drop_more, at_drop_all, length_push, append-nil, nil_from_length, length-append, length-map, take_rest}
 use Rattle.std.specs.{Result.result_unwrap_or, List.AllByRecursion}
 use Rattle.snmp_wire.specs.{declared.ber.error.BerError.BerError, ber.Number.number_of}
 use Rattle.snmp_wire.specs.declared.ber.error.BerError.TheVariants as error
 use Rattle.snmp_wire.specs.ber.Reading.{◌>>=◌, subidentifier_from, subidentifier_at, number_at, checked, largest_subidentifier, numbers_of}
 use Rattle.snmp_wire.specs.ber.Reading.{numbers_in, IsPlainFront, first_number, second_number, identifier_of}
 use Rattle.snmp_wire.proofs.ReadingLaws.{done, refused, ok_value, failed, ok_is, checked_err, is_ok_at, Gives, a_fault, a_value, failing}
-use Rattle.snmp_wire.proofs.ReadingLaws.{given, gives_either, gives_so, gives_then}
+use Rattle.snmp_wire.proofs.ReadingLaws.{given, gives_either, gives_so, gives_then, none_left, some_left}
 use Rattle.snmp_wire.specs.ber.Identifier.{IsSubidentifier, AreSubidentifiers, IsObjectId}
 use Rattle.snmp_wire.proofs.IdentifierWriting.{subidentifier_some}
 
@@ -70,6 +70,8 @@ pub from_step : (n : ℕ) (octets : List ℕ) (i : ℕ) → i < length octets �
     (cond (ltb (get_or octets i 0) 128) (Ok (next_of n octets i, drop (i + 1) octets)) (subidentifier_from (next_of n octets i) (drop (i + 1) octets)))
 unfolding subidentifier_from
 from_step n octets i lt = at_drop_more (subidentifier_from n) octets i 0 lt
+
+pub ruleset digit_steps = (common_steps, from_step, lt-ltb, le-ltb, take_rest)
 
 pub digits_end : (n : ℕ) (octets : List ℕ) (i : ℕ) → length octets ≤ i → subidentifier_from n (drop i octets) ≡ Err error.Content
 unfolding subidentifier_from
@@ -444,3 +446,9 @@ counted_fails count octets e total some read so_far = grind (arith, common_steps
 pub counted_ends : (count : ℕ) (octets : List ℕ) (total : Result (Unit {0}) BerError) → count ≤ 126 → length octets ≡ 0
     → counted count octets ≡ total → total ≡ Ok tt
 counted_ends count octets total few none so_far = sym so_far ∙ not_many count octets few ∙ ap checked (numbers_end (126 - count) octets none)
+
+pub ruleset checked_numbers = (plain_length, check_plain, plain_full, check_goes_on, number_refused, number_shrinks, no_room, err_from_is_err_and)
+
+pub ruleset counted_numbers = (counted_more, counted_ends, some_left, none_left)
+
+pub ruleset pushed_numbers = (push_has_room, push_goes_on, push_ends, number_ok, plain_fits, some_left, none_left, length_push)

@@ -287,3 +287,13 @@ unfolding canon_content
 length-name [] = omega arith
 length-name (x ∷ []) = omega arith
 length-name (x ∷ y ∷ rest) = omega (arith, length-subidentifiers ((40 * x + y) ∷ rest))
+
+pub ruleset subidentifier_sizes = (
+  common_steps,
+  length-numbers_from,
+  length-canon_subidentifier,
+  size_some,
+  nine_counted,
+  subidentifier_two,
+  subidentifier_three,
+)

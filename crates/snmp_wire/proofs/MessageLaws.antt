@@ -1,5 +1,5 @@
 -- Reading bindings one after the other, and messages: what is spelt as one is read.
-use Rattle.std.proofs.lemmas.Grind.{common_steps}
+use Rattle.std.proofs.{lemmas.Grind.common_steps, lemmas.Result.err_from_is_err_and}
 use Rattle.std.proofs.Common.{◌≡◌, ℕ, zero, suc, ◌<◌, ◌≤◌, List, [], ◌∷◌, length, Result, Ok, Err, IsOk, refl, sym, ap, ◌∙◌, arith, ℤ, ◌++◌}
 use Rattle.std.proofs.Common.{append_assoc, ◌+◌, ◌-◌, get_or, take, drop, inl}
 use Rattle.std.proofs.lemmas.List.{nil_from_length, append-nil, length-append, append_cancel_right, length-drop, length-take-le, take-append-drop}
@@ -11,7 +11,7 @@ use Rattle.snmp_wire.specs.ber.Reading.{◌>>=◌, checked, identifier_of, typed
 use Rattle.snmp_wire.specs.Reading.{Fields, fields_of, fields_at, binding_of, binding_at, bindings_within, bindings_of, bindings_in, kind_of}
 use Rattle.snmp_wire.specs.Reading.{outermost_of, pdu_of, message_of}
 use Rattle.snmp_wire.proofs.ReadingLaws.{ok_is, bind_ok, bind_same, ok_value, is_ok_at, checked_err, err_checked, ok_checked, Gives, a_value, given}
-use Rattle.snmp_wire.proofs.ReadingLaws.{gives_any, gives_so, gives_then, done}
+use Rattle.snmp_wire.proofs.ReadingLaws.{gives_any, gives_so, gives_then, done, none_left, some_left}
 use Rattle.snmp_wire.proofs.LengthLaws.{inner_gives, element_shrinks, content_again, inner_again, element_again}
 use Rattle.snmp_wire.specs.declared.ber.error.BerError.TheVariants as error
 use Rattle.snmp_wire.specs.declared.kind.Kind.TheVariants as kind
@@ -86,6 +86,8 @@ check_goes_on octets fields after u total some h f so_far = grind (arith, common
 
 pub check_ends : (octets : List ℕ) (total : Result (Unit {0}) BerError) → length octets ≡ 0 → checked (bindings_of octets) ≡ total → total ≡ Ok tt
 check_ends octets total none so_far = sym so_far ∙ ap checked (bindings_end octets none)
+
+pub ruleset checked_bindings = (check_fails_at, check_ends, some_left, none_left, err_from_is_err_and)
 
 -- ---- the iterator
 

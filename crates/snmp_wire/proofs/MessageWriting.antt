@@ -1,5 +1,5 @@
 -- Messages: the parts before the bindings, how long they are, and how they are written.
-use Rattle.std.proofs.{lemmas.Grind.common_steps, Math.Nat.add_assoc}
+use Rattle.std.proofs.{lemmas.Grind.common_steps, lemmas.Int.to_z-of_z, Math.Nat.add_assoc}
 use Rattle.std.proofs.Common.{◌≡◌, ℕ, ◌+◌, ◌-◌, ◌≤◌, List, ◌++◌, length, sym, ap, ◌∙◌, arith, append_assoc, length-append}
 use Rattle.snmp_wire.specs.Canon.{canon, canon_bindings, canon_fields, canon_front, canon_head, canon_opening}
 use Rattle.snmp_wire.specs.ber.Canon.{canon_element, canon_header, canon_length, canon_value}
@@ -39,6 +39,8 @@ pub sizes_head : (message : Message) (total version community id a b list pdu he
     → header + (version + community + pdu + (id + a + b + list)) ≡ length (canon_head message total)
 sizes_head message total version community id a b list pdu header v c i x y l p h =
     grind (arith, common_steps, length-canon_fields, length-canon_opening, length-canon_header, length-canon_front, length-canon_head)
+
+pub ruleset head_sizes = (common_steps, sizes_head, to_z-of_z)
 
 -- what stands behind the tag of the PDU is written
 pub writes_fields : {old o1 o2 o3 o4 : List ℕ} {list b a id end : ℕ} (message : Message) (total : ℕ) → Writes old list end (canon_header sequence_tag total) o1
@@ -121,3 +123,5 @@ longer_header sizes tag n k h = omega (arith, length-canon_header tag n, length-
 -- before more octets of bindings a head is no shorter
 pub longer_head : (sizes : ElementSizes) (m : Message) (n k : ℕ) → n ≤ k → length (canon_head m n) ≤ length (canon_head m k)
 longer_head sizes m n k h = grind (arith, common_steps, longer_header, length-canon_front, length-canon_head)
+
+pub ruleset message_lengths = (length-canon_opening, length-canon_fields, length-canon_front, length-canon_head, length-canon, longer_head)

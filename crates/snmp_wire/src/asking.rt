@@ -76,6 +76,7 @@ fn copy_to_front(octets: &mut [u8; MAX_CONTENT], content: &[u8])
 
 /// How many octets the shortest encoding of the binding that asks for a name takes.
 #[inline]
+#[tactic(auto, using(crate::proofs::BindingWriting::sizes_null))]
 pub fn asking_size(name: &EncodedName<'_>) -> u64
     ensures { result ≡ length (canon_binding (asking name.now)) }
 {

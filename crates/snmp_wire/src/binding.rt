@@ -210,6 +210,7 @@ struct Fields<'a> {
 }
 
 /// Checks that the octets are bindings.
+#[tactic(auto, using(crate::proofs::MessageLaws::checked_bindings))]
 pub(crate) fn check_bindings(octets: &[u8]) -> Result<(), BerError>
     ensures { AgreesBy (λ u. u) result (checked (reading.bindings_of octets.now)) }
 {

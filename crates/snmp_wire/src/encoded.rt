@@ -90,6 +90,7 @@ impl EncodedBinding {
 // Hot: each comparison of a search. Where the lengths have one octet each, as in most bindings, the
 // name begins at the fifth.
 #[inline(always)]
+#[tactic(auto, using(crate::proofs::Kept::short_name))]
 fn name_in(octets: &[u8]) -> &[u8]
     requires { IsKept octets.now }
     ensures { reading.identifier_of result.now ≡ Ok (binding_in octets.now).name }
@@ -140,6 +141,7 @@ fn encoded(alloc: Global, name: &Oid, value: &ValueRef<'_>) -> Result<Octets, Al
 
 /// [`encoded`], for an encoding of more octets than stand in place, for which it takes memory.
 #[inline(never)]
+#[tactic(auto, using(crate::proofs::BindingWriting::encoded))]
 fn encoded_elsewhere(
     alloc: Global,
     size: usize,

@@ -64,12 +64,14 @@ pub fn pieces()
 
 /// How many octets the shortest encodings of lengths, whole numbers and elements take.
 #[inline]
+#[tactic(auto, using(std::proofs::lemmas::Grind::common_steps, crate::proofs::CanonLemmas::element_lengths))]
 pub fn element_sizes()
     ensures { ElementSizes }
 {}
 
 /// How many octets the parts of a message's shortest encoding take.
 #[inline]
+#[tactic(auto, using(std::proofs::lemmas::Grind::common_steps, crate::proofs::MessageWriting::message_lengths))]
 pub fn message_sizes()
     ensures { MessageSizes }
 {

@@ -274,6 +274,7 @@ pub fn encode(parts: &Parts<'_>, out: &mut [u8]) -> Option<usize>
 // Hot: several calls for one reply, which differ in the total alone. Inlined, what they have in
 // common is computed once.
 #[inline(always)]
+#[tactic(auto, using(crate::proofs::MessageWriting::head_sizes))]
 pub fn head_size(parts: &Parts<'_>, total: u64) -> u64
     requires community { length parts.now.community.now ≤ 65535 }
     requires total { total ≤ 4000000000 }
@@ -364,6 +365,7 @@ pub fn seal(parts: &Parts<'_>, at: usize, len: usize, out: &mut [u8]) -> Option<
 
 /// How many octets bindings take together.
 #[inline(never)]
+#[tactic(auto, using(crate::proofs::BindingWriting::binding_sizes))]
 fn bindings_size(bindings: &[Binding<'_>]) -> u64
     requires bindings { All (λ b. IsEncodable (var_bind b)) bindings.now }
     requires total { length (canon_bindings (var_binds bindings.now)) ≤ 4000000000 }
@@ -378,6 +380,7 @@ fn bindings_size(bindings: &[Binding<'_>]) -> u64
 
 /// How many octets an INTEGER takes.
 #[inline]
+#[tactic(auto, using(std::proofs::lemmas::Grind::common_steps, crate::proofs::ElementLaws::sizes_value, crate::proofs::ElementLaws::content_number))]
 fn integer_element_size(number: i32) -> u64
     ensures value { result ≡ length (canon_value (integer_value number)) }
     ensures at_most_15 { result ≤ 15 }
@@ -388,6 +391,7 @@ fn integer_element_size(number: i32) -> u64
 
 /// How many octets an OCTET STRING takes.
 #[inline]
+#[tactic(auto, using(crate::proofs::ElementLaws::sizes_value, crate::proofs::ElementLaws::content_text))]
 fn text_element_size(text: &[u8]) -> u64
     requires { length text.now ≤ 65535 }
     ensures value { result ≡ length (canon_value (octet_string text.now)) }

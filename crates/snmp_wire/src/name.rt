@@ -76,6 +76,7 @@ impl<'a> EncodedName<'a> {
 
     /// The content octets: at most 640, and the one encoding of the name.
     #[inline]
+    #[tactic(auto, using(crate::proofs::NameOrder::is_name, crate::proofs::NameOrder::canonical, crate::proofs::Digits::octets_by, crate::proofs::NameOrder::content_short))]
     pub fn content(&self) -> &'a [u8]
         ensures value { result.now ≡ canon_content (object_id self.now) }
         ensures encodes { IsObjectId result.now self.now }
@@ -229,6 +230,7 @@ fn is_content_below(content: &[u8], root: &[u8]) -> bool
 }
 
 /// The place of the last octet of the subidentifier that the octet at `at` belongs to.
+#[tactic(auto, using(std::proofs::lemmas::Grind::common_steps, crate::proofs::NameOrder::more_octets))]
 fn last_octet(content: &[u8], at: usize) -> usize
     requires identifier { IsOk (reading.identifier_of content.now) }
     requires within { at < length content.now }
@@ -320,6 +322,7 @@ fn word_at(octets: &[u8], at: usize) -> u64
 ///
 /// A law: the call does nothing, and its caller knows what it states.
 #[inline]
+#[tactic(auto, using(crate::proofs::NameOrder::encoded))]
 pub fn encoded_names()
     ensures { EncodedNames }
 {

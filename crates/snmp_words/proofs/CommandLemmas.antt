@@ -7,7 +7,7 @@ use Rattle.clap.specs.{declared.ArgMatches.ArgMatches, declared.builder.arg.Arg.
 use Rattle.clap.specs.Simple.{App, app_of, built, Shape, argument_words, entered, label_of, names_of, rows_at, with_rule, with_subcommand}
 use Rattle.clap.specs.Words.{has_subcommand, subcommand_of, subcommand_rows_of}
 use Rattle.snmp_words.specs.{Command.IsArg, Command.IsMade, Command.snmp_app, declared.UsageError.UsageError}
-use Rattle.snmp_words.specs.Words.{HasFaultOf, IsMemory, StandsFor, stated_by, stated_in}
+use Rattle.snmp_words.specs.Words.{HasFaultOf, StandsFor, stated_by, stated_in}
 use Rattle.snmp_words.specs.declared.UsageError.TheVariants.{Memory, Parse}
 
 -- a plain command has no global argument
@@ -79,7 +79,7 @@ states_job m words met rows =
       | inr stated ↦ ap (λ o. is_some (stated_in o)) rows ∙ stated
     ]
 
-pub fault_of_refusal : (faults : Kinds) (k : ErrorKind) (e : UsageError) → (k ≡ OutOfMemory → IsMemory e) → StandsFor e k
+pub fault_of_refusal : (faults : Kinds) (k : ErrorKind) (e : UsageError) → (k ≡ OutOfMemory → e ≡ Memory) → StandsFor e k
     → (k ≡ OutOfMemory) ⊎ IsAmong k faults → HasFaultOf e faults
 fault_of_refusal faults k Memory memory refusal kind = tt
 fault_of_refusal faults k (Parse text help) memory refusal (inl none) = let same = memory none in absurd (cc)

@@ -1,5 +1,6 @@
 -- Texts and numbers that a command was given.
 use Rattle.std.proofs.Common.{◌≡◌, ◌∙◌, ◌++◌, ap, ap₂, refl, subst, sym, true, false, Bool, List, [], ◌∷◌, Option, Some, None, ℕ, ◌⊎◌, inl, inr}
+use Rattle.std.proofs.lemmas.Grind.{common_steps}
 use Rattle.std.proofs.Common.{arith, Bor, unwrap_or, option_map, option_and_then}
 use Rattle.std.specs.{Prelude.if◌then◌else◌, Prelude.MatchOption, List.flat_map, List.join_by, Str.Parse.digits_value, Str.Parse.without_leading_plus}
 use Rattle.clap.specs.{Values.IsUnsignedIn, ValueTests.is_unsigned_in, Simple.subcommand_of, Walk.Row, Walk.Text, Walk.first_of, Walk.texts}
@@ -99,14 +100,7 @@ one_job words job other h k =
         let jobs : Some job ≡ Some other = sym e ∙ both ∙ f in cc
 
 -- the texts that a look-up found, and none where it found nothing
-pub found_texts : (found : Option (Bor (List (Bor (List ℕ))))) (rows : Option (List (List ℕ))) (all : Bor (List (Bor (List ℕ))))
-    → option_map (λ s. texts s.now) found ≡ rows → found ≡ Some all → texts all.now ≡ unwrap_or rows []
-found_texts found rows all e is =
-    ap (λ (o : Option (List (List ℕ))). unwrap_or o [])
-    (ap (λ (o : Option (Bor (List (Bor (List ℕ))))). option_map (λ s. texts s.now) o) (sym is) ∙ e)
-
-pub no_texts : (found : Option (Bor (List (Bor (List ℕ))))) (rows : Option (List (List ℕ)))
-    → option_map (λ s. texts s.now) found ≡ rows → found ≡ None → [] ≡ unwrap_or rows []
-no_texts found rows e is =
-    ap (λ (o : Option (List (List ℕ))). unwrap_or o [])
-    (ap (λ (o : Option (Bor (List (Bor (List ℕ))))). option_map (λ s. texts s.now) o) (sym is) ∙ e)
+pub found_texts : (found : Option (Bor (List (Bor (List ℕ))))) (rows : Option (List (List ℕ))) (none all : Bor (List (Bor (List ℕ))))
+    → option_map (λ s. texts s.now) found ≡ rows → none.now ≡ [] → all ≡ unwrap_or found none → texts all.now ≡ unwrap_or rows []
+found_texts None rows none all e empty is = grind (arith, common_steps)
+found_texts (Some s) rows none all e empty is = grind (arith, common_steps)

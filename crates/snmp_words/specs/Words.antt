@@ -1,5 +1,5 @@
 -- What the words of a command line state: the command, and the texts and numbers that they give it.
-use Rattle.std.specs.Prelude.{◌≡◌, ◌≢◌, ◌<◌, ◌≤◌, ◌^◌, ◌⊎◌, ⊤, ◌++◌, ℕ, Bool, true, false, List, []}
+use Rattle.std.specs.Prelude.{◌≡◌, ◌<◌, ◌≤◌, ◌^◌, ◌⊎◌, ⊤, ◌++◌, ℕ, Bool, true, false, List, []}
 use Rattle.std.specs.Prelude.{◌∷◌, Option, Some, None, string_bytes, codes, map, unwrap_or}
 use Rattle.std.specs.Prelude.{option_and_then, option_map, if◌then◌else◌, MatchOption}
 use Rattle.std.specs.{List.flat_map, Str.bytes_eq, Borrow.Bor}
@@ -101,10 +101,6 @@ abbrev pub AreNumbersOf : List Row → Numbers → Type 0
 AreNumbersOf rows numbers = (id : Text) (default low high : ℕ)
     → IsNumberOf id default low high rows (numbers id default low high)
 
--- the greatest number of 64 bits
-abbrev pub most_turns : ℕ
-most_turns = 18446744073709551615
-
 abbrev pub translate_of_rows : List Row → TranslateWords
 translate_of_rows rows = record {
   mibs = texts_of (codes "mib") rows;
@@ -146,7 +142,7 @@ serve_of_rows numbers rows = record {
   community = text_or (codes "community") (codes "public") rows;
   listen = text_or (codes "listen") (codes "127.0.0.1:161") rows;
   max_size = numbers (codes "size") 1472 1 65507;
-  turns = numbers (codes "turns") most_turns 0 most_turns;
+  turns = numbers (codes "turns") 18446744073709551615 0 18446744073709551615;
 }
 
 -- the words of each command
@@ -231,10 +227,6 @@ job_words (job.Serve s) = snmpd (serve_words s)
 
 -- ---- refusals
 
--- memory ran out
-abbrev pub IsMemory : UsageError → Type 0
-IsMemory e = e ≡ Memory
-
 abbrev pub asks_help : ErrorKind → Bool
 asks_help kind.DisplayHelp = true
 asks_help kind.DisplayVersion = true
@@ -245,20 +237,16 @@ abbrev pub HasFaultOf : UsageError → Kinds → Type 0
 HasFaultOf Memory faults = ⊤
 HasFaultOf (Parse text help) faults = (k : ErrorKind) × IsAmong k faults × (help ≡ asks_help k)
 
--- the command doesn't take the words: they have a mistake, or ask for help
-abbrev pub AreFaulty : List Text → Type 0
-AreFaulty words = faults_of words ≢ []
-
 -- the words ask for help, or for the version
 abbrev pub AskForHelp : List Text → Type 0
 AskForHelp words = (k : ErrorKind) × IsAmong k (faults_of words) × (asks_help k ≡ true)
 
 -- ---- the words of a walk
 
--- the words of a walk of a table file, from a name in numbers
-abbrev pub walk_line : List Text → Text → Text → List Text
-walk_line letters path numbers = codes "snmp" ∷ codes "snmpwalk" ∷ (letters ++ ((codes "table:"
-    ++ path) ∷ (codes "." ++ numbers) ∷ []))
+-- the words of a walk of a table file in numbers, from a name in numbers
+abbrev pub walk_line : Text → Text → List Text
+walk_line path numbers = codes "snmp" ∷ codes "snmpwalk" ∷ codes "-On" ∷ (codes "table:" ++ path)
+    ∷ (codes "." ++ numbers) ∷ []
 
 -- what that line states: letters for numbers, and the defaults for all else
 abbrev pub words_of_walk : Text → Text → WalkWords

@@ -4,7 +4,7 @@ ghost use Rattle.clap.specs.{Simple.App, Simple.new_app, Simple.with_subcommand,
 ghost use Rattle.snmp_words.specs.Command.{IsMade, asking_rules, get_app, serve_app, snmp_app};
 ghost use Rattle.snmp_words.specs.Command.{top_app, translate_app, walk_app, with_rules};
 
-use crate::options;
+use crate::options::{self, BULK_LETTERS, WALK_LETTERS};
 use clap::Command;
 use std::alloc::{AllocError, Global};
 
@@ -81,11 +81,9 @@ pub(crate) fn snmp_command<'a>(alloc: Global) -> Made<'a>
 {
     let with_translate = with_command(Ok(top_command(alloc)), translate_command(alloc));
     let with_get = with_command(with_translate, get_command(alloc));
-    let walk_letters = options::LETTERS_OF_WALKS;
-    let walk = walk_command(alloc, "snmpwalk", WALK_ABOUT, walk_letters, WALK_END);
+    let walk = walk_command(alloc, "snmpwalk", WALK_ABOUT, WALK_LETTERS, WALK_END);
     let with_walk = with_command(with_get, walk);
-    let bulk_letters = options::LETTERS_OF_BULK_WALKS;
-    let bulk_walk = walk_command(alloc, "snmpbulkwalk", BULK_ABOUT, bulk_letters, BULK_END);
+    let bulk_walk = walk_command(alloc, "snmpbulkwalk", BULK_ABOUT, BULK_LETTERS, BULK_END);
     let with_bulk_walk = with_command(with_walk, bulk_walk);
     with_command(with_bulk_walk, serve_command(alloc))
 }

@@ -35,14 +35,11 @@ fn translate_job<'a>(alloc: Global, given: &ArgMatches<'a>) -> Result<TranslateJ
     ensures { IfOk result (λ job.
         translate_words job ≡ translate_of_rows (rows_of (found_of given.now))) }
 {
-    let mibs = all_texts(alloc, given, "mib")?;
-    let letters = joined(alloc, given, "letters")?;
-    let names = all_texts(alloc, given, "names")?;
     Ok(TranslateJob {
-        mibs,
-        letters,
+        mibs: all_texts(alloc, given, "mib")?,
+        letters: joined(alloc, given, "letters")?,
         details: first_text(given, "details").unwrap_or(""),
-        names,
+        names: all_texts(alloc, given, "names")?,
     })
 }
 
@@ -61,11 +58,9 @@ fn walk_job<'a>(alloc: Global, given: &ArgMatches<'a>) -> Result<WalkJob<'a>, Al
     ensures { let rows = rows_of (found_of given.now) in
         IfOk result (λ job. walk_words job ≡ walk_of_rows (numbers_in rows) rows) }
 {
-    let asking = asking_of(alloc, given)?;
-    let letters = joined(alloc, given, "walk")?;
     Ok(WalkJob {
-        asking,
-        letters,
+        asking: asking_of(alloc, given)?,
+        letters: joined(alloc, given, "walk")?,
         after: first_text(given, "after"),
         name: first_text(given, "name"),
     })
@@ -76,9 +71,8 @@ fn serve_job<'a>(alloc: Global, given: &ArgMatches<'a>) -> Result<ServeJob<'a>, 
     ensures { let rows = rows_of (found_of given.now) in
         IfOk result (λ job. serve_words job ≡ serve_of_rows (numbers_in rows) rows) }
 {
-    let mibs = all_texts(alloc, given, "mib")?;
     Ok(ServeJob {
-        mibs,
+        mibs: all_texts(alloc, given, "mib")?,
         table: first_text(given, "table").unwrap_or(""),
         community: first_text(given, "community").unwrap_or("public"),
         listen: first_text(given, "listen").unwrap_or("127.0.0.1:161"),
@@ -92,11 +86,9 @@ fn asking_of<'a>(alloc: Global, given: &ArgMatches<'a>) -> Result<Asking<'a>, Al
     ensures { let rows = rows_of (found_of given.now) in
         IfOk result (λ asking. asking_words asking ≡ asking_of_rows (numbers_in rows) rows) }
 {
-    let mibs = all_texts(alloc, given, "mib")?;
-    let letters = joined(alloc, given, "letters")?;
     Ok(Asking {
-        mibs,
-        letters,
+        mibs: all_texts(alloc, given, "mib")?,
+        letters: joined(alloc, given, "letters")?,
         protocol: first_text(given, "protocol").unwrap_or("2c"),
         community: first_text(given, "community").unwrap_or("public"),
         retries: number(given, "retries", 5, 0, 1000),
@@ -123,10 +115,7 @@ fn all_texts<'a>(
     ensures { IfOk result (λ all.
         texts_at all.items ≡ texts_of id.now (rows_of (found_of given.now))) }
 {
-    match given.get_strs(id) {
-        Some(all) => Vec::from_slice(alloc, all),
-        None => Ok(Vec::new(alloc)),
-    }
+    Vec::from_slice(alloc, given.get_strs(id).unwrap_or(&[]))
 }
 
 /// The texts given for an id, one after the other.
@@ -134,10 +123,7 @@ fn joined(alloc: Global, given: &ArgMatches<'_>, id: &str) -> Result<String, All
     ensures { IfOk result (λ text.
         string_bytes text ≡ joined_of id.now (rows_of (found_of given.now))) }
 {
-    match given.get_strs(id) {
-        Some(all) => all.join(alloc, ""),
-        None => Ok(String::new(alloc)),
-    }
+    given.get_strs(id).unwrap_or(&[]).join(alloc, "")
 }
 
 /// The number given for an id, or the default where none of the range was.

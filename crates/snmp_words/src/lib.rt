@@ -22,11 +22,12 @@ mod job;
 mod mistakes;
 mod options;
 
-ghost use Rattle.std.specs.Prelude.{◌≡◌, [], ◌∷◌, List, ℕ, codes, true, IfErr, IfOk, OnOk};
+ghost use Rattle.std.specs.Prelude.{◌≡◌, [], List, ℕ, true, IfErr, IfOk, OnOk};
 ghost use Rattle.clap.specs.{Walk.Text, Walk.texts, Words.kind_of};
 ghost use Rattle.snmp_words.specs.Command.{faults_of, is_taken};
-ghost use Rattle.snmp_words.specs.Words.{HasFaultOf, IsMemory, StandsFor, StateJob, Stated};
-ghost use Rattle.snmp_words.specs.Words.{job_words, snmpwalk, walk_line, words_of_walk};
+ghost use Rattle.snmp_words.specs.Words.{HasFaultOf, StandsFor, StateJob, Stated, job_words};
+ghost use Rattle.snmp_words.specs.Words.{snmpwalk, walk_line, words_of_walk};
+ghost use Rattle.snmp_words.specs.declared.UsageError.TheVariants.{Memory};
 
 use clap::error::ErrorKind;
 use command::snmp_command;
@@ -48,7 +49,7 @@ pub enum UsageError {
 }
 
 impl From<AllocError> for UsageError {
-    ghost from_gives = { λ _ e. IsMemory e };
+    ghost from_gives = { λ _ e. e ≡ Memory };
 
     fn from(_error: AllocError) -> UsageError {
         UsageError::Memory
@@ -63,7 +64,7 @@ pub fn read_words<'a>(alloc: Global, words: &'a [&'a str]) -> Result<Job<'a>, Us
         StateJob (texts words.entry.now) (job_words job)) }
     ensures faultless { OnOk result (faults_of (texts words.entry.now) ≡ []) }
     ensures taken { IfErr result (λ e.
-        is_taken (texts words.entry.now) ≡ true → IsMemory e) }
+        is_taken (texts words.entry.now) ≡ true → e ≡ Memory) }
     ensures refused { IfErr result (λ e. HasFaultOf e (faults_of (texts words.entry.now))) }
 {
     let command = snmp_command(alloc)?;
@@ -79,10 +80,9 @@ pub fn read_words<'a>(alloc: Global, words: &'a [&'a str]) -> Result<Job<'a>, Us
 /// A law: the call does nothing, and its caller may use what it ensures.
 pub fn walks_are_taken()
     ensures joined { (path numbers : List ℕ) →
-        is_taken (walk_line (codes "-On" ∷ []) path numbers) ≡ true }
+        is_taken (walk_line path numbers) ≡ true }
     ensures joined_job { (path numbers : List ℕ) →
-        StateJob (walk_line (codes "-On" ∷ []) path numbers)
-        (snmpwalk (words_of_walk path numbers)) }
+        StateJob (walk_line path numbers) (snmpwalk (words_of_walk path numbers)) }
 {}
 
 /// Words state at most one job.
@@ -108,7 +108,7 @@ pub fn faultless_words_state_a_job()
 /// The error for words that the parser refuses: help or the version where they ask for it,
 /// otherwise what is wrong with them.
 fn usage_error(alloc: Global, error: &clap::Error, words: &[&str]) -> UsageError
-    ensures memory { kind_of error.now ≡ ErrorKind.OutOfMemory → IsMemory result }
+    ensures memory { kind_of error.now ≡ ErrorKind.OutOfMemory → result ≡ Memory }
     ensures refusal { StandsFor result (kind_of error.now) }
 {
     if matches!(error.kind(), ErrorKind::OutOfMemory) {

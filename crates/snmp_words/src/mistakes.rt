@@ -35,6 +35,8 @@ const COMMANDS: Tips = &[
 
 const MODULES: &str = "--mib FILE names a file of modules, and may be repeated";
 
+const FOLDERS: &str = "no folder is searched for modules: --mib FILE names each file";
+
 const USERS: &str = "there is SNMPv2c alone: a community (-c), and neither users nor keys";
 
 // A second tip, on another version in the words.
@@ -46,10 +48,7 @@ const LOGS: &str = "messages are written to standard error, and nowhere else";
 
 const OPTIONS: Tips = &[
     ("-m", MODULES),
-    (
-        "-M",
-        "no folder is searched for modules: --mib FILE names each file",
-    ),
+    ("-M", FOLDERS),
     (
         "-P",
         "files of modules (--mib FILE) are read in one way alone",
@@ -83,10 +82,7 @@ const OPTIONS_OF_SNMPD: Tips = &[
         "--table FILE says what is served: no configuration is read",
     ),
     ("-m", MODULES),
-    (
-        "-M",
-        "no folder is searched for modules: --mib FILE names each file",
-    ),
+    ("-M", FOLDERS),
     ("-p", "no PID file is written"),
     ("-u", "snmpd runs as the user who starts it"),
     ("-g", "snmpd runs as the user who starts it"),
@@ -239,11 +235,7 @@ fn tips_before(text: &str) -> (&str, &str) {
 fn tip_among_parsers(tips: &str) -> Option<&str> {
     let (first, _) = tips.split_once('\n').unwrap_or((tips, ""));
     let tip = first.strip_prefix("  tip: ")?;
-    if tip.starts_with("to pass '") {
-        None
-    } else {
-        Some(tip)
-    }
+    (!tip.starts_with("to pass '")).then_some(tip)
 }
 
 /// What to write in place of what a mistake names.
@@ -286,13 +278,11 @@ fn tip_on_word(word: &str, command: Option<&str>) -> Option<&'static str> {
 /// The option whose value a mistake is about.
 fn option_of(mistake: &str) -> Option<&str> {
     if let Some(rest) = mistake.strip_prefix("error: a value is required for '") {
-        let (option, _) = rest.split_once("' but")?;
-        return Some(option);
+        return Some(rest.split_once("' but")?.0);
     }
     let rest = mistake.strip_prefix("error: invalid value '")?;
     let (_, rest) = rest.rsplit_once("' for '")?;
-    let (option, _) = rest.split_once("': ")?;
-    Some(option)
+    Some(rest.split_once("': ")?.0)
 }
 
 /// What stands between `before` and `after`, if a text begins and ends with these.
@@ -302,10 +292,6 @@ fn between<'t>(before: &str, text: &'t str, after: &str) -> Option<&'t str> {
 
 /// The tip on a word, if there is one among these.
 fn tip_among(tips: Tips, word: &str) -> Option<&'static str> {
-    for (name, tip) in tips {
-        if *name == word {
-            return Some(*tip);
-        }
-    }
-    None
+    let (_, tip) = tips.iter().find(|tip| tip.0 == word)?;
+    Some(*tip)
 }

@@ -37,14 +37,14 @@ S: names with module and label; the default
 b: indexes in names as numbers";
 
 /// The letters of `-C` of snmpwalk.
-pub(crate) const LETTERS_OF_WALKS: &str = "\
+pub(crate) const WALK_LETTERS: &str = "\
 What is walked; may be repeated
 i: the root's own instance comes first
 p: the number of bindings is printed at the end, exceptions too
 I: the root's own instance isn't printed in place of an empty walk";
 
 /// The letters of `-C` of snmpbulkwalk.
-pub(crate) const LETTERS_OF_BULK_WALKS: &str = "\
+pub(crate) const BULK_LETTERS: &str = "\
 What is walked; may be repeated
 i: the root's own instance comes first
 p: the number of bindings is printed at the end, exceptions too

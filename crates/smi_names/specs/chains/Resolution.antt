@@ -34,9 +34,7 @@ lengthened o ns = if nat_le (length o + length ns) 128 then R.Numbers (o ++ ns) 
 
 abbrev pub followed_by : Resolution → List ℕ → Resolution
 followed_by (R.Numbers o) ns = lengthened o ns
-followed_by R.Cycle ns = R.Cycle
-followed_by R.Unresolved ns = R.Unresolved
-followed_by R.TooLong ns = R.TooLong
+followed_by r ns = r
 
 -- what the name at the place led to resolves to; unresolved where none is led to
 abbrev pub far_at : List Resolution → Option ℕ → Resolution

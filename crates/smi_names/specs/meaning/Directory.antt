@@ -4,15 +4,22 @@ use Rattle.std.specs.Prelude.{option_map, unwrap_or}
 use Rattle.smi_text.specs.{trees.Mark.same_text, declared.trees.tree.Def.Def}
 use Rattle.std.specs.{List.slice_get, Option.option_and_then}
 use Rattle.smi_text.specs.declared.trees.tree.Import.{Import}
-use Rattle.smi_names.specs.{meaning.Along.next_by, meaning.Names.place_of_name}
+use Rattle.smi_names.specs.meaning.Along.{next_by}
 use Rattle.smi_names.specs.meaning.Meaning.{QualifiedName, imported}
 use Rattle.smi_names.specs.meaning.Scopes.{content_of, qualified, decision_of, place_in}
 use Rattle.smi_names.specs.declared.meaning.entry.Entry.{Entry}
 use Rattle.smi_names.specs.declared.meaning.directory.Directory.{Directory}
 use Rattle.smi_names.specs.declared.meaning.directory.Found.{Found}
 
+-- the place of a name in the module at `at`; a name without a meaning, and one where no module is,
+-- has the place past the last
+abbrev pub place_at : Directory → Option ℕ → List ℕ → ℕ
+place_at d at x =
+    unwrap_or (option_and_then (λ i. option_and_then (λ scope. place_in scope x)
+    (slice_get d.scopes.items i)) at) (length d.entries.items)
+
 abbrev pub place_by : Directory → QualifiedName → ℕ
-place_by d p = place_of_name d.homes d.scopes.items (length d.entries.items) p
+place_by d p = place_at d (place_in d.homes p.home) p.name
 
 -- the place to which the name of an entry leads, if it leads to one
 abbrev pub next_place : Directory → (Def → Option (List ℕ)) → Entry → Option ℕ
@@ -27,12 +34,6 @@ KeepsImports d =
     (p : ℕ) (e : Entry) (i : Import) (to : Option ℕ) → slice_get d.entries.items p ≡ Some e
     → decision_of e.decider ≡ imported i → slice_get d.parents.items p ≡ Some to
     → to ≡ Some (place_by d (record { home = i.source.octets; name = e.name.now }))
-
--- the place of a name in the module at `at`, or the one past the last if there is none
-abbrev pub place_of_scope : Directory → Option ℕ → List ℕ → ℕ
-place_of_scope d at x =
-    unwrap_or (option_and_then (λ i. option_and_then (λ scope. place_in scope x)
-    (slice_get d.scopes.items i)) at) (length d.entries.items)
 
 -- the name that was looked up last, if any, is kept with the places of its module and of itself
 abbrev pub IsFound : Directory → Option Found → Type 0

@@ -45,9 +45,8 @@ decision m x =
     (option_map root (root_arc x))
 
 abbrev pub both : Option ℕ → Option (List ℕ) → Option (List ℕ)
-both None ns = None
-both (Some n) None = None
 both (Some n) (Some ns) = Some (n ∷ ns)
+both _ _ = None
 
 -- the numbers of parts; a name alone has none
 abbrev pub arcs : List Part → Option (List ℕ)

@@ -1,18 +1,11 @@
 -- The places of names of modules among the entries.
-use Rattle.std.specs.Prelude.{◌≡◌, ℕ, List, length, Option, Some, unwrap_or, All}
-use Rattle.std.specs.{List.slice_get, List.position_from, Option.option_and_then}
+use Rattle.std.specs.Prelude.{◌≡◌, ℕ, List, length, Option, Some, All}
+use Rattle.std.specs.{List.slice_get, List.position_from}
 use Rattle.smi_text.specs.{trees.Mark.same_text, declared.trees.tree.Module.Module}
-use Rattle.smi_names.specs.meaning.Meaning.{QualifiedName, decision}
-use Rattle.smi_names.specs.meaning.Scopes.{NamePlaces, place_in, known, decided_as, IsWithin}
+use Rattle.smi_names.specs.meaning.Meaning.{decision}
+use Rattle.smi_names.specs.meaning.Scopes.{NamePlaces, known, decided_as, IsWithin}
 use Rattle.smi_names.specs.meaning.Scopes.{IsDefinedAt, IsDecided}
 use Rattle.smi_names.specs.declared.meaning.entry.Entry.{Entry}
-
--- the place of a name of a module; a name without a meaning has the place past the last
-abbrev pub place_of_name : NamePlaces → List NamePlaces → ℕ → QualifiedName → ℕ
-place_of_name homes scopes beyond p =
-    unwrap_or (option_and_then (λ i. option_and_then (λ scope. place_in scope p.name)
-    (slice_get scopes i))
-    (place_in homes p.home)) beyond
 
 -- the place of the first module of a name
 abbrev pub module_place : List Module → List ℕ → Option ℕ

@@ -5,16 +5,14 @@ use Rattle.smi_names.specs.declared.chains.shared.Resolution.{Resolution}
 use Rattle.smi_names.specs.declared.chains.shared.Resolution.TheVariants as R
 use Rattle.smi_text.specs.{declared.trees.tree.Module.Module, declared.trees.tree.Def.Def}
 use Rattle.smi_names.specs.{meaning.Meaning.root_label, declared.nodes.gather.Source.Source}
-use Rattle.smi_names.specs.nodes.Nodes.{Node, node_of, warnings_by, roots, GivesNodes, Gathers}
-use Rattle.smi_names.specs.nodes.Nodes.{Brings, Loads}
+use Rattle.smi_names.specs.nodes.Nodes.{Node, node_of, warnings_by, roots, Loads}
 use Rattle.smi_names.specs.declared.nodes.warning.Warning.{Warning}
 use Rattle.smi_names.specs.declared.nodes.gather.Source.TheVariants as S
 use Rattle.smi_names.specs.declared.nodes.gather.Gathered.{Gathered}
 
-abbrev pub node_from_def : Option Module → Option Def → List ℕ → Node
-node_from_def (Some m) (Some d) o = node_of m d o
-node_from_def (Some m) None o = record { home = Some m; label = []; oid = o; definition = None }
-node_from_def None d o = record { home = None; label = []; oid = o; definition = d }
+abbrev pub label_of : Option Def → List ℕ
+label_of None = []
+label_of (Some d) = d.label.octets
 
 abbrev pub def_of_module : Option Module → ℕ → Option Def
 def_of_module None k = None
@@ -23,8 +21,9 @@ def_of_module (Some m) k = slice_get m.defs k
 -- the node of a source
 abbrev pub node_from : List Module → Source → List ℕ → Node
 node_from ms (S.Root n) o = record { home = None; label = root_label n; oid = o; definition = None }
-node_from ms (S.Definition i k) o = node_from_def (slice_get ms i)
-    (def_of_module (slice_get ms i) k) o
+node_from ms (S.Definition i k) o =
+    let d = def_of_module (slice_get ms i) k in
+    record { home = slice_get ms i; label = label_of d; oid = o; definition = d }
 
 -- the nodes of sources, each with its identifier
 abbrev pub nodes_of : List Module → List Source → List (List ℕ) → List Node
@@ -43,15 +42,11 @@ pub record AreGathered (ms : List Module) (g : Gathered) (before : List Module) 
 
 abbrev pub sources_by : Source → Resolution → List Source
 sources_by s (R.Numbers o) = s ∷ []
-sources_by s R.Cycle = []
-sources_by s R.Unresolved = []
-sources_by s R.TooLong = []
+sources_by s _ = []
 
 abbrev pub oids_by : Resolution → List (List ℕ)
 oids_by (R.Numbers o) = o ∷ []
-oids_by R.Cycle = []
-oids_by R.Unresolved = []
-oids_by R.TooLong = []
+oids_by _ = []
 
 -- what is gathered grows by what a definition gives if its name resolves to r
 pub record GrowsByDefinition (old new : Gathered) (s : Source) (m : Module) (d : Def)
@@ -72,26 +67,10 @@ pub record AddsNodes (ms : List Module) (old new : Gathered) (ns : List Node)
       old.oids.items ++ ns
   pub warnings : new.warnings.items ≡ old.warnings.items ++ ws
 
--- what a definition gives is added
-pub record AddsDefinition (ms : List Module) (old new : Gathered) (m : Module)
-    (d : Def) : Type 0 where
+-- nodes and warnings that are given are added
+pub record Adds (ms : List Module) (old new : Gathered)
+    (are_given : List Node → List Warning → Type 0) : Type 0 where
   pub ns : List Node
   pub ws : List Warning
-  pub gives : GivesNodes ms m d ns ws
-  pub adds : AddsNodes ms old new ns ws
-
--- what definitions of a module give is added
-pub record AddsDefinitions (ms : List Module) (old new : Gathered) (m : Module)
-    (ds : List Def) : Type 0 where
-  pub ns : List Node
-  pub ws : List Warning
-  pub gathers : Gathers ms m ds ns ws
-  pub adds : AddsNodes ms old new ns ws
-
--- what a module brings after those before it is added
-pub record AddsModule (ms : List Module) (old new : Gathered) (before : List Module)
-    (m : Module) : Type 0 where
-  pub ns : List Node
-  pub ws : List Warning
-  pub brings : Brings ms before m ns ws
+  pub gives : are_given ns ws
   pub adds : AddsNodes ms old new ns ws

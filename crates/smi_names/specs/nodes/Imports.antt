@@ -7,12 +7,8 @@ use Rattle.smi_text.specs.trees.Lookup.{definition_of, import_of, import_clauses
 use Rattle.smi_text.specs.declared.trees.tree.Import.{Import}
 use Rattle.smi_text.specs.declared.trees.tree.TokenText.{TokenText}
 use Rattle.smi_names.specs.{meaning.Base.base_named, declared.nodes.warning.Warning.Warning}
-use Rattle.smi_names.specs.meaning.Meaning.{Decision, defined, imported, root, module_named}
+use Rattle.smi_names.specs.meaning.Meaning.{Decision, root, module_named}
 use Rattle.smi_names.specs.declared.nodes.warning.Warning.TheVariants as W
-
--- the names of macros and of base types need no definition
-abbrev pub needs_no_definition : List ℕ → Bool
-needs_no_definition x = is_macro x || is_some (base_named x)
 
 -- the module, if it is loaded, defines or imports the name
 abbrev pub defines_or_imports : Option Module → List ℕ → Bool
@@ -20,10 +16,10 @@ defines_or_imports None x = false
 defines_or_imports (Some m) x = is_some (definition_of m x) || is_some (import_of m x)
 
 -- the warning that a symbol gives: the module after FROM, which is loaded, neither defines nor
--- imports it
+-- imports it; the names of macros and of base types need no definition
 abbrev pub symbol_warnings : Option Module → List ℕ → List ℕ → TokenText → List Warning
 symbol_warnings source home from s =
-    if needs_no_definition s.text || defines_or_imports source s.text then []
+    if is_macro s.text || is_some (base_named s.text) || defines_or_imports source s.text then []
     else W.MissingImport home s.text from ∷ []
 
 -- the warnings that a FROM clause gives: one if its module isn't loaded, otherwise those of its
@@ -44,6 +40,5 @@ import_warnings ms m = flat_map (clause_warnings ms m.name.octets) (import_claus
 
 -- a definition or an import of the module decides, and not the list of roots
 abbrev pub is_stated : Decision → Bool
-is_stated (defined d) = true
-is_stated (imported i) = true
 is_stated (root n) = false
+is_stated _ = true

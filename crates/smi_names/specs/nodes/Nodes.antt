@@ -31,9 +31,7 @@ node_of m d o = record { home = Some m; label = d.label.octets; oid = o; definit
 -- the node that a definition gives, by what its name resolves to
 abbrev pub nodes_by : Module → Def → Resolution → List Node
 nodes_by m d (R.Numbers o) = node_of m d o ∷ []
-nodes_by m d R.Cycle = []
-nodes_by m d R.Unresolved = []
-nodes_by m d R.TooLong = []
+nodes_by m d _ = []
 
 -- the warning that a definition gives, by what its name resolves to
 abbrev pub warnings_by : Module → Def → Resolution → List Warning

@@ -47,10 +47,8 @@ impl Shared {
         ensures { slice_get (shared self.now.list.items self.now.places.items) place
             ≡ option_map (λ r. r.now) result }
     {
-        match self.places.get(place) {
-            Some(at) => Some(&self.list[*at]),
-            None => None,
-        }
+        let at = self.places.get(place)?;
+        Some(&self.list[*at])
     }
 }
 

@@ -2,7 +2,7 @@
 ghost use Rattle.std.specs.Prelude.{◌≡◌, ℕ, List, [], map, IfOk, Some};
 ghost use Rattle.smi_names.specs.meaning.Scopes.{place_in};
 ghost use Rattle.smi_names.specs.meaning.Names.{AreEach, module_place};
-ghost use Rattle.smi_names.specs.meaning.Directory.{place_by, place_of_scope, next_place};
+ghost use Rattle.smi_names.specs.meaning.Directory.{place_by, place_at, next_place};
 ghost use Rattle.smi_names.specs.meaning.Directory.{IsFound, KeepsImports, is_entry_of};
 ghost use Rattle.std.specs.List.{slice_get};
 
@@ -87,7 +87,7 @@ impl<'a> Directory<'a> {
 
     /// The place of a name in the module at `at`; the one past the last if there is none.
     fn place_in(&self, at: Option<usize>, name: &'a [u8]) -> usize
-        ensures { result ≡ place_of_scope self.now at name.now }
+        ensures { result ≡ place_at self.now at name.now }
     {
         let Some(i) = at else {
             return self.entries.len();
@@ -153,10 +153,10 @@ impl<'a> Directory<'a> {
     {
         let home = entry.module.name.as_bytes();
         match entry.decider {
-            Decider::Definition(def) => match M::lead(def) {
-                Some(name) => Some(self.place_again(home, name.as_bytes(), last)),
-                None => None,
-            },
+            Decider::Definition(def) => {
+                let name = M::lead(def)?;
+                Some(self.place_again(home, name.as_bytes(), last))
+            }
             // Imports lead alike in every meaning, and are looked up for the parents alone.
             Decider::Import(import) => match self.parents.get(place) {
                 Some(to) => *to,

@@ -131,6 +131,7 @@ impl<'s, 'a> Entries<'s, 'a> {
     }
 
     /// The place to which the name at each place leads towards its identifier.
+    #[tactic(auto, using(crate::proofs::Leading::are_next))]
     fn parents(&self) -> &[Option<usize>]
         ensures { AreNext self.now parent_of result.now }
     {
@@ -187,11 +188,5 @@ impl<'s, 'a> Entries<'s, 'a> {
 fn far_meaning<T: Copy>(found: &[Option<T>], to: Option<usize>) -> Option<T>
     ensures { result ≡ option_and_then (λ p. at_place found.now p) to }
 {
-    let Some(place) = to else {
-        return None;
-    };
-    match found.get(place) {
-        Some(meaning) => *meaning,
-        None => None,
-    }
+    *found.get(to?)?
 }

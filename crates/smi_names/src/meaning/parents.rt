@@ -36,6 +36,7 @@ fn are_numbered(parts: &[Part]) -> bool
 }
 
 /// The numbers of parts, if each has one.
+#[tactic(auto, using(crate::proofs::Placing::arcs_none, crate::proofs::Placing::arcs_push, std::proofs::lemmas::List::take_more, std::proofs::lemmas::Grind::common_steps))]
 fn arcs(alloc: Global, parts: &[Part]) -> Result<Option<Vec<u32>>, AllocError>
     ensures { IfOk result (λ numbers. option_map (λ v. v.items) numbers ≡ arcs_of parts.now) }
 {

@@ -1,9 +1,9 @@
 //! The nodes and warnings that modules give, in order of loading.
 ghost use Rattle.std.specs.Prelude.{◌≡◌, List, [], ◌∷◌, ◌++◌, length, take, Some, OnOk, IfOk};
 ghost use Rattle.std.specs.Prelude.{false, slice_get};
-ghost use Rattle.smi_names.specs.{meaning.Meaning.module_named, nodes.Nodes.is_loaded};
-ghost use Rattle.smi_names.specs.nodes.Gathered.{GrowsByDefinition, AddsDefinition};
-ghost use Rattle.smi_names.specs.nodes.Gathered.{AddsDefinitions, AreGathered, AddsModule};
+ghost use Rattle.smi_names.specs.meaning.Meaning.{module_named};
+ghost use Rattle.smi_names.specs.nodes.Nodes.{is_loaded, GivesNodes, Gathers, Brings};
+ghost use Rattle.smi_names.specs.nodes.Gathered.{GrowsByDefinition, Adds, AreGathered};
 ghost use Rattle.smi_text.specs.declared.trees.tree.Module.{Module};
 
 use crate::chains::Resolution;
@@ -53,6 +53,7 @@ fn push_copy(oids: &mut Vec<Oid>, oid: &Oid) -> Result<(), AllocError>
 }
 
 /// Whether one of the modules before this place has the name of a module.
+#[tactic(auto, using(crate::proofs::Importing::is_loaded_before, crate::proofs::Importing::is_loaded_none, std::proofs::lemmas::Grind::common_steps))]
 fn is_double<'a>(names: &Names<'a>, module: &'a Module, place: usize) -> bool
     ensures { result ≡ is_loaded (take place names.now) «module».now.name.octets }
 {
@@ -75,26 +76,18 @@ impl Gathered {
         ensures added { OnOk result (GrowsByDefinition self.old self.new source «module».now def.now
             resolution.now) }
     {
-        let warning = match resolution {
-            Resolution::Numbers(oid) => {
-                self.sources.push(source)?;
-                push_copy(&mut self.oids, oid)?;
-                return Ok(());
-            }
-            Resolution::Cycle => Warning::Cycle(
-                Text::copied(alloc, module.name.as_bytes())?,
-                Text::copied(alloc, def.label.as_bytes())?,
-            ),
-            Resolution::Unresolved => Warning::Unresolved(
-                Text::copied(alloc, module.name.as_bytes())?,
-                Text::copied(alloc, def.label.as_bytes())?,
-            ),
-            Resolution::TooLong => Warning::TooLong(
-                Text::copied(alloc, module.name.as_bytes())?,
-                Text::copied(alloc, def.label.as_bytes())?,
-            ),
-        };
-        self.warnings.push(warning)?;
+        if let Resolution::Numbers(oid) = resolution {
+            self.sources.push(source)?;
+            return push_copy(&mut self.oids, oid);
+        }
+        let home = Text::copied(alloc, module.name.as_bytes())?;
+        let label = Text::copied(alloc, def.label.as_bytes())?;
+        self.warnings.push(match resolution {
+            Resolution::Numbers(_) => unreachable!(),
+            Resolution::Cycle => Warning::Cycle(home, label),
+            Resolution::Unresolved => Warning::Unresolved(home, label),
+            Resolution::TooLong => Warning::TooLong(home, label),
+        })?;
         Ok(())
     }
 
@@ -114,7 +107,7 @@ impl Gathered {
         requires defined { slice_get «module».now.defs at.1 ≡ Some def.now }
         requires first { module_named names.now «module».now.name.octets ≡ Some «module».now }
         ensures added { OnOk result
-            (AddsDefinition names.now self.old self.new «module».now def.now) }
+            (Adds names.now self.old self.new (GivesNodes names.now «module».now def.now)) }
     {
         if def.identifier().is_none() {
             return Ok(());
@@ -138,7 +131,7 @@ impl Gathered {
         requires there { slice_get names.now place ≡ Some «module».now }
         requires first { module_named names.now «module».now.name.octets ≡ Some «module».now }
         ensures added { OnOk result
-            (AddsDefinitions names.now self.old self.new «module».now «module».now.defs) }
+            (Adds names.now self.old self.new (Gathers names.now «module».now «module».now.defs)) }
     {
         let defs = module.defs.as_slice();
         let mut from = 0;
@@ -161,7 +154,8 @@ impl Gathered {
         requires there { slice_get names.now place ≡ Some «module».now }
         requires first { is_loaded (take place names.now) «module».now.name.octets ≡ false }
         ensures added { OnOk result
-            (AddsModule names.now self.old self.new (take place names.now) «module».now) }
+            (Adds names.now self.old self.new
+            (Brings names.now (take place names.now) «module».now)) }
     {
         add_import_warnings(alloc, &mut self.warnings, names, module)?;
         self.add_definitions(alloc, names, module, place)?;
@@ -179,7 +173,8 @@ impl Gathered {
         requires long { length self.old.sources.items ≡ length self.old.oids.items }
         requires there { slice_get names.now place ≡ Some «module».now }
         ensures added { OnOk result
-            (AddsModule names.now self.old self.new (take place names.now) «module».now) }
+            (Adds names.now self.old self.new
+            (Brings names.now (take place names.now) «module».now)) }
     {
         if is_double(names, module, place) {
             let name = Text::copied(alloc, module.name.as_bytes())?;

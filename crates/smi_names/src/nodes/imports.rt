@@ -12,10 +12,7 @@ use std::alloc::{AllocError, Global};
 fn is_stated(decider: Decider<'_>) -> bool
     ensures { result ≡ imports.is_stated (decision_of decider.entry) }
 {
-    match decider {
-        Decider::Definition(_) | Decider::Import(_) => true,
-        Decider::Root(_) => false,
-    }
+    !matches!(decider, Decider::Root(_))
 }
 
 /// Whether the module named `home` is loaded, and defines or imports `name`.

@@ -22,14 +22,11 @@ abbrev pub arc_text : Option Standing → List ℕ → ℕ → List ℕ
 arc_text None o n = decimal n
 arc_text (Some node) o n = if node.depth == length o then node.label else decimal n
 
--- the name of the last number, after a dot
-abbrev pub arc_after_dot : Contents → List ℕ → List ℕ
-arc_after_dot tree here =
-    codes "." ++ arc_text (nearest_node tree here) here (last_number here)
-
 -- the names of all numbers, each after a dot: one for each beginning
 abbrev pub path_text : Contents → List ℕ → List ℕ
-path_text tree o = flat_map (arc_after_dot tree) (beginnings o)
+path_text tree o =
+    flat_map (λ here. codes "." ++ arc_text (nearest_node tree here) here (last_number here))
+    (beginnings o)
 
 -- the deepest node in this form
 abbrev pub node_text : Contents → NameForm → List ℕ → Standing → List ℕ

@@ -5,7 +5,7 @@ ghost use Rattle.snmp_io.specs.Draft.{Adds};
 ghost use Rattle.smi_show.specs.details.Syntax.{base_text, more_numbers, more_ranges};
 ghost use Rattle.smi_show.specs.details.Syntax.{named_number_text, numbers_text, range_text};
 ghost use Rattle.smi_show.specs.details.Syntax.{ranges_text, refinement_text, syntax_text};
-ghost use Rattle.smi_show.specs.private.details.Tokens.{AreTokensOf, joined_by_blanks};
+ghost use Rattle.smi_show.specs.private.Tokens.{AreTokensOf, joined_by_blanks};
 ghost use Rattle.smi_text.specs.lexer.Token.{Lexeme};
 
 use smi_text::{Base, NamedNumber, Range, Refinement, Syntax};

@@ -41,11 +41,12 @@ const SMALL: &[u8] = b"\
     .240.241.242.243.244.245.246.247.248.249.250.251.252.253.254.255\
     ";
 
-/// Appends numbers, with a dot before each.
+/// Appends numbers, with a dot before each. This takes 4 % of the instructions of a walk whose
+/// names are numbers, so the digits are put one by one and appended at once.
 pub fn numbers_text(numbers: &[u32], draft: &mut Draft)
     ensures { Adds draft.old (shown_pieces (as_numbers numbers.now)) draft.new }
 {
-    // Gathered, and appended at once: most names are shorter than the room.
+    // Most names are shorter than the room.
     let mut room = [0; ROOM];
     let front = put_front(&mut room, numbers);
     let mut filled = 2 * front;
@@ -73,6 +74,7 @@ pub fn index_text(parts: &[IndexPart], numbers: &[u32], draft: &mut Draft)
 /// The pieces that show numbers stand for exactly these numbers, and each may stand in a name.
 ///
 /// A law: the call does nothing, and its caller may use what it ensures.
+#[tactic(auto, using(crate::proofs::PieceLemmas::whole, crate::proofs::PieceLemmas::each))]
 #[inline]
 pub fn pieces_stand_for_numbers()
     ensures whole { (index : Option (List IndexPart)) (numbers : List ℕ)
@@ -115,11 +117,7 @@ fn is_plain(part: IndexPart) -> bool
 {
     match part {
         IndexPart::Text(_) => false,
-        IndexPart::Number
-        | IndexPart::Address
-        | IndexPart::Octets(_)
-        | IndexPart::Identifier
-        | IndexPart::ImpliedIdentifier => true,
+        _ => true,
     }
 }
 
@@ -145,16 +143,9 @@ fn reads_some_text(parts: &[IndexPart], numbers: &[u32]) -> bool
 fn may_be_text(part: IndexPart, value: &[u32]) -> bool
     ensures { OnFalse result (is_text part value.now ≡ false) }
 {
-    match part {
-        IndexPart::Text(_) => match value {
-            [first, ..] => is_quotable(*first),
-            [] => false,
-        },
-        IndexPart::Number
-        | IndexPart::Address
-        | IndexPart::Octets(_)
-        | IndexPart::Identifier
-        | IndexPart::ImpliedIdentifier => false,
+    match (part, value) {
+        (IndexPart::Text(_), [first, ..]) => is_quotable(*first),
+        _ => false,
     }
 }
 
@@ -199,6 +190,7 @@ fn number_text(number: u64, draft: &mut Draft)
 
 /// Puts the numbers at the front into the room, four at a time and 60 at most, as long as they have
 /// one digit, and returns how many these are. Most names begin with such numbers.
+#[tactic(auto, using(std::proofs::lemmas::Bool::OnTrue_at, crate::proofs::FrontNumbers::four_digits_more))]
 #[inline(always)]
 fn put_front(room: &mut [u8; ROOM], numbers: &[u32]) -> usize
     ensures front { result ≤ length numbers.now }
@@ -280,6 +272,7 @@ fn put_number(room: &mut [u8; ROOM], filled: usize, number: u32) -> usize
 }
 
 /// [`put_number`] for a number of four to ten digits.
+#[tactic(auto, using(crate::proofs::DigitLemmas::behind))]
 #[inline(never)]
 fn put_long(room: &mut [u8; ROOM], filled: usize, number: u32) -> usize
     requires room { filled ≤ 117 }
@@ -296,6 +289,7 @@ fn put_long(room: &mut [u8; ROOM], filled: usize, number: u32) -> usize
 }
 
 /// [`put_number`] for a number of up to six digits.
+#[tactic(auto, using(crate::proofs::DigitLemmas::behind))]
 fn put_medium(room: &mut [u8; ROOM], filled: usize, number: u32) -> usize
     requires room { filled ≤ 117 }
     requires medium { number < 1000000 }
@@ -356,6 +350,7 @@ fn put_small(room: &mut [u8; ROOM], filled: usize, number: u32) -> usize
 }
 
 /// How many octets a number below 256 takes, with the dot before it.
+#[tactic(auto, using(crate::proofs::SmallNumbers::small_len_is))]
 #[inline(always)]
 fn small_len(number: u32) -> usize
     requires { number < 256 }

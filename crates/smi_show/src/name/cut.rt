@@ -7,6 +7,7 @@ ghost use Rattle.smi_show.specs.private.name.Left.{parts_left};
 use snmp_io::{open_after, split_unquoted};
 
 /// The first part of a text, and what follows the dot that ends it, None if no dot does.
+#[tactic(auto, using(crate::proofs::Parted::one_part, crate::proofs::Parted::part_before))]
 pub fn cut_part(text: &[u8]) -> (&[u8], Option<&[u8]>)
     ensures parts { let left = parts_left (option_map (λ rest. rest.now) result.1) in
         result.0.now ∷ left ≡ name_parts text.now }
@@ -31,6 +32,7 @@ pub fn cut_module(text: &[u8]) -> Option<(&[u8], &[u8])>
 }
 
 /// What `cut_module` returns, of a name that may have other colons.
+#[tactic(auto, using(std::proofs::lemmas::List::take_rest, crate::proofs::CutLemmas::module_here, crate::proofs::CutLemmas::module_later))]
 fn cut_later_module(text: &[u8]) -> Option<(&[u8], &[u8])>
     ensures { option_map (λ r. (r.0.now, r.1.now)) result ≡ module_after None text.now }
 {

@@ -17,6 +17,7 @@ pub fn one_meaning()
 {}
 
 /// What a text means is computed by a function, for proofs that need one.
+#[tactic(auto, using(crate::proofs::MeantTexts::means))]
 pub fn meanings_are_computed()
     ensures { (tree : Contents) (text : List ℕ) → TextMeans tree text (meaning tree text) }
 {}

@@ -47,10 +47,8 @@ pub fn resolve_front(tree: &Tree, text: &[u8], stop: u8) -> Result<(Oid, usize),
     ensures { FrontMeans tree.now stop text.now result }
 {
     let mut oid = Oid::new();
-    match resolve_front_into(tree, text, stop, &mut oid) {
-        Ok(size) => Ok((oid, size)),
-        Err(fault) => Err(fault),
-    }
+    let size = resolve_front_into(tree, text, stop, &mut oid)?;
+    Ok((oid, size))
 }
 
 /// Reads the identifier that a name means into `oid`, as [`resolve`] returns it: to move an
@@ -75,10 +73,8 @@ pub fn resolve_front_into(
         (λ why. FrontMeans tree.now stop text.now (Err why)) }
 {
     let front = unquoted_front(text, stop);
-    match resolve_into(tree, front, oid) {
-        Ok(()) => Ok(front.len()),
-        Err(fault) => Err(fault),
-    }
+    resolve_into(tree, front, oid)?;
+    Ok(front.len())
 }
 
 /// What `resolve` returns.
@@ -86,13 +82,12 @@ fn meaning_of(tree: &Tree, text: &[u8]) -> Result<Oid, NameError>
     ensures { result ≡ meaning tree.now text.now }
 {
     let mut oid = Oid::new();
-    match read_meaning(tree, text, &mut oid) {
-        Ok(()) => Ok(oid),
-        Err(fault) => Err(fault),
-    }
+    read_meaning(tree, text, &mut oid)?;
+    Ok(oid)
 }
 
 /// Reads what a text means into `oid`.
+#[tactic(auto, using(crate::proofs::NumericMeaning::numeric_meaning))]
 fn read_meaning(tree: &Tree, text: &[u8], oid: &mut Oid) -> Result<(), NameError>
     ensures { read_to result oid.new ≡ meaning tree.now text.now }
 {
@@ -267,11 +262,6 @@ fn part_meaning(tree: &Tree, part: &[u8], oid: &mut Oid) -> Result<(), NameError
 fn known(found: Option<&Oid>, oid: &mut Oid) -> Result<(), NameError>
     ensures { read_to result oid.new ≡ or_unknown (option_copied found.entry) }
 {
-    match found {
-        None => Err(NameError::Unknown),
-        Some(known) => {
-            oid.set_to(known);
-            Ok(())
-        }
-    }
+    oid.set_to(found.ok_or(NameError::Unknown)?);
+    Ok(())
 }

@@ -1,8 +1,8 @@
 //! A part of a name, read on its own.
-ghost use Rattle.std.specs.Prelude.{◌≡◌, ◌≢◌, ℕ, [], option_map};
+ghost use Rattle.std.specs.Prelude.{◌≡◌, ℕ, option_map};
 ghost use Rattle.std.specs.{Option.option_copied, List.list_all};
 ghost use Rattle.smi_show.specs.{index.Pieces.is_quotable, private.name.Part.outcome_in};
-ghost use Rattle.smi_show.specs.name.Word.{numeral_of, quoted_in, word_of};
+ghost use Rattle.smi_show.specs.name.Word.{quoted_in, word_of};
 
 use crate::index::is_quotable;
 use crate::name::NameError;
@@ -29,12 +29,13 @@ pub enum Piece<'a> {
 }
 
 /// What a part says: a number, a text in quotes, or a label; or its own fault.
+#[tactic(auto, using(crate::proofs::NumeralLemmas::numeral_read))]
 pub fn read_part(part: &[u8]) -> Result<Part<'_>, NameError>
     ensures { outcome_in result ≡ word_of part.now }
 {
     match part {
         [] => Err(NameError::BadNumber),
-        [b'0'..=b'9', ..] => match numeral(part) {
+        [b'0'..=b'9', ..] => match parse_number(part) {
             Some(number) => Ok(Part::Piece(Piece::Number(number))),
             None => Err(NameError::BadNumber),
         },
@@ -48,14 +49,6 @@ pub fn read_part(part: &[u8]) -> Result<Part<'_>, NameError>
         },
         _ => Ok(Part::Label(part)),
     }
-}
-
-/// The number of 32 bits that decimal digits stand for.
-fn numeral(part: &[u8]) -> Option<u32>
-    requires { part.now ≢ [] }
-    ensures { result ≡ numeral_of part.now }
-{
-    parse_number(part)
 }
 
 /// The octets before the quote that ends a text, where each may stand between quotes.

@@ -25,10 +25,7 @@ pub fn push_piece(oid: &mut Oid, piece: Piece<'_>) -> Result<(), NameError>
 pub fn push_number(oid: &mut Oid, number: u32) -> Result<(), NameError>
     ensures { read_to result oid.new ≡ fitting (oid.old ++ number ∷ []) }
 {
-    match oid.push(number) {
-        Ok(()) => Ok(()),
-        Err(_) => Err(NameError::TooLong),
-    }
+    oid.push(number).map_err(|_| NameError::TooLong)
 }
 
 /// Appends the number of octets and then the octets.

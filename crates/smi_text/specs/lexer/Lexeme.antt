@@ -64,6 +64,26 @@ IsLiteral is_digit upper lower text = (digits : List ℕ) × (letter : ℕ)
     × (text ≡ codes "'" ++ digits ++ codes "'" ++ letter ∷ [])
     × IsTrue (list_all is_digit digits) × ((letter ≡ upper) ⊎ (letter ≡ lower))
 
+-- the one text of a sign; none for a word, a number, a string or a literal
+abbrev pub sign_text : TokenKind → List ℕ
+sign_text K.Assign = codes "::="
+sign_text K.Range = codes ".."
+sign_text K.OpenBrace = codes "{"
+sign_text K.CloseBrace = codes "}"
+sign_text K.OpenParen = codes "("
+sign_text K.CloseParen = codes ")"
+sign_text K.OpenBracket = codes "["
+sign_text K.CloseBracket = codes "]"
+sign_text K.Less = codes "<"
+sign_text K.Greater = codes ">"
+sign_text K.Comma = codes ","
+sign_text K.Semicolon = codes ";"
+sign_text K.Colon = codes ":"
+sign_text K.Bar = codes "|"
+sign_text K.Dot = codes "."
+sign_text K.Equals = codes "="
+sign_text _ = []
+
 -- the text is a lexeme of this kind
 abbrev pub IsLexeme : TokenKind → List ℕ → Type 0
 IsLexeme K.Lower text = IsWord is_ascii_lowercase text
@@ -72,22 +92,7 @@ IsLexeme K.Number text = IsNumber text
 IsLexeme K.Text text = IsString text
 IsLexeme K.Hex text = IsLiteral is_ascii_hexdigit 72 104 text
 IsLexeme K.Binary text = IsLiteral is_binary_digit 66 98 text
-IsLexeme K.Assign text = text ≡ codes "::="
-IsLexeme K.Range text = text ≡ codes ".."
-IsLexeme K.OpenBrace text = text ≡ codes "{"
-IsLexeme K.CloseBrace text = text ≡ codes "}"
-IsLexeme K.OpenParen text = text ≡ codes "("
-IsLexeme K.CloseParen text = text ≡ codes ")"
-IsLexeme K.OpenBracket text = text ≡ codes "["
-IsLexeme K.CloseBracket text = text ≡ codes "]"
-IsLexeme K.Less text = text ≡ codes "<"
-IsLexeme K.Greater text = text ≡ codes ">"
-IsLexeme K.Comma text = text ≡ codes ","
-IsLexeme K.Semicolon text = text ≡ codes ";"
-IsLexeme K.Colon text = text ≡ codes ":"
-IsLexeme K.Bar text = text ≡ codes "|"
-IsLexeme K.Dot text = text ≡ codes "."
-IsLexeme K.Equals text = text ≡ codes "="
+IsLexeme kind text = text ≡ sign_text kind
 
 -- ---- gaps
 

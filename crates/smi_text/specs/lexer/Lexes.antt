@@ -15,11 +15,7 @@ line_behind before = count_by is_newline before + 1
 abbrev pub lexeme_behind : List ℕ → TokenKind → List ℕ → Lexeme
 lexeme_behind before kind text = record {
   kind = kind;
-  span = record {
-    start = length before;
-    «end»
-        = length before + length text;
-  };
+  span = record { start = length before; «end» = length before + length text };
   text = text;
   line = line_behind before;
 }

@@ -134,11 +134,7 @@ newlines text = count_by is_newline text
 abbrev pub lexeme_at : ℕ → ℕ → TokenKind → List ℕ → Lexeme
 lexeme_at at lines kind text = record {
   kind = kind;
-  span = record {
-    start = at;
-    «end» = at +
-        length text;
-  };
+  span = record { start = at; «end» = at + length text };
   text = text;
   line = lines + 1;
 }

@@ -2,14 +2,15 @@
 -- tokens, what it begins with, and what must not follow it.
 use Rattle.std.specs.Prelude.{◌≡◌, ℕ, Bool, true, false, ◌&&◌, ◌||◌, not, List, [], ◌∷◌, ◌++◌}
 use Rattle.std.specs.Prelude.{length, Option, Some, None, Ok, Err, drop, if◌then◌else◌}
-use Rattle.std.specs.Prelude.{option_and_then, option_map, refl}
+use Rattle.std.specs.Prelude.{option_and_then, option_map, refl, unwrap_or}
 use Rattle.std.specs.List.{list_any, list_all}
 use Rattle.std.proofs.Common.{◌⊎◌, inl, inr, zero, suc}
 use Rattle.smi_text.specs.declared.lexer.token.TokenKind.{TokenKind}
 use Rattle.smi_text.specs.declared.lexer.token.TokenKind.TheVariants.{Lower, Upper}
 use Rattle.smi_text.specs.{lexer.Token.Lexeme, lexer.Token.Item, trees.Word.is_word}
 use Rattle.smi_text.specs.{trees.Reserved.is_reserved, declared.trees.names.Name.Name}
-use Rattle.smi_text.specs.trees.Mark.{Mark, sign_text, same_kind, same_text, MarksToken}
+use Rattle.smi_text.specs.trees.Mark.{Mark, same_kind, same_text, MarksToken}
+use Rattle.smi_text.specs.lexer.Lexeme.{sign_text}
 
 -- a condition on the token ahead: it is this word of the grammar, a name in upper case, or of this
 -- kind; or it is not this word, or not of this kind
@@ -81,12 +82,9 @@ pub record Format (A : Type 0) : Type 0 where
   pub empty : Bool
 
 -- one token: what `pick` takes from it, if it takes anything, and the items after it
-abbrev pub read_one : {A : Type 0} → (Lexeme → Option A) → List Item → Parsed A
-read_one pick items = option_map (λ x. (x, drop 1 items)) (option_and_then pick (token_ahead items))
-
 abbrev pub one : {A : Type 0} → List Ahead → (Lexeme → Option A) → Format A
 one cs pick = record {
-  read = read_one pick;
+  read = λ ts. option_map (λ x. (x, drop 1 ts)) (option_and_then pick (token_ahead ts));
   first = cs;
   stop = [];
   empty = false;
@@ -215,14 +213,11 @@ some_of f g = record {
 unfoldable pub separated : {A : Type 0} → TokenKind → Format A → Format (List A)
 separated k f = some_of f (behind (token k) f)
 
--- a part, with the line of its first token
-abbrev pub line_of : Option Lexeme → ℕ
-line_of None = 0
-line_of (Some t) = t.line
-
+-- the line of the token ahead
 abbrev pub line_ahead : List Item → ℕ
-line_ahead items = line_of (token_ahead items)
+line_ahead items = unwrap_or (option_map (λ t. t.line) (token_ahead items)) 0
 
+-- a part, with the line of its first token
 unfoldable pub lined : {A : Type 0} → Format A → Format (ℕ × A)
 lined f = record {
   read = λ ts. option_map (λ p. ((line_ahead ts, p.0), p.1)) (f.read ts);

@@ -64,9 +64,6 @@ kept cs ok = one cs (λ t. if ok t.kind t.text then Some (kept_text t) else None
 unfoldable pub arc : Format (List ℕ)
 arc = text_where K.Number is_arc
 
-abbrev pub to_named_number : Name × List ℕ → NamedNumber
-to_named_number p = record { name = p.0; number = p.1 }
-
 abbrev pub to_part : List ℕ ⊎ (Name × Option (List ℕ)) → Part
 to_part (inl n) = P.Number n
 to_part (inr (x, None)) = P.Name x
@@ -96,19 +93,19 @@ value = behind (token K.Assign) identifier
 unfoldable pub bound : Format TokenText
 bound = kept (a_kind K.Number ∷ a_kind K.Hex ∷ a_kind K.Binary ∷ []) is_bound
 
-abbrev pub to_range : TokenText × Option TokenText → Range
-to_range p = record { low = p.0; high = p.1 }
-
 unfoldable pub range : Format Range
-range = shaped to_range (pair bound (maybe (behind (token K.Range) bound)))
+range =
+    shaped (λ p. record { low = p.0; high = p.1 })
+    (pair bound (maybe (behind (token K.Range) bound)))
 
 unfoldable pub ranges : Format (List Range)
 ranges = separated K.Bar range
 
 -- a name with a number of any sign
 unfoldable pub named_number : Format NamedNumber
-named_number = shaped to_named_number (pair lower (parenthesized
-    (text_where K.Number is_number)))
+named_number =
+    shaped (λ p. record { name = p.0; number = p.1 })
+    (pair lower (parenthesized (text_where K.Number is_number)))
 
 abbrev pub to_refinement : List NamedNumber ⊎ (List Range ⊎ List Range) → Refinement
 to_refinement (inl ns) = R.Numbers ns
@@ -142,11 +139,8 @@ base =
     (either (word (codes "INTEGER")) (either octet_string_words (either object_identifier_words
     (either (word (codes "BITS")) name))))
 
-abbrev pub to_simple_type : Base × Option Refinement → SimpleType
-to_simple_type p = record { base = p.0; refinement = p.1 }
-
 unfoldable pub simple_type : Format SimpleType
-simple_type = shaped to_simple_type (pair base (maybe refinement))
+simple_type = shaped (λ p. record { base = p.0; refinement = p.1 }) (pair base (maybe refinement))
 
 abbrev pub to_syntax : Name ⊎ SimpleType → Syntax
 to_syntax (inl x) = T.SequenceOf x
@@ -159,23 +153,17 @@ unfoldable pub syntax_type : Format Syntax
 syntax_type = shaped to_syntax (either (behind (word
     (codes "SEQUENCE")) of_row) simple_type)
 
-abbrev pub to_field : Name × Syntax → Field
-to_field p = record { label = p.0; syntax = p.1 }
-
 unfoldable pub field : Format Field
-field = shaped to_field (pair lower syntax_type)
+field = shaped (λ p. record { label = p.0; syntax = p.1 }) (pair lower syntax_type)
 
 -- clauses
 
 unfoldable pub names : Format (List Name)
 names = braced (separated K.Comma lower)
 
-abbrev pub to_status : List ℕ × (List ℕ × Option (List ℕ)) → Status
-to_status p = record { status = p.0; description = p.1.0; reference = p.1.1 }
-
 unfoldable pub status : Format Status
 status =
-    shaped to_status
+    shaped (λ p. record { status = p.0; description = p.1.0; reference = p.1.1 })
     (pair (behind (word (codes "STATUS")) (text K.Lower)) (pair (clause (codes "DESCRIPTION"))
     (maybe (clause (codes "REFERENCE")))))
 
@@ -257,50 +245,30 @@ balanced = record {
 
 -- definitions
 
-abbrev pub to_revision : List ℕ × List ℕ → Revision
-to_revision p = record { date = p.0; description = p.1 }
-
 unfoldable pub revision : Format Revision
-revision = shaped to_revision (pair (clause (codes "REVISION")) (clause
-    (codes "DESCRIPTION")))
-
-abbrev pub to_module_identity : List ℕ × (List ℕ × (List ℕ × (List ℕ × (List Revision
-    × List Part)))) → ModuleIdentity
-to_module_identity p = record {
-  last_updated = p.0;
-  organization = p.1.0;
-  contact_info = p.1.1.0;
-  description = p.1.1.1.0;
-  revisions = p.1.1.1.1.0;
-  value = p.1.1.1.1.1;
-}
+revision =
+    shaped (λ p. record { date = p.0; description = p.1 })
+    (pair (clause (codes "REVISION")) (clause (codes "DESCRIPTION")))
 
 unfoldable pub module_identity : Format ModuleIdentity
 module_identity =
-    shaped to_module_identity
+    shaped (λ p. record {
+      last_updated = p.0;
+      organization = p.1.0;
+      contact_info = p.1.1.0;
+      description = p.1.1.1.0;
+      revisions = p.1.1.1.1.0;
+      value = p.1.1.1.1.1;
+    })
     (behind (word (codes "MODULE-IDENTITY"))
     (pair (clause (codes "LAST-UPDATED")) (pair (clause (codes "ORGANIZATION")) (pair (clause
     (codes "CONTACT-INFO"))
     (pair (clause (codes "DESCRIPTION")) (pair (many revision) value))))))
 
-abbrev pub to_object_identity : Status × List Part → ObjectIdentity
-to_object_identity p = record { status = p.0; value = p.1 }
-
 unfoldable pub object_identity : Format ObjectIdentity
 object_identity =
-    shaped to_object_identity (behind (word (codes "OBJECT-IDENTITY")) (pair status value))
-
-abbrev pub to_object_type : Syntax × (Option (List ℕ) × (List ℕ × (Status × (Option Index
-    × (Option (List TokenText) × List Part))))) → ObjectType
-to_object_type p = record {
-  syntax = p.0;
-  units = p.1.0;
-  max_access = p.1.1.0;
-  status = p.1.1.1.0;
-  index = p.1.1.1.1.0;
-  default = p.1.1.1.1.1.0;
-  value = p.1.1.1.1.1.1;
-}
+    shaped (λ p. record { status = p.0; value = p.1 })
+    (behind (word (codes "OBJECT-IDENTITY")) (pair status value))
 
 unfoldable pub default_value : Format (List TokenText)
 default_value = behind (word (codes "DEFVAL")) (braced balanced)
@@ -310,57 +278,51 @@ syntax_clause = behind (word (codes "SYNTAX")) syntax_type
 
 unfoldable pub object_type : Format ObjectType
 object_type =
-    shaped to_object_type
+    shaped (λ p. record {
+      syntax = p.0;
+      units = p.1.0;
+      max_access = p.1.1.0;
+      status = p.1.1.1.0;
+      index = p.1.1.1.1.0;
+      default = p.1.1.1.1.1.0;
+      value = p.1.1.1.1.1.1;
+    })
     (behind (word (codes "OBJECT-TYPE"))
     (pair syntax_clause (pair (maybe (clause (codes "UNITS")))
     (pair (behind (word (codes "MAX-ACCESS")) (text K.Lower)) (pair status (pair (maybe index)
     (pair (maybe default_value) value)))))))
-
-abbrev pub to_notification_type : Option (List Name) × (Status × List Part) → NotificationType
-to_notification_type p = record { objects = p.0; status = p.1.0; value = p.1.1 }
 
 unfoldable pub objects : Format (List Name)
 objects = behind (word (codes "OBJECTS")) names
 
 unfoldable pub notification_type : Format NotificationType
 notification_type =
-    shaped to_notification_type
+    shaped (λ p. record { objects = p.0; status = p.1.0; value = p.1.1 })
     (behind (word (codes "NOTIFICATION-TYPE")) (pair (maybe objects) (pair status value)))
-
-abbrev pub to_group : List Name × (Status × List Part) → Group
-to_group p = record { members = p.0; status = p.1.0; value = p.1.1 }
 
 -- a group after the word `w`, with its members after the word `v`
 unfoldable pub group : List ℕ → List ℕ → Format Group
 group w v =
-    shaped to_group (behind (word w) (pair (behind (word v) names) (pair status value)))
-
-abbrev pub to_raw_definition : List TokenText × List Part → RawDefinition
-to_raw_definition p = record { clauses = p.0; value = p.1 }
+    shaped (λ p. record { members = p.0; status = p.1.0; value = p.1.1 })
+    (behind (word w) (pair (behind (word v) names) (pair status value)))
 
 unfoldable pub raw_definition : List ℕ → Format RawDefinition
 raw_definition w =
-    shaped to_raw_definition (behind (word w) (pair (many before_assign) value))
+    shaped (λ p. record { clauses = p.0; value = p.1 })
+    (behind (word w) (pair (many before_assign) value))
 
 unfoldable pub object_identifier : Format (List Part)
 object_identifier = behind object_identifier_words value
 
-abbrev pub to_textual_convention : Option (List ℕ) × (Status × Syntax) → TextualConvention
-to_textual_convention p = record { display_hint = p.0; status = p.1.0; syntax = p.1.1 }
-
 unfoldable pub textual_convention : Format TextualConvention
 textual_convention =
-    shaped to_textual_convention
+    shaped (λ p. record { display_hint = p.0; status = p.1.0; syntax = p.1.1 })
     (behind (word (codes "TEXTUAL-CONVENTION"))
     (pair (maybe (clause (codes "DISPLAY-HINT"))) (pair status syntax_clause)))
 
 -- a definition of a name in lower case, by what follows the name
-abbrev pub Lower : Type 0
-Lower =
-    ObjectType ⊎ (List Part ⊎ (ObjectIdentity ⊎ (ModuleIdentity ⊎ (NotificationType ⊎ (Group
-    ⊎ (Group ⊎ (RawDefinition ⊎ RawDefinition)))))))
-
-abbrev pub to_lower : Lower → DefKind
+abbrev pub to_lower : ObjectType ⊎ (List Part ⊎ (ObjectIdentity ⊎ (ModuleIdentity
+    ⊎ (NotificationType ⊎ (Group ⊎ (Group ⊎ (RawDefinition ⊎ RawDefinition))))))) → DefKind
 to_lower (inl d) = D.ObjectType d
 to_lower (inr (inl d)) = D.ObjectIdentifier d
 to_lower (inr (inr (inl d))) = D.ObjectIdentity d
@@ -406,27 +368,18 @@ to_assigned (inr (inr (inr (inr t)))) = D.TypeAssignment
 unfoldable pub choice : Format (List TokenText)
 choice = behind (word (codes "CHOICE")) (braced balanced)
 
-unfoldable pub tagged : Format (List ℕ × Syntax)
-tagged = pair tag syntax_type
-
-unfoldable pub sequence : Format (List Field ⊎ Name)
-sequence = behind (word (codes "SEQUENCE")) (either (braced (separated K.Comma field)) of_row)
-
 unfoldable pub assigned : Format DefKind
 assigned =
     shaped to_assigned
-    (either textual_convention (either choice (either tagged (either sequence simple_type))))
-
-unfoldable pub macro_body : Format (List TokenText)
-macro_body =
-    behind (word (codes "MACRO")) (behind (token K.Assign) (behind (word (codes "BEGIN")) (before
-    (many before_end) (word (codes "END")))))
-
-abbrev pub to_macro : List TokenText → DefKind
-to_macro xs = D.Macro xs
+    (either textual_convention (either choice (either (pair tag syntax_type) (either
+    (behind (word (codes "SEQUENCE")) (either (braced (separated K.Comma field)) of_row))
+    simple_type))))
 
 unfoldable pub macro_definition : Format DefKind
-macro_definition = shaped to_macro macro_body
+macro_definition =
+    shaped D.Macro
+    (behind (word (codes "MACRO")) (behind (token K.Assign) (behind (word (codes "BEGIN"))
+    (before (many before_end) (word (codes "END"))))))
 
 abbrev pub to_upper : DefKind ⊎ DefKind → DefKind
 to_upper (inl k) = k
@@ -463,13 +416,10 @@ definition =
 unfoldable pub imported_symbol : Format TokenText
 imported_symbol = kept (a_kind K.Lower ∷ a_name ∷ macro_words) is_symbol
 
-abbrev pub to_import : ℕ × (List TokenText × Name) → Import
-to_import p = record { symbols = p.1.0; source = p.1.1; line = p.0 }
-
 unfoldable pub import_clause : Format Import
 import_clause =
-    shaped to_import (lined (pair (separated K.Comma imported_symbol) (behind (word
-    (codes "FROM")) name)))
+    shaped (λ p. record { symbols = p.1.0; source = p.1.1; line = p.0 })
+    (lined (pair (separated K.Comma imported_symbol) (behind (word (codes "FROM")) name)))
 
 unfoldable pub imports : Format (List Import)
 imports = behind (word (codes "IMPORTS")) (before (many import_clause) (token K.Semicolon))
@@ -481,22 +431,17 @@ heading = braced (many part)
 unfoldable pub opening : Format (Unit {0})
 opening = behind (word (codes "DEFINITIONS")) (behind (token K.Assign) (word (codes "BEGIN")))
 
-abbrev pub to_head : Name × (Option (List Part) × Option (List Import)) → Head
-to_head p = record { name = p.0; heading = p.1.0; imports = p.1.1 }
-
 -- a module up to its definitions
 unfoldable pub head : Format Head
-head = shaped to_head (pair name (pair (maybe heading) (behind opening (maybe imports))))
-
-abbrev pub to_module : Head × List Def → Module
-to_module p = record { name = p.0.name; heading = p.0.heading; imports = p.0.imports; defs = p.1 }
-
-abbrev pub head_of : Module → Head
-head_of m = record { name = m.name; heading = m.heading; imports = m.imports }
+head =
+    shaped (λ p. record { name = p.0; heading = p.1.0; imports = p.1.1 })
+    (pair name (pair (maybe heading) (behind opening (maybe imports))))
 
 unfoldable pub module_text : Format Module
-module_text = shaped to_module (pair head (before (many definition) (word
-    (codes "END"))))
+module_text =
+    shaped
+    (λ p. record { name = p.0.name; heading = p.0.heading; imports = p.0.imports; defs = p.1 })
+    (pair head (before (many definition) (word (codes "END"))))
 
 unfoldable pub file : Format (List Module)
 file = many module_text

@@ -1,6 +1,6 @@
 -- What the steps of the parser return, for private clauses.
 use Rattle.std.specs.Prelude.{◌≡◌, ℕ, Bool, true, false, List, [], ◌∷◌, ◌++◌, Option, Some, None}
-use Rattle.std.specs.Prelude.{Result, Ok, Err}
+use Rattle.std.specs.Prelude.{Result, Ok, Err, option_map, unwrap_or}
 use Rattle.std.specs.Borrow.{Bor}
 use Rattle.smi_text.specs.{lexer.Token.Lexeme, lexer.Token.Item, lexer.Token.tokens_of}
 use Rattle.smi_text.specs.{declared.error.Stop.Stop, declared.error.ParseError.ParseError}
@@ -17,8 +17,7 @@ use Rattle.smi_text.specs.Text.{HasNoDoubles, BreaksOff, HasSecond, DefinesAgain
 -- the step stopped because memory ran out
 abbrev pub is_memory : Stop → Bool
 is_memory Memory = true
-is_memory (Syntax line) = false
-is_memory (Lex fault) = false
+is_memory _ = false
 
 -- the part that is read and the tokens after it; or a stop, where no part can be read or memory ran
 -- out
@@ -35,12 +34,8 @@ error_of Memory = E.Memory
 -- ---- the steps of a whole module
 
 -- the text of the token ahead
-abbrev pub text_of_token : Option Lexeme → List ℕ
-text_of_token None = []
-text_of_token (Some t) = t.text
-
 abbrev pub text_ahead : List Item → List ℕ
-text_ahead items = text_of_token (token_ahead items)
+text_ahead items = unwrap_or (option_map (λ t. t.text) (token_ahead items)) []
 
 -- the name of the definition that is ahead
 abbrev pub IsLabelAhead : Option (Bor (List ℕ)) → List Item → Type 0
@@ -66,17 +61,15 @@ pub record IsDefinitionOn (line : ℕ) (tokens : List Item) : Type 0 where
 
 -- why there is no new definition ahead; `defined` says that its name is defined already
 abbrev pub NewDefinitionFault : ParseError → (defined : Bool) → List Item → Type 0
-NewDefinitionFault (E.Lex fault) defined tokens = definition.read tokens ≡ None
-NewDefinitionFault (E.Syntax line) defined tokens = definition.read tokens ≡ None
 NewDefinitionFault (E.DoubleName line) defined tokens =
     (defined ≡ true) × IsDefinitionOn line tokens
 NewDefinitionFault E.Memory defined tokens = Unit {0}
+NewDefinitionFault _ defined tokens = definition.read tokens ≡ None
 
 abbrev pub DefinitionsFault : ParseError → List Item → Type 0
-DefinitionsFault (E.Lex fault) tokens = (many definition).read tokens ≡ None
-DefinitionsFault (E.Syntax line) tokens = (many definition).read tokens ≡ None
 DefinitionsFault (E.DoubleName line) tokens = HasSecond line (tokens_of tokens)
 DefinitionsFault E.Memory tokens = Unit {0}
+DefinitionsFault _ tokens = (many definition).read tokens ≡ None
 
 pub record ReadsModule (m : Module) (tokens rest : List Item) : Type 0 where
   pub read : module_text.read tokens ≡ Some (m, rest)
@@ -92,32 +85,27 @@ pub record OpensTwice (line : ℕ) (tokens : List Lexeme) : Type 0 where
   pub twice : HasSecond line body
 
 abbrev pub ModuleFault : ParseError → List Item → Type 0
-ModuleFault (E.Lex fault) tokens = module_text.read tokens ≡ None
-ModuleFault (E.Syntax line) tokens = module_text.read tokens ≡ None
 ModuleFault (E.DoubleName line) tokens = OpensTwice line (tokens_of tokens)
 ModuleFault E.Memory tokens = Unit {0}
+ModuleFault _ tokens = module_text.read tokens ≡ None
 
 pub record ReadsModules (ms : List Module) (tokens : List Item) : Type 0 where
   pub read : file.read tokens ≡ Some (ms, [])
   pub distinct : HasNoDoubles ms
 
 abbrev pub ModulesFault : ParseError → List Item → Type 0
-ModulesFault (E.Lex fault) tokens = (ms : List Module) → file.read tokens ≡ Some (ms, []) → ⊥
-ModulesFault (E.Syntax line) tokens = (ms : List Module) → file.read tokens ≡ Some (ms, []) → ⊥
 ModulesFault (E.DoubleName line) tokens = DefinesAgain line (tokens_of tokens)
 ModulesFault E.Memory tokens = Unit {0}
+ModulesFault _ tokens = (ms : List Module) → file.read tokens ≡ Some (ms, []) → ⊥
 
 -- what may be reported where the reading stopped at a fault of the lexer: the fault at which the
 -- text breaks off, or wrong syntax
 abbrev pub IsLexFault : ParseError → List ℕ → Type 0
 IsLexFault (E.Lex fault) text = BreaksOff fault text
 IsLexFault (E.Syntax line) text = Unit {0}
-IsLexFault (E.DoubleName line) text = ⊥
-IsLexFault E.Memory text = ⊥
+IsLexFault _ text = ⊥
 
 -- what may be reported for the error with which the reading stopped: any other one as it is
 abbrev pub IsCauseOf : ParseError → ParseError → List ℕ → Type 0
 IsCauseOf (E.Lex fault) error text = IsLexFault error text
-IsCauseOf (E.Syntax line) error text = error ≡ E.Syntax line
-IsCauseOf (E.DoubleName line) error text = error ≡ E.DoubleName line
-IsCauseOf E.Memory error text = error ≡ E.Memory
+IsCauseOf stop error text = error ≡ stop

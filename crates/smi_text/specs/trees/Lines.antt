@@ -9,17 +9,9 @@ abbrev pub plain : Mark → Mark
 plain (spelled k x ok) = spelled k x ok
 plain (on_line n m) = plain m
 
-abbrev pub unlined_import : Import → Import
-unlined_import x = record { symbols = x.symbols; source = x.source; line = 0 }
-
-abbrev pub unlined_def : Def → Def
-unlined_def x = record { label = x.label; line = 0; kind = x.kind }
-
 -- the tree with 0 in place of each line
 abbrev pub unlined : Module → Module
-unlined m = record {
-  name = m.name;
-  heading = m.heading;
-  imports = option_map (map unlined_import) m.imports;
-  defs = map unlined_def m.defs;
+unlined m = record m {
+  imports = option_map (map (λ (x : Import). record x { line = 0 })) m.imports;
+  defs = map (λ (d : Def). record d { line = 0 }) m.defs;
 }

@@ -105,12 +105,9 @@ of_later_part (P.Number n) = arc n ∷ []
 of_later_part (P.Name x) = nothing
 of_later_part (P.NamedNumber n) = of_named_arc n
 
-abbrev pub of_parts : List Part → List Mark
-of_parts = of_some of_part of_later_part
-
 -- "::=" "{" part { part } "}"
 abbrev pub of_value : List Part → List Mark
-of_value ps = sign K.Assign ∷ braces (of_parts ps)
+of_value ps = sign K.Assign ∷ braces (of_some of_part of_later_part ps)
 
 -- types
 

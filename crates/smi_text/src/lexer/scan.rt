@@ -130,6 +130,7 @@ fn comment_rest_len(text: &[u8]) -> usize
 }
 
 /// Where an octet stands first, if it occurs.
+#[tactic(auto, using(crate::proofs::Places::first_place))]
 fn place_of(octet: u8, text: &[u8]) -> Option<usize>
     ensures { IsFirstPlace octet text.now result }
 {
@@ -137,6 +138,7 @@ fn place_of(octet: u8, text: &[u8]) -> Option<usize>
 }
 
 /// How many of the octets after a string's first quote belong to it.
+#[tactic(auto, using(crate::proofs::Parts::string_none))]
 fn string_rest(text: &[u8]) -> Option<(TokenKind, usize)>
     ensures { IsLexemeFront string_part text.now result }
 {
@@ -279,6 +281,7 @@ pub fn gaps_at(text: &[u8]) -> (usize, usize)
 }
 
 /// How many lines end in a lexeme of this kind. A line can end only in a string.
+#[tactic(auto, using(crate::proofs::PartLaws::one_line))]
 pub fn lines_in(kind: TokenKind, octets: &[u8]) -> usize
     ensures count { IsLexeme kind octets.now → result ≡ newlines octets.now }
     ensures within { result ≤ length octets.now }
@@ -290,6 +293,7 @@ pub fn lines_in(kind: TokenKind, octets: &[u8]) -> usize
 }
 
 /// How many newlines a text has.
+#[tactic(auto, using(crate::proofs::Places::each_newline))]
 fn newlines_in(text: &[u8]) -> usize
     ensures count { result ≡ newlines text.now }
     ensures within { result ≤ length text.now }

@@ -22,19 +22,15 @@ fn digit_value(digit: u8) -> u8
 }
 
 /// The number that the digits stand for, if it is at most `most`.
+#[tactic(auto, using(crate::proofs::Digits::worths, std::proofs::lemmas::Grind::common_steps))]
 fn value_up_to(base: u64, digits: &[u8], most: u64) -> Option<u64>
     requires { 0 < base }
     ensures { result ≡ number.up_to most (number_value base digits.now) }
 {
     let mut value: u64 = 0;
     for digit in digits {
-        let Some(scaled) = value.checked_mul(base) else {
-            return None;
-        };
-        let Some(next) = scaled.checked_add(u64::from(digit_value(*digit))) else {
-            return None;
-        };
-        value = next;
+        let scaled = value.checked_mul(base)?;
+        value = scaled.checked_add(u64::from(digit_value(*digit)))?;
     }
     if value <= most { Some(value) } else { None }
 }
@@ -60,10 +56,7 @@ pub fn arc(text: &[u8]) -> Option<u32>
     ensures { result ≡ number.arc_in text.now }
 {
     let most = if is_negative(text) { 0 } else { 4294967295 };
-    match value_up_to(10, digits(text), most) {
-        Some(value) => Some(value as u32),
-        None => None,
-    }
+    Some(value_up_to(10, digits(text), most)? as u32)
 }
 
 /// Whether a number token can be a number of an identifier.
@@ -85,13 +78,8 @@ pub fn number(text: &[u8]) -> Option<i128>
     } else {
         u64::MAX
     };
-    match value_up_to(10, digits(text), most) {
-        Some(value) => {
-            let magnitude = i128::from(value);
-            Some(if negative { 0 - magnitude } else { magnitude })
-        }
-        None => None,
-    }
+    let magnitude = i128::from(value_up_to(10, digits(text), most)?);
+    Some(if negative { 0 - magnitude } else { magnitude })
 }
 
 /// Whether a number token is in the range of numbers outside identifiers.
@@ -128,10 +116,7 @@ pub fn bound(kind: TokenKind, text: &[u8]) -> Option<i128>
         TokenKind::Binary => 2,
         _ => return None,
     };
-    match literal(base, text) {
-        Some(value) => Some(i128::from(value)),
-        None => None,
-    }
+    Some(i128::from(literal(base, text)?))
 }
 
 /// Whether a token can be an end of a range.

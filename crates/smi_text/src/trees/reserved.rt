@@ -70,6 +70,7 @@ const RESERVED: [&[u8]; 44] = [
 ];
 
 /// Whether a text is one of these words.
+#[tactic(auto, using(crate::proofs::Words::is_one_of_drop, crate::proofs::Words::is_one_of_none))]
 fn is_among(words: &[&[u8]], text: &[u8]) -> bool
     ensures { result ≡ list_any (same_text text.now) (map (λ word. word.now) words.now) }
 {

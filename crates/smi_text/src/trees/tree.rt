@@ -48,10 +48,8 @@ impl Module {
     pub fn import(&self, name: &[u8]) -> Option<&Import>
         ensures { option_copied result ≡ lookup.import_of self.now name.now }
     {
-        match &self.imports {
-            Some(imports) => import_among(imports.as_slice(), name),
-            None => None,
-        }
+        let clauses = self.imports.as_ref()?;
+        import_among(clauses.as_slice(), name)
     }
 }
 

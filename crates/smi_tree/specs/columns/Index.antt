@@ -97,14 +97,11 @@ pub record IsIndexOf (ms : List Module) (nodes : List Node) (column : Node)
       index_definition
   pub indexed : IsIndexed ms index_module index_definition parts
 
--- the node is no column, or the index can't be read
-abbrev pub HasNoIndex : List Module → List Node → Node → Type 0
-HasNoIndex ms nodes node = (parts : List IndexPart) → IsIndexOf ms nodes node parts → ⊥
-
 -- ---- the indexes of all nodes
 
+-- the parts of the index of a node; none if it is no column, or if its index can't be read
 abbrev pub IsIndex : List Module → List Node → Node → Option (List IndexPart) → Type 0
-IsIndex ms nodes node None = HasNoIndex ms nodes node
+IsIndex ms nodes node None = (parts : List IndexPart) → IsIndexOf ms nodes node parts → ⊥
 IsIndex ms nodes node (Some parts) = IsIndexOf ms nodes node parts
 
 -- the index of the node at a place

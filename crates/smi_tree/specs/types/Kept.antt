@@ -13,7 +13,7 @@ use Rattle.smi_tree.specs.types.Types.{base_in, name_in, names_in, sizes_in, sim
 use Rattle.smi_tree.specs.types.Types.{type_syntax, object_syntax, origin_of_object, object_origin}
 use Rattle.smi_tree.specs.types.Types.{def_at, Facts, HasSyntax, HasNoSyntax}
 use Rattle.smi_names.specs.declared.meaning.base.TypeBase.{TypeBase}
-use Rattle.smi_tree.specs.declared.types.syntax.TypeSyntax.{TypeSyntax}
+use Rattle.smi_tree.specs.declared.syntax.TypeSyntax.{TypeSyntax}
 use Rattle.smi_tree.specs.declared.types.KeptSyntax.{KeptSyntax}
 use Rattle.smi_tree.specs.declared.types.Types.{Types}
 

@@ -78,9 +78,6 @@ abbrev pub type_hint : DefKind → Option (List ℕ)
 type_hint (D.TextualConvention d) = d.display_hint
 type_hint _ = None
 
-abbrev pub origin_of_type : List ℕ → DefKind → TypeOrigin QualifiedName
-origin_of_type home kind = origin_of_syntax home (type_hint kind) (type_syntax kind)
-
 -- an import states nothing by itself
 abbrev pub no_layer : Layer
 no_layer = record { hint = None; names = None; sizes = None }
@@ -88,7 +85,8 @@ no_layer = record { hint = None; names = None; sizes = None }
 -- a name means the module's own definition, otherwise what it means in the module after FROM
 abbrev pub type_origin_by : QualifiedName → Option Decision → TypeOrigin QualifiedName
 type_origin_by a None = no_type
-type_origin_by a (Some (defined d)) = origin_of_type a.home d.kind
+type_origin_by a (Some (defined d)) =
+    origin_of_syntax a.home (type_hint d.kind) (type_syntax d.kind)
 type_origin_by a (Some (imported i)) = on_name no_layer
     (record { home = i.source.octets; name = a.name })
 type_origin_by a (Some (root n)) = no_type

@@ -93,6 +93,7 @@ impl Identifiers {
     }
 
     /// The first place of the identifier of these numbers.
+    #[tactic(auto, using(crate::proofs::Branching::place_off))]
     pub(crate) fn find_numbers(&self, numbers: &[u32]) -> Option<usize>
         ensures { result ≡ place_of self.now numbers.now }
     {
@@ -153,6 +154,7 @@ impl Identifiers {
 }
 
 /// The branch to which numbers lead.
+#[tactic(auto, using(crate::proofs::Branching::branch_more, crate::proofs::Branching::branch_off))]
 fn walked(branches: &[Branch], numbers: &[u32]) -> Option<usize>
     ensures { result ≡ branch_of branches.now numbers.now }
 {
@@ -242,6 +244,7 @@ fn deepest_from(
 }
 
 /// The numbers that follow a list of numbers, with the branch of each.
+#[tactic(auto, using(std::proofs::lemmas::Option::slice_get_read, std::proofs::lemmas::Option::slice_get_past, crate::proofs::Walking::walk_push))]
 fn after<'a>(
     branches: &'a [Branch],
     nothing: &'a BTreeMap<u32, usize>,

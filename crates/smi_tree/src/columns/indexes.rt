@@ -37,6 +37,7 @@ impl Model for Indexes {
 
 impl Indexes {
     /// The index of each node of modules, where sources and identifiers are those of the nodes.
+    #[tactic(auto, using(crate::proofs::Indexing::are_indexes))]
     pub fn new<'a>(
         alloc: Global,
         names: &Names<'a>,
@@ -64,9 +65,7 @@ impl Indexes {
         ensures { option_map (λ r. r.now) result ≡ index_at self.now place }
     {
         let (i, k) = (*self.rows.get(place)?)?;
-        match self.parts.get(i)?.get(k)? {
-            Some(parts) => Some(parts.as_slice()),
-            None => None,
-        }
+        let parts = self.parts.get(i)?.get(k)?.as_ref()?;
+        Some(parts.as_slice())
     }
 }

@@ -8,7 +8,7 @@ ghost use Rattle.smi_names.specs.chains.Resolution.{ComesTo};
 ghost use Rattle.smi_names.specs.meaning.Meaning.{origin, QualifiedName};
 ghost use Rattle.smi_tree.specs.types.Kept.{AreTypesOf};
 ghost use Rattle.smi_tree.specs.columns.Index.{IsIndexPart, IsObjectType, clause_of};
-ghost use Rattle.smi_tree.specs.private.columns.Named.{IsFoundAt, IsUndefined};
+ghost use Rattle.smi_tree.specs.private.Named.{IsFoundAt, IsUndefined};
 ghost use Rattle.smi_tree.specs.columns.Index.{is_implied};
 ghost use Rattle.smi_tree.specs.columns.Kept.{AreOwn, AreOwnOfAll, AreRows, HasNoPart};
 ghost use Rattle.smi_tree.specs.columns.Kept.{HasRowOrNone, IsLastRow, IsOwn, IsReading, UsesAt};
@@ -18,7 +18,7 @@ use crate::branches::Identifiers;
 use crate::columns::IndexPart;
 use crate::columns::part::part;
 use crate::columns::rows::{LastRow, row_place};
-use crate::node::kept;
+use crate::node::{definition, kept};
 use crate::types::Types;
 use smi_names::{Entries, Names, Resolution, Source, one_resolution};
 use smi_text::{Def, DefKind, Index, IndexParts, Module, Name};
@@ -199,8 +199,7 @@ impl<'n, 'a> Objects<'n, 'a> {
         let defs = home.defs.as_slice();
         let mut kept = Vec::with_capacity(alloc, defs.len())?;
         'defs: for def in defs {
-            let own = self.own_parts(alloc, home, def)?;
-            kept.push(own)?;
+            kept.push(self.own_parts(alloc, home, def)?)?;
         }
         Ok(kept)
     }
@@ -215,22 +214,9 @@ impl<'n, 'a> Objects<'n, 'a> {
     {
         let mut kept = Vec::with_capacity(alloc, self.modules.len())?;
         'modules: for home in self.modules {
-            let own = self.parts_of_module(alloc, home)?;
-            kept.push(own)?;
+            kept.push(self.parts_of_module(alloc, home)?)?;
         }
         Ok(kept)
-    }
-
-    /// The definition of a source, None for a root.
-    fn definition(&self, source: Source) -> Option<&'a Def>
-        ensures { (o : List ℕ) → option_copied result
-            ≡ (node_from self.now source o).definition }
-    {
-        let Source::Definition(i, k) = source else {
-            return None;
-        };
-        let module = self.modules.get(i)?;
-        module.defs.as_slice().get(k)
     }
 
     /// The definition whose INDEX clause identifies the rows of a source, by the place of its
@@ -268,7 +254,7 @@ impl<'n, 'a> Objects<'n, 'a> {
             (node : Node) → slice_get nodes place ≡ Some node → HasRowOrNone ms nodes node result }
         ensures last { IsLastRow identifiers.now last.new }
     {
-        let def = self.definition(sources[place])?;
+        let def = definition(self.modules, sources[place])?;
         if !is_object_type(def) {
             return None;
         }

@@ -121,6 +121,7 @@ impl Draft {
     }
 
     /// Adds what the line of this number states, which is read into a given binding.
+    #[tactic(auto, using(crate::proofs::Adding::full, crate::proofs::Adding::stopped))]
     fn add<'a, F: LineFormat>(
         &mut self,
         alloc: Global,
@@ -163,6 +164,7 @@ impl Draft {
 
     /// Why the reading stops at a line with this fault, which is the first if no two rows before it
     /// have one name.
+    #[tactic(auto, using(crate::proofs::Adding::settled_distinct))]
     fn stop(&mut self, alloc: Global, fault: TableError) -> Halt
         ensures halt { IsStop (draft_entries self.old) self.old.exact fault result }
         ensures exact { self.new.exact ≡ self.old.exact }
@@ -199,6 +201,7 @@ impl Draft {
 
     /// Appends a row if it comes after all that are in their places, and gathers it if it doesn't.
     #[inline(never)]
+    #[tactic(auto, using(crate::proofs::Gathering::appended_moves))]
     fn gather(&mut self, alloc: Global, row: EncodedBinding, number: usize) -> Result<(), Halt>
         requires { self.old.gathers ≡ true }
         ensures rows { IfOk result (λ _. IsPermutation (draft_entries self.old ++ entry_of row ∷ [])
@@ -287,6 +290,7 @@ impl Draft {
 
     /// Puts the gathered rows in their places; more may be gathered after them. Returns whether all
     /// could be put, as [`Draft::settle`] does.
+    #[tactic(auto, using(std::proofs::lemmas::Grind::common_steps, crate::proofs::Gathering::settled_moves))]
     fn place_late(&mut self, alloc: Global) -> bool
         ensures moved { IsTrue result
             → IsPermutation (draft_entries self.old) (draft_entries self.new) }

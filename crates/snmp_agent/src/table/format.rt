@@ -114,6 +114,7 @@ impl<'a, R: Resolver> LineFormat for SecondFormat<'a, R> {
         }
     }
 
+    #[tactic(auto, using(crate::proofs::Formats::match_weaker, crate::proofs::Formats::no_end_second))]
     fn split_name<'b>(&self, line: &'b [u8]) -> Option<(&'b [u8], &'b [u8])>
         ensures { MatchOption result
             (HasNoEnd (second_format (R.names self.now.names.now)) line.now)
@@ -132,6 +133,7 @@ fn numeric_name(text: &[u8], into: &mut Oid) -> bool
 }
 
 /// Whether the first line says that the text is of the second format.
+#[tactic(auto, using(crate::proofs::Formats::marked_by_first))]
 pub fn is_marked(text: &[u8]) -> bool
     ensures { IsTrue result ↔ IsMarked (lines text.now) }
 {

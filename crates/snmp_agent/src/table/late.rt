@@ -86,6 +86,7 @@ pub fn sort_falling(rows: &mut Vec<Late>)
 }
 
 /// Sorts the rows of a slice so that their names fall.
+#[tactic(auto, using(crate::proofs::Gathering::sorting))]
 fn sort_rows(rows: &mut [Late])
     ensures { IsPermutation rows.old rows.new }
 {
@@ -140,6 +141,7 @@ fn tie_end(rows: &[Late], at: usize) -> usize
 /// Sorts rows whose keys tie: by new keys, if they may get them, or by their names. Returns whether
 /// they are sorted by their names: not where the new keys differ, since some of these may tie
 /// again.
+#[tactic(auto, using(crate::proofs::Gathering::sorting))]
 fn sort_tie(rows: &mut [Late], may_get_keys: bool) -> bool
     ensures sorted { IsPermutation rows.old rows.new }
     ensures keys { result ≡ false → may_get_keys ≡ true }

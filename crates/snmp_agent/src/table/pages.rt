@@ -253,6 +253,7 @@ impl Pages {
     }
 
     /// Whether all rows come before the name.
+    #[tactic(auto, using(crate::proofs::Gathering::entries_are))]
     pub fn ends_before(&self, name: &EncodedName<'_>) -> bool
         ensures { IsTrue result → IsAfterAll name.now (entries self.now) }
     {
@@ -287,6 +288,7 @@ impl Pages {
 
     /// Puts each of the rows in its place, from the last one on, and returns whether none has the
     /// name of another. Where one has, or memory runs out, some are lost.
+    #[tactic(auto, using(crate::proofs::Gathering::last_moves))]
     pub fn put_all(&mut self, alloc: Global, rows: &mut Vec<Late>) -> Result<bool, AllocError>
         ensures { IfOk result (λ apart. IsTrue apart
             → IsPermutation (entries self.old ++ entries_of rows.old.items) (entries self.new)) }
@@ -338,6 +340,7 @@ impl Pages {
     /// Takes rows from the end of the list while they come before the name, and puts them. Returns
     /// whether none has the name of another.
     #[inline(always)]
+    #[tactic(auto, using(crate::proofs::Gathering::last_moves))]
     fn put_before(
         &mut self,
         alloc: Global,
@@ -478,6 +481,7 @@ fn page_near(pages: &[Page], name: &EncodedName<'_>, guess: usize) -> usize
 /// Whether all rows come before the name.
 // Hot: called for each row of a table that is read.
 #[inline(always)]
+#[tactic(auto, using(crate::proofs::Paging::after_all, crate::proofs::Rising::less_from_test))]
 fn ends_before(pages: &[Page], name: &EncodedName<'_>) -> bool
     requires { ArePages pages.now }
     ensures before { IsTrue result → IsAfterAll name.now (entries_in pages.now) }
@@ -495,6 +499,7 @@ fn ends_before(pages: &[Page], name: &EncodedName<'_>) -> bool
 /// Appends a row that comes after all others.
 // Hot: called for each row of a table that is read in order.
 #[inline(always)]
+#[tactic(auto, using(crate::proofs::Changing::if_err, crate::proofs::Paging::same_rows, crate::proofs::Paging::appended, crate::proofs::Paging::appended_page))]
 fn append(alloc: Global, pages: &mut Vec<Page>, row: EncodedBinding) -> Result<(), AllocError>
     ensures rows { IfOk result (λ _. entries_in pages.new.items
         ≡ entries_in pages.old.items ++ entry_of row ∷ []) }
@@ -687,6 +692,7 @@ impl<'a> Default for Successors<'a> {
 
 /// The last of the rows, or `before` where there is none.
 #[inline]
+#[tactic(auto, using(crate::proofs::Following::last_rows))]
 fn last_of<'a>(
     rows: &'a [EncodedBinding],
     before: Option<&'a EncodedBinding>,
@@ -694,8 +700,5 @@ fn last_of<'a>(
     ensures { (o : List ℕ) → option_map_or (λ row. row.now.name) result o
         ≡ last_name (option_map_or (λ row. row.now.name) before.entry o) (entries_of rows.now) }
 {
-    match rows.last() {
-        Some(row) => Some(row),
-        None => before,
-    }
+    rows.last().or(before)
 }

@@ -103,6 +103,7 @@ fn by_test<T: Placed>(
 
 /// Returns how many rows have the name or one before it. `guess` is a guess of that, 0 for none:
 /// nothing is searched if it is right.
+#[tactic(auto, using(crate::proofs::Partition::partitioned))]
 pub fn place_near(rows: &[EncodedBinding], name: &EncodedName<'_>, guess: usize) -> usize
     requires { IsRising rows.now }
     ensures { IsPlaceAfter name.now rows.now result }

@@ -266,6 +266,7 @@ fn signed(text: &[u8]) -> Option<i32>
 }
 
 /// Four numbers of 8 bits with a dot between each two.
+#[tactic(auto, using(crate::proofs::Decimals::no_dot_first))]
 fn address(text: &[u8]) -> Option<[u8; 4]>
     ensures { IsOnly (IsAddressText text.now) result }
 {
@@ -283,6 +284,7 @@ fn address(text: &[u8]) -> Option<[u8; 4]>
 /// An identifier that has an encoding, as its numbers.
 // Not inlined: the caller would clear the identifier for values of other types too.
 #[inline(never)]
+#[tactic(auto, using(std::proofs::lemmas::Grind::common_steps))]
 fn object_id<F: LineFormat>(
     alloc: Global,
     format: &F,

@@ -34,16 +34,12 @@ pub data Refusal : Type 0 where
   faulty : (path : List ℕ) → ParseError → Refusal
   no_memory : Refusal
 
--- the fault is one of the text, and not that memory ran out
-abbrev pub IsFaultOf : ParseError → (text : List ℕ) → Type 0
-IsFaultOf fault text = (fault ≢ error.Memory) × IsCause fault text
-
 -- the file has no text, or its text spells no modules
 abbrev pub FileFails : Holdings → (path : List ℕ) → Refusal → Type 0
 FileFails files path why =
     (MayHoldNone files path × (why ≡ unreadable path))
-    ⊎ ((text : List ℕ) × (fault : ParseError) × MayHold files path text × IsFaultOf fault text
-    × (why ≡ faulty path fault))
+    ⊎ ((text : List ℕ) × (fault : ParseError) × MayHold files path text
+    × (fault ≢ error.Memory) × IsCause fault text × (why ≡ faulty path fault))
 
 -- the first file that fails, after those that hold modules
 abbrev pub FilesFail : Holdings → (paths : List (List ℕ)) → Refusal → Type 0

@@ -7,9 +7,11 @@ use Rattle.snmp_words.specs.Words.{AskingWords, WalkWords, asking_words, texts_a
 use Rattle.snmp_net.specs.Address.{address_of}
 use Rattle.snmp_tools.specs.Asking.{AreShown, AskingFails, HasAgent, IsAskingDone, NameFails}
 use Rattle.snmp_tools.specs.Asking.{agent_step, community_step, letters_step, version_step}
-use Rattle.snmp_tools.specs.{private.Chosen.chosen, Message.Fault, Message.out_of_memory}
+use Rattle.snmp_tools.specs.Letters as letters
+use Rattle.snmp_tools.specs.Message.{Fault, out_of_memory}
 use Rattle.snmp_tools.specs.{declared.plan.request.AskJob.AskJob, declared.plan.Orders.Orders}
 use Rattle.snmp_tools.specs.{declared.plan.Plan.Plan, declared.plan.Question.Question}
+use Rattle.snmp_tools.specs.declared.plan.choices.Choices.{Choices}
 use Rattle.snmp_tools.specs.{declared.plan.request.Request.Request, declared.plan.Walk.Walk}
 use Rattle.snmp_tools.specs.Question as question
 use Rattle.snmp_tools.specs.Question.{AskWords, HasChosen, HasMeaning, root_text}
@@ -19,6 +21,15 @@ use Rattle.snmp_tools.specs.declared.plan.request.Request.TheVariants as request
 use Rattle.smi_tree.specs.{Tree.Contents}
 
 -- ---- what is asked for
+
+-- what the letters of -C choose
+abbrev pub chosen : Choices → letters.Choices
+chosen c = record {
+  includes_root = c.includes_root;
+  leaves_last_get = c.leaves_last_get;
+  counts = c.counts;
+  repetitions = c.repetitions;
+}
 
 abbrev pub request_of : Request → question.Request
 request_of (request.Get names) = question.get (texts_at names.now)

@@ -5,8 +5,9 @@ use Rattle.snmp_io.specs.{Count.HasRisen, Files.MayHold, Output.Stream, Output.e
 use Rattle.smi_tree.specs.{Tree.Contents}
 use Rattle.snmp_net.specs.declared.links.Links.{Ghosts as Network}
 use Rattle.snmp_words.specs.Words.{ServeWords}
-use Rattle.snmp_tools.specs.serve.Service.{IsPlaced, IsServeRefusal, IsTableRefusal, served_agent}
-use Rattle.snmp_tools.specs.{serve.TableFile.HasTable, Message.Fault, Message.ended, Seen.Seen}
+use Rattle.snmp_tools.specs.serve.Service.{IsPlaced, IsServeRefusal, served_agent}
+use Rattle.snmp_tools.specs.{serve.TableFile.HasTable, serve.TableFile.TableFails, Seen.Seen}
+use Rattle.snmp_tools.specs.Message.{Fault, ended, out_of_memory}
 use Rattle.snmp_tools.specs.load.Loaded.{IsLoaded, LoadFacts}
 use Rattle.snmp_tools.specs.Lines.{IsTextPrinted, StopsAtText}
 use Rattle.snmp_walk.specs.declared.end.WalkEnd.TheVariants as ending
@@ -20,22 +21,17 @@ abbrev pub counts_line : Served → List ℕ
 counts_line served = decimal served.replies ++ codes " replies, " ++ decimal served.dropped
     ++ codes " dropped\n"
 
--- The line of the counts, which add up to the turns, follows that of the place. `Serves agent turns
--- served` says what may have been served.
-abbrev pub IsServedAndCounted : (Serves : Agent → ℕ → Served → Type 0) → ServeWords → MibView
-    → (before after : Stream) → Option Fault → Type 0
-IsServedAndCounted Serves words view before after fault =
-    (served : Served) × Serves (served_agent words view) words.turns served
-    × (served.replies + served.dropped + served.idle + served.faults ≡ words.turns)
-    × IsTextPrinted before (counts_line served) after fault
-
--- the place isn't printed, and nothing was served; or it is, and then the table is served
+-- The place isn't printed, and nothing was served; or it is, then the table is served, and after
+-- that the line of the counts is printed, which add up to the turns. `Serves agent turns served`
+-- says what may have been served.
 abbrev pub IsServing : (Serves : Agent → ℕ → Served → Type 0) → (Unserved : Type 0) → ServeWords
     → MibView → (before after : Stream) → Option Fault → Type 0
 IsServing Serves Unserved words view before after fault =
     (StopsAtText before (listening_line words.listen) after fault × Unserved)
-    ⊎ IsServedAndCounted Serves words view (extended before (listening_line words.listen)) after
-    fault
+    ⊎ ((served : Served) × Serves (served_agent words view) words.turns served
+    × (served.replies + served.dropped + served.idle + served.faults ≡ words.turns)
+    × IsTextPrinted (extended before (listening_line words.listen)) (counts_line served) after
+    fault)
 
 -- what may be served at the door by one call, which leads from one state of the network to
 -- another
@@ -49,7 +45,9 @@ ServesAt {N} {V} {D} net before door after agent turns served =
 -- it was. Its count of faults rises only where a call of it failed.
 pub data IsServedBy {N V D : Type 0} (net : Network N V D) (words : ServeWords) (host : List ℕ)
     (port : ℕ) (tree : Contents) (before after : Seen N) (fault : Option Fault) : Type 0 where
-  refused : (why : Fault) → IsTableRefusal words before.files tree why → after ≡ before
+  -- memory ran out, or the table file can't be read or states none
+  refused : (why : Fault)
+      → (why ≡ out_of_memory) ⊎ TableFails before.files tree words.table why → after ≡ before
       → fault ≡ Some why → IsServedBy net words host port tree before after fault
   -- a call of the network failed, which it counted, and else nothing changed
   not_bound : (view : MibView) → HasTable before.files tree words.table view

@@ -5,10 +5,8 @@ use Rattle.snmp_agent.specs.{Reply.Agent, table.Table.MibView}
 use Rattle.snmp_io.specs.{Files.Holdings, Files.MayHold, Steps.IsFirstToFail}
 use Rattle.snmp_net.specs.Address.{IsHostAndPort}
 use Rattle.snmp_words.specs.Words.{ServeWords}
-use Rattle.snmp_tools.specs.{serve.TableFile.TableFails, Asking.MibsFail}
-use Rattle.snmp_tools.specs.load.Files.{AreModulesOf}
+use Rattle.snmp_tools.specs.{Asking.MibsFail, load.Files.AreModulesOf}
 use Rattle.snmp_tools.specs.Message.{Fault, bad_agent, long_community, out_of_memory}
-use Rattle.smi_tree.specs.{Tree.Contents}
 
 -- the agent that the words ask for, over a table
 abbrev pub served_agent : ServeWords → MibView → Agent
@@ -30,9 +28,6 @@ pub data ServeStep : Type 0 where
   place_step : ServeStep
   modules_step : ServeStep
 
-abbrev pub serve_steps : List ServeStep
-serve_steps = community_step ∷ place_step ∷ modules_step ∷ []
-
 -- the step is done: what it looks for is there
 abbrev pub IsDoneForService : ServeWords → Holdings → ServeStep → Type 0
 IsDoneForService words files community_step = length words.community ≤ 255
@@ -53,14 +48,9 @@ FailsForService words files modules_step why = MibsFail files words.mibs why
 -- the first step that fails, after those that are done
 abbrev pub ServiceFails : ServeWords → Holdings → Fault → Type 0
 ServiceFails words files why =
-    IsFirstToFail serve_steps (IsDoneForService words files) (FailsForService words files) why
+    IsFirstToFail (community_step ∷ place_step ∷ modules_step ∷ []) (IsDoneForService words files)
+    (FailsForService words files) why
 
 -- why no table file is read: memory ran out, or a step failed
 abbrev pub IsServeRefusal : ServeWords → Holdings → Fault → Type 0
 IsServeRefusal words files why = (why ≡ out_of_memory) ⊎ ServiceFails words files why
-
--- why the table of the words isn't served, by these nodes: memory ran out, or the file can't be
--- read or states none
-abbrev pub IsTableRefusal : ServeWords → Holdings → Contents → Fault → Type 0
-IsTableRefusal words files tree why =
-    (why ≡ out_of_memory) ⊎ TableFails files tree words.table why

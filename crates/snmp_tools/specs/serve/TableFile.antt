@@ -1,11 +1,11 @@
 -- The table that a file states, by the nodes of modules, or why it states none.
 use Rattle.std.specs.Prelude.{◌≡◌, ◌⊎◌, ◌↔◌, ℕ, List, Some, Ok}
-use Rattle.std.specs.Str.Lines.{lines}
+use Rattle.std.specs.{Result.result_ok, Str.Lines.lines}
 use Rattle.snmp_io.specs.Files.{Holdings, MayHold, MayHoldNone}
 use Rattle.snmp_agent.specs.table.Format.{Names, names_by, numeric_names}
 use Rattle.snmp_agent.specs.{table.Stated.IsFirstFault, table.Stated.IsTableOf, table.Table.MibView}
 use Rattle.snmp_agent.specs.declared.table.error.TableError.{TableError}
-use Rattle.smi_show.specs.{name.Meant.TextMeans}
+use Rattle.smi_show.specs.{name.Meaning.meaning, name.Meant.TextMeans}
 use Rattle.snmp_tools.specs.Message.{Fault, bad_table, unreadable}
 use Rattle.smi_tree.specs.{Tree.Contents}
 
@@ -27,3 +27,9 @@ TableFails files tree path why =
     ⊎ ((names : Names) × AreNamesIn tree names
     × (text : List ℕ) × (error : TableError) × MayHold files path text
     × IsFirstFault names (lines text) error × (why ≡ bad_table path error))
+
+-- ---- for private functions
+
+-- the names of a table file, computed
+abbrev pub names_in : Contents → Names
+names_in tree = names_by (λ text. result_ok (meaning tree text))

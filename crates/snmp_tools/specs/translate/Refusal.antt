@@ -14,9 +14,6 @@ pub data TranslateStep : Type 0 where
   details_step : TranslateStep
   modules_step : TranslateStep
 
-abbrev pub translate_steps : List TranslateStep
-translate_steps = letters_step ∷ details_step ∷ modules_step ∷ []
-
 -- the step is done: what it looks for is there
 abbrev pub IsDoneForTranslation : TranslateWords → Holdings → TranslateStep → Type 0
 IsDoneForTranslation words files letters_step = first_other words.letters ≡ None
@@ -35,8 +32,8 @@ FailsForTranslation words files modules_step why = MibsFail files words.mibs why
 -- the first step that fails, after those that are done
 abbrev pub TranslationFails : TranslateWords → Holdings → Fault → Type 0
 TranslationFails words files why =
-    IsFirstToFail translate_steps (IsDoneForTranslation words files)
-    (FailsForTranslation words files) why
+    IsFirstToFail (letters_step ∷ details_step ∷ modules_step ∷ [])
+    (IsDoneForTranslation words files) (FailsForTranslation words files) why
 
 -- why nothing is printed: memory ran out, or a step failed
 abbrev pub IsTranslateRefusal : TranslateWords → Holdings → Fault → Type 0

@@ -6,19 +6,13 @@ use Rattle.smi_show.specs.{name.Meant.TextMeans, name.Name.IsName}
 use Rattle.smi_tree.specs.{Naming.nearest_definition, Tree.Contents}
 use Rattle.snmp_tools.specs.declared.translate.Style.{Style}
 
--- a name and a newline
-abbrev pub IsNameLine : Contents → Style → (o text : List ℕ) → Type 0
-IsNameLine mib style o text =
-    (name : List ℕ) × IsName mib style.letters.names style.letters.numeric_index o name
-    × (text ≡ name ++ codes "\n")
-
 -- what is printed of an identifier: its details, or its name and a newline
 abbrev pub IsShown : Contents → Style → (o text : List ℕ) → Type 0
 IsShown mib style o text =
     MatchBool style.details
-    (IsDetail mib style.letters.names style.letters.numeric_index o
-    text)
-    (IsNameLine mib style o text)
+    (IsDetail mib style.letters.names style.letters.numeric_index o text)
+    ((name : List ℕ) × IsName mib style.letters.names style.letters.numeric_index o name
+    × (text ≡ name ++ codes "\n"))
 
 -- what is printed of a name that means an identifier
 abbrev pub IsTextOf : Contents → Style → (name text : List ℕ) → Type 0

@@ -53,25 +53,15 @@ pub(crate) fn unreadable_text(path: &str, draft: &mut Draft)
 }
 
 // Appends the path of a file, and what is wrong with its text.
-fn fault_text(path: &str, fault: &ParseError, draft: &mut Draft)
-    ensures { Adds draft.old (fault_text path.now fault.now) draft.new }
+fn fault_text(path: &str, fault: &ParseError, out: &mut Draft)
+    ensures { Adds out.old (fault_text path.now fault.now) out.new }
 {
     match fault {
-        ParseError::Lex(LexError::BadByte { line }) => at_line(
-            path,
-            *line,
-            b"bad character",
-            draft,
-        ),
-        ParseError::Lex(LexError::OpenString { line }) => at_line(
-            path,
-            *line,
-            b"open string",
-            draft,
-        ),
-        ParseError::Syntax { line } => at_line(path, *line, b"syntax", draft),
-        ParseError::DoubleName { line } => at_line(path, *line, b"double name", draft),
-        ParseError::Memory => draft.octets(b"Out of memory."),
+        ParseError::Lex(LexError::BadByte { line }) => at_line(path, *line, b"bad character", out),
+        ParseError::Lex(LexError::OpenString { line }) => at_line(path, *line, b"open string", out),
+        ParseError::Syntax { line } => at_line(path, *line, b"syntax", out),
+        ParseError::DoubleName { line } => at_line(path, *line, b"double name", out),
+        ParseError::Memory => out.octets(b"Out of memory."),
     }
 }
 

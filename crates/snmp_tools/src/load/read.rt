@@ -61,6 +61,7 @@ fn modules_in<'a, F: Files>(
 }
 
 /// Files that are known to hold texts have one list of modules at most.
+#[tactic(auto, using(crate::proofs::ModuleLists::one_list))]
 pub fn one_list_of_modules()
     ensures { (files : Holdings) (paths : List (List ℕ)) (ms ns : List Tree)
         → AreModulesOf (Holds files) paths ms → AreModulesOf (MayHold files) paths ns → ms ≡ ns }

@@ -5,6 +5,7 @@ ghost use Rattle.snmp_tools.specs.load.Warned.{symbol, warning_line, warning_lin
 ghost use Rattle.snmp_tools.specs.load.Warned.{warning_text};
 
 use smi_names::Warning;
+use smi_text::Text;
 use snmp_io::Draft;
 use std::alloc::{AllocError, Global};
 
@@ -46,23 +47,10 @@ fn warning_text(warning: &Warning, draft: &mut Draft)
         Warning::MissingModule(home, from) => {
             missing_module(home.as_bytes(), from.as_bytes(), draft);
         }
-        Warning::MissingImport(home, name, from) => {
-            missing_import(home.as_bytes(), name.as_bytes(), from.as_bytes(), draft);
-        }
-        Warning::Cycle(home, label) => {
-            of_symbol(
-                home.as_bytes(),
-                label.as_bytes(),
-                b" stands on a cycle",
-                draft,
-            );
-        }
-        Warning::Unresolved(home, label) => {
-            of_symbol(home.as_bytes(), label.as_bytes(), b" is unresolved", draft);
-        }
-        Warning::TooLong(home, label) => {
-            of_symbol(home.as_bytes(), label.as_bytes(), b" is too long", draft);
-        }
+        Warning::MissingImport(home, name, from) => missing_import(home, name, from, draft),
+        Warning::Cycle(home, label) => of_symbol(home, label, b" stands on a cycle", draft),
+        Warning::Unresolved(home, label) => of_symbol(home, label, b" is unresolved", draft),
+        Warning::TooLong(home, label) => of_symbol(home, label, b" is too long", draft),
     }
 }
 
@@ -86,25 +74,25 @@ fn missing_module(home: &[u8], from: &[u8], draft: &mut Draft)
 }
 
 // Appends that the module after FROM has no such symbol.
-fn missing_import(home: &[u8], name: &[u8], from: &[u8], draft: &mut Draft)
+fn missing_import(home: &Text, name: &Text, from: &Text, draft: &mut Draft)
     ensures { Adds draft.old (home.now ++ codes " imports " ++ name.now ++ codes " from "
         ++ from.now ++ codes ", which has no " ++ name.now) draft.new }
 {
-    draft.octets(home);
+    draft.octets(home.as_bytes());
     draft.octets(b" imports ");
-    draft.octets(name);
+    draft.octets(name.as_bytes());
     draft.octets(b" from ");
-    draft.octets(from);
+    draft.octets(from.as_bytes());
     draft.octets(b", which has no ");
-    draft.octets(name);
+    draft.octets(name.as_bytes());
 }
 
 // Appends a definition by its module and label, and what is wrong with it.
-fn of_symbol(home: &[u8], label: &[u8], what: &[u8], draft: &mut Draft)
+fn of_symbol(home: &Text, label: &Text, what: &[u8], draft: &mut Draft)
     ensures { Adds draft.old (symbol home.now label.now ++ what.now) draft.new }
 {
-    draft.octets(home);
+    draft.octets(home.as_bytes());
     draft.octets(b"::");
-    draft.octets(label);
+    draft.octets(label.as_bytes());
     draft.octets(what);
 }

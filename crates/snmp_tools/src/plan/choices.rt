@@ -27,7 +27,7 @@ pub(crate) struct Choices {
 }
 
 impl Choices {
-    ghost use Rattle.snmp_tools.specs.{private.Chosen.chosen, private.Planned.request_of};
+    ghost use Rattle.snmp_tools.specs.private.Planned.{chosen, request_of};
 
     /// What the letters of `-C` choose, where a request has any. The error is the first octet that
     /// has no meaning.

@@ -1,5 +1,5 @@
 //! How the words that each job that asks an agent has are judged.
-ghost use Rattle.std.specs.Prelude.{◌≡◌, ◌↔◌, ◌≤◌, codes, length, IfErr, IfOk, IsTrue};
+ghost use Rattle.std.specs.Prelude.{◌≡◌, ◌≤◌, codes, length, IfErr, IfOk};
 ghost use Rattle.std.specs.Prelude.{string_bytes};
 ghost use Rattle.snmp_words.specs.Words.{asking_words};
 ghost use Rattle.snmp_net.specs.Address.{address_of};
@@ -17,7 +17,7 @@ pub(super) fn read_shown<'a>(asking: &Asking<'a>) -> Result<Letters, Failure<'a>
     ensures letters { IfOk result (AreShown (string_bytes asking.now.letters)) }
     ensures err { IfErr result (λ e. ShowingFails (asking_words asking.now) (fault_of e)) }
 {
-    if !is_2c(asking.protocol) {
+    if asking.protocol != "2c" {
         return Err(Failure::Version(asking.protocol));
     }
     match Letters::parse(asking.letters.as_bytes()) {
@@ -35,15 +35,5 @@ pub(super) fn read_agent<'a>(asking: &Asking<'a>) -> Result<AgentAddress<'a>, Fa
     if asking.community.len() > 255 {
         return Err(Failure::Community);
     }
-    match AgentAddress::read(asking.agent) {
-        Some(agent) => Ok(agent),
-        None => Err(Failure::Agent(asking.agent)),
-    }
-}
-
-/// Whether the word is that of version 2c of SNMP (RFC 1901).
-fn is_2c(word: &str) -> bool
-    ensures { IsTrue result ↔ word.now ≡ codes "2c" }
-{
-    word == "2c"
+    AgentAddress::read(asking.agent).ok_or(Failure::Agent(asking.agent))
 }

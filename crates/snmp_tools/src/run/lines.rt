@@ -12,7 +12,7 @@ use crate::plan::Plan;
 use crate::run::start::run_plan;
 use smi_show::{Letters, LineWriter};
 use smi_tree::Tree;
-use snmp_io::{Draft, Output, OutputFault, write_all};
+use snmp_io::{Draft, Output, write_all};
 use snmp_oid::Oid;
 use snmp_walk::{Link, Rows, Sink, SinkFault, WalkEnd};
 use snmp_wire::{Binding, ValueRef};
@@ -38,11 +38,8 @@ impl<O: Output> Sink for Printer<'_, O> {
     fn row(&mut self, binding: &Binding<'_>) -> Result<(), SinkFault> {
         self.text.clear();
         let (name, value) = (&binding.name, &binding.value);
-        if self
-            .writer
-            .line(&self.letters, name, value, self.text)
-            .is_err()
-        {
+        let writer = &mut self.writer;
+        if writer.line(&self.letters, name, value, self.text).is_err() {
             return Err(SinkFault::Memory);
         }
         write_lines(self.out, self.text.as_slice())
@@ -133,10 +130,7 @@ pub(crate) fn print_count<'a, O: Output>(
 pub(crate) fn print_text<'a, O: Output>(text: &[u8], out: &mut O) -> Result<(), Failure<'a>>
     ensures { IsTextPrinted (O.stream out.old) text.now (O.stream out.new) (outcome_of result) }
 {
-    match write_all(out, text) {
-        Ok(()) => Ok(()),
-        Err(OutputFault) => Err(Failure::Output),
-    }
+    write_all(out, text).map_err(|_| Failure::Output)
 }
 
 /// Writes lines, or a front of them where the output fails.
@@ -145,10 +139,7 @@ fn write_lines<O: Output>(out: &mut O, lines: &[u8]) -> Result<(), SinkFault>
     ensures front_at_fault { IfErr result (λ fault. (fault ≡ SinkFault.Output)
         × FailsWithin (O.stream out.old) lines.now (O.stream out.new)) }
 {
-    match write_all(out, lines) {
-        Ok(()) => Ok(()),
-        Err(OutputFault) => Err(SinkFault::Output),
-    }
+    write_all(out, lines).map_err(|_| SinkFault::Output)
 }
 
 /// Appends the line that says how many bindings were found.

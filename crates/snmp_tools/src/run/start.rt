@@ -53,10 +53,9 @@ fn start<'a>(walk: &Walk<'a>, community: &[u8]) -> Result<WalkCore, Failure<'a>>
 {
     let root = walk.root.copy();
     let Some(after) = &walk.after else {
-        return match WalkCore::start(root, walk.mode, walk.method, community, FIRST_ID) {
-            Ok(core) => Ok(core),
-            Err(_) => Err(Failure::NotWire(walk.root_text)),
-        };
+        return WalkCore::start(root, walk.mode, walk.method, community, FIRST_ID).map_err(
+            |_| Failure::NotWire(walk.root_text),
+        );
     };
     match WalkCore::resume(root, after, walk.method, community, FIRST_ID) {
         Ok(core) => Ok(core),

@@ -143,6 +143,7 @@ pub(crate) fn unsigned_size(number: u64) -> usize
 
 /// How many octets a number of 32 bits takes.
 #[inline]
+#[tactic(auto, using(crate::proofs::CanonLemmas::size_four, crate::proofs::CanonLemmas::size_five))]
 pub(crate) fn unsigned32_size(number: u32) -> usize
     ensures value { result ≡ number_size number }
     ensures at_most_9 { result ≤ 9 }
@@ -180,6 +181,7 @@ fn magnitude(number: i32) -> u64
 
 /// Writes a number from 0 before `end`, and returns where it begins.
 #[inline]
+#[tactic(auto, using(crate::proofs::WritingLaws::writes_same, crate::proofs::CanonLemmas::octets_from_zero))]
 pub(crate) fn put_unsigned(out: &mut [u8], end: usize, number: u64) -> usize
     requires room { number_size number ≤ end }
     requires within { end ≤ length out.old }
@@ -190,6 +192,7 @@ pub(crate) fn put_unsigned(out: &mut [u8], end: usize, number: u64) -> usize
 
 /// Writes the four octets of a number before `end`, and returns where they begin.
 #[inline]
+#[tactic(auto, using(crate::proofs::WritingLaws::writes_same, crate::proofs::CanonLemmas::four_octets))]
 pub(crate) fn put_four(out: &mut [u8], end: usize, number: u32) -> usize
     requires room { 4 ≤ end }
     requires within { end ≤ length out.old }
@@ -210,6 +213,7 @@ pub fn put_integer(out: &mut [u8], end: usize, number: i32) -> usize
 
 /// The two's complement of 64 bits, whose lowest octets are the number's.
 #[inline]
+#[tactic(auto, using(std::proofs::lemmas::Grind::common_steps, crate::proofs::CanonLemmas::extended_below, crate::proofs::CanonLemmas::extended_above))]
 fn sign_extended(number: i32) -> u64
     ensures { octets (length (canon_number number)) result ≡ canon_number number }
 {

@@ -53,7 +53,7 @@ pub enum ValueRef<'a> {
 }
 
 /// Checks that a value of this tag has this content.
-#[tactic(auto, unfolding(crate::specs::ber::Reading::typed_value, crate::specs::ber::Reading::unsigned_of))]
+#[tactic(auto, unfolding(crate::specs::ber::Reading::typed_value, crate::specs::ber::Reading::unsigned_of, crate::specs::ber::Reading::integer_of))]
 // Hot: each binding that is checked.
 #[inline(always)]
 pub fn check_value(tag: u8, content: &[u8]) -> Result<(), BerError>
@@ -301,6 +301,7 @@ fn put_number(out: &mut [u8], end: usize, tag: u8, number: u32) -> usize
 
 /// Writes a number of 64 bits before `end`, as an element of this tag, and returns where it begins.
 #[inline(never)]
+#[tactic(auto, using(crate::proofs::ElementLemmas::number_short, crate::proofs::ElementLaws::header_fits))]
 fn put_long_number(out: &mut [u8], end: usize, tag: u8, number: u64) -> usize
     requires room { length (canon_element tag (canon_number (pos number))) ≤ end }
     requires within { end ≤ length out.old }
@@ -312,6 +313,7 @@ fn put_long_number(out: &mut [u8], end: usize, tag: u8, number: u64) -> usize
 
 /// Writes an INTEGER before `end`, and returns where it begins.
 #[inline]
+#[tactic(auto, using(crate::proofs::ElementLemmas::number_short, crate::proofs::ElementLaws::header_fits))]
 fn put_integer_value(out: &mut [u8], end: usize, number: i32) -> usize
     requires room { length (canon_element 2 (canon_number number)) ≤ end }
     requires within { end ≤ length out.old }

@@ -1,5 +1,5 @@
 use Rattle.std.proofs.Common.{◌≡◌, length}
-use Rattle.bench.specs.codec.Bench.{has_number}
+use Rattle.bench.specs.Bench.{has_number}
 use Rattle.bench.proofs.codec.has_number.Given as goal
 
 abbrev pub invariant-bindings : goal.invariant-bindings

@@ -1,7 +1,6 @@
 use Rattle.std.proofs.{Common.◌≡◌, Common.◌++◌, Common.OnOk, Common.refl, Common.rules, lemmas.Result.on_ok_weaker}
 use Rattle.smi_show.specs.{details.Detail.detail_text, private.name.Shown.name_text}
 use Rattle.smi_show.proofs.NamesStated.{name_stated}
-use Rattle.smi_tree.specs.Naming.{nearest_definition}
 use Rattle.smi_show.proofs.text.detail.Goals as goal
 
 pub returns-clause-ok : goal.returns-clause-ok

@@ -24,11 +24,8 @@ abbrev pub remaining : List ℕ → Option (List ℕ × List ℕ)
 remaining [] = None
 remaining (n ∷ more) = Some (n ∷ more, [])
 
-abbrev pub octets_or_none : List ℕ × List ℕ → Option (List ℕ × List ℕ)
-octets_or_none (value, rest) = if list_all is_octet value then Some (value, rest) else None
-
 abbrev pub of_octets : Option (List ℕ × List ℕ) → Option (List ℕ × List ℕ)
-of_octets read = option_and_then octets_or_none read
+of_octets read = option_and_then (λ r. if list_all is_octet r.0 then Some r else None) read
 
 abbrev pub in_extent : Extent → List ℕ → Option (List ℕ × List ℕ)
 in_extent (Fixed size) numbers = front_and_rest size numbers

@@ -3,15 +3,6 @@ use Rattle.snmp_oid.proofs.Comparing.{first_decides, longer_after, one_more_alik
 use Rattle.snmp_oid.proofs.oid.compare_numbers.Goals as goal
 use Rattle.snmp_oid.proofs.oid.compare_numbers.Goals.{then-begin_alike, else-begin_alike}
 
-pub numbers-init : goal.numbers-init
-numbers-init c = grind (arith, common_steps, then-begin_alike, else-begin_alike)
-
-pub returns-then-o-i : goal.returns-then-o-i
-returns-then-o-i c = grind (arith, common_steps, first_decides)
-
-pub numbers-preserved : goal.numbers-preserved
-numbers-preserved c = grind (arith, common_steps, one_more_alike)
-
 pub returns : goal.returns
 returns c =
     let last : c.numbers.i ≡ c.min-both.result = omega (arith, c.numbers.invariant.0) in

@@ -1,14 +1,15 @@
 use Rattle.std.proofs.Common.{arith, ◌≡◌, sym, inl, inr, Bool, true, subst, ℕ, List}
 use Rattle.std.proofs.lemmas.Grind.{common_steps}
 use Rattle.std.specs.{Prelude.String, declared.alloc.Global.Global}
-use Rattle.snmp_words.specs.{Command.faults_of, Command.is_taken, declared.UsageError.UsageError, declared.UsageError.TheVariants.Parse}
-use Rattle.snmp_words.specs.Words.{HasFaultOf, IsMemory, StateJob, snmpwalk}
+use Rattle.snmp_words.specs.{Command.faults_of, Command.is_taken, declared.UsageError.UsageError}
+use Rattle.snmp_words.specs.declared.UsageError.TheVariants.{Memory, Parse}
+use Rattle.snmp_words.specs.Words.{HasFaultOf, StateJob, snmpwalk}
 use Rattle.snmp_tools.specs.{load.Loaded.any_load, private.Planned.numeric_walk, Usage.AreFaultless}
 use Rattle.snmp_tools.proofs.Jobs.{of_words, undone}
 use Rattle.snmp_tools.proofs.entry.tool.Goals as goal
 
 -- an error of the command line isn't that of words without a fault
-no_error : (words : List (List ℕ)) (e : UsageError) (text : String Global) (help : Bool) → e ≡ Parse text help → (is_taken words ≡ true → IsMemory e)
+no_error : (words : List (List ℕ)) (e : UsageError) (text : String Global) (help : Bool) → e ≡ Parse text help → (is_taken words ≡ true → e ≡ Memory)
     → HasFaultOf e (faults_of words) → AreFaultless words → ⊥
 no_error words e text help is taken refused (inl takes) = let memory = taken takes in let no : ⊥ = cc in no
 no_error words e text help is taken refused (inr none) = grind (arith, common_steps)

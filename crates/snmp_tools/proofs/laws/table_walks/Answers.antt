@@ -1,7 +1,8 @@
 use Rattle.std.proofs.Common.{List, ap, subst, sym, ℕ, ◌∙◌}
 use Rattle.snmp_words.specs.{Command.is_taken, Words.StateJob, Words.snmpwalk}
-use Rattle.snmp_tools.specs.{private.Planned.numeric_walk, private.Resolved.names_in}
-use Rattle.snmp_tools.proofs.{BareNames.bare_mib, TableWalks.prints_rows, TableWalks.words_are}
+use Rattle.snmp_tools.specs.{private.Planned.numeric_walk, serve.TableFile.names_in}
+use Rattle.smi_tree.specs.Bare.{bare}
+use Rattle.snmp_tools.proofs.TableWalks.{prints_rows, words_are}
 use Rattle.snmp_tools.proofs.laws.table_walks.Goals as goal
 
 pub returns-clause-taken : goal.returns-clause-taken
@@ -13,6 +14,6 @@ returns-clause-stated c = λ path root.
 
 pub returns-clause-printed : goal.returns-clause-printed
 returns-clause-printed c =
-    prints_rows c.bare_tree.ensures c.numbers_are_read.ensures (c.names_are_meant.ensures bare_mib) c.instances_below.ensures.below
-    c.instances_below.ensures.ordered c.one_answer.ensures.get (c.table_of_lines.ensures (names_in bare_mib))
-    (c.unmarked_table.ensures.table (names_in bare_mib)) c.short_rows_have_room.ensures
+    prints_rows c.bare_tree.ensures c.numbers_are_read.ensures (c.names_are_meant.ensures bare) c.instances_below.ensures.below
+    c.instances_below.ensures.ordered c.one_answer.ensures.get (c.table_of_lines.ensures (names_in bare))
+    (c.unmarked_table.ensures.table (names_in bare)) c.short_rows_have_room.ensures

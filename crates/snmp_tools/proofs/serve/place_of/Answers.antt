@@ -1,12 +1,12 @@
-use Rattle.std.proofs.Common.{rules, ◌≤◌, length}
-use Rattle.snmp_words.specs.Words.{serve_words}
-use Rattle.snmp_tools.proofs.Serving.{community_fails, place_fails}
+use Rattle.std.proofs.Common.{refl, rules, ◌≤◌, length}
+use Rattle.snmp_tools.specs.serve.Service.{community_step, place_step}
+use Rattle.snmp_tools.proofs.Steps.{first, later}
 use Rattle.snmp_tools.proofs.serve.place_of.Goals as goal
 
 pub returns-then-job-gt255-clause-refused : goal.returns-then-job-gt255-clause-refused
-returns-then-job-gt255-clause-refused c files = community_fails (serve_words c.args.job.now) files c.if-job-gt255.true
+returns-then-job-gt255-clause-refused c files = first _ _ _ community_step _ (c.if-job-gt255.true, refl)
 
 pub returns-in-None-clause-refused : goal.returns-in-None-clause-refused
 returns-in-None-clause-refused c files =
     let short : length c.args.job.now.community.now ≤ 255 = search rules in
-    place_fails (serve_words c.args.job.now) files short c.in-None.ensures.none
+    later _ _ _ community_step _ short (first _ _ _ place_step _ (c.in-None.ensures.none, refl))

@@ -1,7 +1,7 @@
 use Rattle.std.proofs.Common.{ℕ, List, inr, refl, subst}
 use Rattle.std.specs.Str.Lines.{lines}
 use Rattle.snmp_agent.specs.table.Stated.{IsFirstFault, IsTableOf}
-use Rattle.snmp_tools.specs.private.Resolved.{names_in}
+use Rattle.snmp_tools.specs.serve.TableFile.{names_in}
 use Rattle.snmp_tools.proofs.table_names.table_at.Goals as goal
 
 pub returns-in-Ok-read_with-clause-table : goal.returns-in-Ok-read_with-clause-table

@@ -4,9 +4,6 @@ use Rattle.snmp_wire.proofs.ReadingLaws.{some_left, none_left}
 use Rattle.snmp_wire.proofs.MessageLaws.{fields_shrink, check_fails_at, check_fails_in, check_goes_on, check_ends}
 use Rattle.snmp_wire.proofs.binding.check_bindings.Goals as goal
 
-pub returns-in_err-fields : goal.returns-in_err-fields
-returns-in_err-fields c = grind (arith, common_steps, err_from_is_err_and, check_fails_at, some_left)
-
 pub returns-in_err-check_binding : goal.returns-in_err-check_binding
 returns-in_err-check_binding c =
     let p = err_from_is_err_and c.from_residual-in_err-check_binding.result c.from_residual-in_err-check_binding.ensures.1 in
@@ -18,6 +15,3 @@ bindings-smaller c = fields_shrink c.bindings.rest.now (fields c.in_ok-fields.fi
 
 pub bindings-preserved : goal.bindings-preserved
 bindings-preserved c = grind (arith, common_steps, check_goes_on, some_left)
-
-pub returns : goal.returns
-returns c = check_ends c.bindings.rest.now _ (none_left _ _ c.is_empty.ensures c.bindings-test.false) c.bindings.invariant

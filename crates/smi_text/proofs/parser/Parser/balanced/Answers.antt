@@ -1,12 +1,12 @@
 use Rattle.std.proofs.{lemmas.Grind.common_steps, Common.◌∙◌, Common.sym, Common.arith, Common.length-append}
 use Rattle.smi_text.specs.private.Grammar.{balanced}
 use Rattle.smi_text.proofs.Loops.{depth_after-le, balanced-next, balanced-open, balanced-outside, balanced-closed}
-use Rattle.smi_text.proofs.Many.{with_front-nil}
+use Rattle.smi_text.proofs.Many.{with_front_nil}
 use Rattle.smi_text.proofs.parser.Parser.balanced.Goals as goal
 use Rattle.smi_text.proofs.parser.Parser.balanced.Goals.{in_default-via-in-Some+else-not-is_outside, in_default-via-in-None+else-depth-gt0}
 
 pub each-init : goal.each-init
-each-init c = rw (c.list-tokens.ensures) (omega arith, with_front-nil _)
+each-init c = rw (c.list-tokens.ensures) (omega arith, with_front_nil _)
 
 pub each-preserved : goal.each-preserved
 each-preserved c = grind (arith, common_steps, balanced-next, depth_after-le, length-append)

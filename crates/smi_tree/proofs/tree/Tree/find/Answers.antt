@@ -6,14 +6,14 @@ use Rattle.smi_text.specs.declared.trees.tree.Module.{Module}
 use Rattle.smi_names.specs.{nodes.Nodes.Node, nodes.Gathered.nodes_of, declared.nodes.gather.Source.Source}
 use Rattle.smi_tree.specs.{Nodes.is_named, Nodes.place_anywhere, Places.has_label, Places.home_from}
 use Rattle.smi_tree.specs.Nodes as nodes
-use Rattle.smi_tree.proofs.Bridging.{anywhere-sources, in_module-sources}
+use Rattle.smi_tree.proofs.Bridging.{anywhere_sources, in_module-sources}
 use Rattle.smi_tree.proofs.{First.IsFirst, First.first, First.both_none, First.both_first, Scoping.no_module}
 use Rattle.smi_tree.proofs.tree.Tree.find.Goals as goal
 
 module _ (ms : List Module) (ss : List Source) (os : List (List ℕ)) (x : List ℕ) (f : ℕ) (long : length ss ≡ length os)
     (e : Some f ≡ place_anywhere (nodes_of ms ss os) x) where
   labelled : position_from (has_label ms x) 0 ss ≡ Some f
-  labelled = sym (e ∙ anywhere-sources ms ss os x long)
+  labelled = sym (e ∙ anywhere_sources ms ss os x long)
 
   place : IsFirst (has_label ms x) ss f
   place = rw labelled at (first (has_label ms x) ss)

@@ -2,20 +2,20 @@
 use Rattle.std.proofs.{lemmas.Grind.common_steps, lemmas.Option.slice_get_read}
 use Rattle.std.proofs.Common.{◌<◌, length, sym, refl, arith, ◌∙◌}
 use Rattle.smi_tree.specs.branches.Standing.{oid_at}
-use Rattle.smi_tree.proofs.Bridging.{length-nodes, node-at, parts}
+use Rattle.smi_tree.proofs.Bridging.{length_nodes, node-at, parts}
 use Rattle.smi_tree.proofs.tree.Tree.node.Goals as goal
 
 pub index-source-requires : goal.index-source-requires
-index-source-requires c = grind (arith, common_steps, length-nodes)
+index-source-requires c = grind (arith, common_steps, length_nodes)
 
 pub get-requires : goal.get-requires
-get-requires c = grind (arith, common_steps, length-nodes)
+get-requires c = grind (arith, common_steps, length_nodes)
 
 pub returns : goal.returns
 returns c =
     let i = c.self.inside in
     let ms = i.modules.items in
-    let count = length-nodes ms i.sources.items i.identifiers c.self.invariant.long in
+    let count = length_nodes ms i.sources.items i.identifiers c.self.invariant.long in
     let within = rw (sym c.self.view_is) at c.requires in
     let here : c.args.id < length i.sources.items = omega (arith, count, within) in
     let s = c.index-source.result.now in

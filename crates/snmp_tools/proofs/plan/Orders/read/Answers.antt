@@ -1,5 +1,5 @@
 use Rattle.std.proofs.Common.{refl}
-use Rattle.snmp_tools.specs.{private.Chosen.chosen, private.Planned.ask_words}
+use Rattle.snmp_tools.specs.{private.Planned.chosen, private.Planned.ask_words}
 use Rattle.snmp_tools.proofs.{Steps.at_agent, Steps.at_choices, Steps.at_showing, Wholes.if_err}
 use Rattle.snmp_tools.proofs.plan.Orders.read.Goals as goal
 

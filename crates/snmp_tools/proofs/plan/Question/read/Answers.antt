@@ -1,7 +1,7 @@
 use Rattle.std.proofs.Common.{arith, ◌≡◌, ℕ, List, Bor, Ok, inl, inr, refl, sym, option_map, subst}
 use Rattle.std.proofs.lemmas.Grind.{common_steps}
 use Rattle.smi_show.specs.name.Meant.{TextMeans}
-use Rattle.snmp_tools.specs.{Asking.NameFails, private.Chosen.chosen, Message.fault_of, declared.failure.Failure.Failure}
+use Rattle.snmp_tools.specs.{Asking.NameFails, private.Planned.chosen, Message.fault_of, declared.failure.Failure.Failure}
 use Rattle.snmp_tools.specs.{declared.plan.Walk.Walk as PlannedWalk, declared.plan.request.Request.Request}
 use Rattle.snmp_tools.specs.private.Planned.{HasTextsOf, NamesFail, request_of}
 use Rattle.snmp_tools.specs.Question.{IsQuestionOf, IsWalkOf, Walk, subtree}

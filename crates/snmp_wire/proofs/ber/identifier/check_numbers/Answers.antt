@@ -3,16 +3,7 @@ use Rattle.snmp_wire.proofs.ReadingLaws.{some_left, none_left}
 use Rattle.snmp_wire.proofs.IdentifierReading.{counted_ends, counted_fails, counted_more}
 use Rattle.snmp_wire.proofs.ber.identifier.check_numbers.Goals as goal
 
-pub some_numbers_at-requires : goal.some_numbers_at-requires
-some_numbers_at-requires c = some_left _ _ c.is_empty.ensures c.numbers-test.true
-
-pub numbers-preserved : goal.numbers-preserved
-numbers-preserved c = grind (arith, common_steps, counted_more)
-
 pub returns-in_err-some : goal.returns-in_err-some
 returns-in_err-some c =
     let p = err_from_is_err_and c.from_residual.result c.from_residual.ensures.1 in
     rw (p.1, p.2) (counted_fails _ _ _ _ (some_left _ _ c.is_empty.ensures c.numbers-test.true) c.in_err-some.ensures.err c.numbers.invariant.0)
-
-pub returns : goal.returns
-returns c = grind (arith, common_steps, counted_ends, none_left)

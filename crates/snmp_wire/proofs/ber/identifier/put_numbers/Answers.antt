@@ -4,12 +4,6 @@ use Rattle.snmp_wire.proofs.WritingLaws.{writes_same, writes_then}
 use Rattle.snmp_wire.proofs.IdentifierWriting.{length-canon_subidentifier, nine, nine_counted, none_before}
 use Rattle.snmp_wire.proofs.ber.identifier.put_numbers.Goals as goal
 
-pub put_subidentifier-last-requires-clause-room : goal.put_subidentifier-last-requires-clause-room
-put_subidentifier-last-requires-clause-room c = grind (arith, common_steps, nine_counted, length-canon_subidentifier)
-
-pub put_eight-start-requires-clause-room : goal.put_eight-start-requires-clause-room
-put_eight-start-requires-clause-room c = grind (arith, common_steps, nine_counted, length-canon_subidentifier)
-
 pub returns-then-count-eq9 : goal.returns-then-count-eq9
 returns-then-count-eq9 c =
     let numbers = c.args.numbers.now in
@@ -18,11 +12,11 @@ returns-then-count-eq9 c =
     (sym (ap (λ front. front ++ last) (none_before numbers c.if-count-eq9.true))
     ∙ nine numbers c.from.result c.if-count-lt9.false (c.are_short.ensures c.if-not-are_short.false) c.from.ensures)
 
+pub returns : goal.returns
+returns c = writes_same (writes_then (writes_then c.put_subidentifier-last.ensures c.put_eight-start.ensures) c.put_other_numbers-2.ensures)
+    (nine c.args.numbers.now c.from.result c.if-count-lt9.false (c.are_short.ensures c.if-not-are_short.false) c.from.ensures)
+
 pub put_other_numbers-requires-2-clause-room : goal.put_other_numbers-requires-2-clause-room
 put_other_numbers-requires-2-clause-room c =
     let whole = nine_counted _ _ c.if-count-lt9.false (c.are_short.ensures c.if-not-are_short.false) c.from.ensures in
     omega (arith, whole, length-canon_subidentifier c.from.result)
-
-pub returns : goal.returns
-returns c = writes_same (writes_then (writes_then c.put_subidentifier-last.ensures c.put_eight-start.ensures) c.put_other_numbers-2.ensures)
-    (nine c.args.numbers.now c.from.result c.if-count-lt9.false (c.are_short.ensures c.if-not-are_short.false) c.from.ensures)

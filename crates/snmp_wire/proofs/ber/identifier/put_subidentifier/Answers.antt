@@ -4,25 +4,13 @@ use Rattle.snmp_wire.proofs.IdentifierWriting.{subidentifier_two, two_septets, w
 use Rattle.snmp_wire.proofs.WritingLaws.{writes_same, writes_then}
 use Rattle.snmp_wire.proofs.ber.identifier.put_subidentifier.Goals as goal
 
-pub put_octet-last-requires-clause-room : goal.put_octet-last-requires-clause-room
-put_octet-last-requires-clause-room c = omega (arith, length-canon_subidentifier c.args.number, size_some c.args.number)
-
 pub returns-then-number-lt128 : goal.returns-then-number-lt128
 returns-then-number-lt128 c = writes_same c.put_octet.ensures (sym (subidentifier_short c.args.number c.if-number-lt128.true))
-
-pub put_octet-requires-then-number-lt16384-clause-room : goal.put_octet-requires-then-number-lt16384-clause-room
-put_octet-requires-then-number-lt16384-clause-room c = grind (arith, common_steps, length-canon_subidentifier, subidentifier_two)
 
 pub returns-then-number-lt16384 : goal.returns-then-number-lt16384
 returns-then-number-lt16384 c =
     writes_subidentifier c.args.number 2 (subidentifier_two c.args.number c.if-number-lt128.false c.if-number-lt16384.true) c.put_octet-last.ensures
     (writes_same c.put_octet-then-number-lt16384.ensures (one_septet (c.args.number / 128) (omega (arith, c.if-number-lt16384.true))))
-
-pub put_octet-mid-requires-clause-room : goal.put_octet-mid-requires-clause-room
-put_octet-mid-requires-clause-room c = grind (arith, common_steps, length-canon_subidentifier, subidentifier_three)
-
-pub put_octet-requires-then-number-lt2097152-clause-room : goal.put_octet-requires-then-number-lt2097152-clause-room
-put_octet-requires-then-number-lt2097152-clause-room c = grind (arith, common_steps, length-canon_subidentifier, subidentifier_three)
 
 pub returns-then-number-lt2097152 : goal.returns-then-number-lt2097152
 returns-then-number-lt2097152 c =
@@ -30,11 +18,5 @@ returns-then-number-lt2097152 c =
     (writes_same (writes_then c.put_octet-mid.ensures c.put_octet-then-number-lt2097152.ensures)
     (two_septets (c.args.number / 128) (omega (arith, c.if-number-lt2097152.true))))
 
-pub put_septets-requires-clause-room : goal.put_septets-requires-clause-room
-put_septets-requires-clause-room c = omega (arith, length-canon_subidentifier c.args.number)
-
 pub returns : goal.returns
 returns c = writes_subidentifier c.args.number c.septets_size.result c.septets_size.ensures.value c.put_octet-last.ensures c.put_septets.ensures
-
-pub put_octet-requires-clause-room : goal.put_octet-requires-clause-room
-put_octet-requires-clause-room c = omega (arith, length-canon_subidentifier c.args.number, size_some c.args.number)

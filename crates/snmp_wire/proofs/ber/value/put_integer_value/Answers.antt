@@ -10,12 +10,6 @@ pub put_integer-start-requires-clause-room : goal.put_integer-start-requires-cla
 put_integer-start-requires-clause-room c = subst (λ (z : ℤ). length (canon_number z) ≤ c.args.end) (sym (to_z-of_z w32 c.args.number c.ranges.number))
     (content_fits 2 c.args.end (canon_number c.args.number) c.requires.room)
 
-pub put_short_header-requires-clause-below_128 : goal.put_short_header-requires-clause-below_128
-put_short_header-requires-clause-below_128 c = number_short _ c.put_integer-start.ensures
-
-pub put_short_header-requires-clause-room : goal.put_short_header-requires-clause-room
-put_short_header-requires-clause-room c = grind (arith, common_steps, header_fits, writes_same, to_z-of_z)
-
 pub returns : goal.returns
 returns c = writes_element 2 (writes_same c.put_integer-start.ensures (ap canon_number
     (to_z-of_z w32 c.args.number c.ranges.number))) c.put_short_header.ensures

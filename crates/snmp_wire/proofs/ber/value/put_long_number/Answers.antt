@@ -6,11 +6,5 @@ use Rattle.snmp_wire.proofs.ber.value.put_long_number.Goals as goal
 pub put_unsigned-start-requires-clause-room : goal.put_unsigned-start-requires-clause-room
 put_unsigned-start-requires-clause-room c = omega (arith, content_fits _ _ _ c.requires.room, length-from_zero c.args.number)
 
-pub put_short_header-requires-clause-below_128 : goal.put_short_header-requires-clause-below_128
-put_short_header-requires-clause-below_128 c = number_short (pos c.args.number) c.put_unsigned-start.ensures
-
-pub put_short_header-requires-clause-room : goal.put_short_header-requires-clause-room
-put_short_header-requires-clause-room c = header_fits c.args.tag c.put_unsigned-start.ensures c.requires.room
-
 pub returns : goal.returns
 returns c = writes_element c.args.tag c.put_unsigned-start.ensures c.put_short_header.ensures

@@ -15,7 +15,7 @@ returns c =
       added = record {
         ns = f.ns;
         ws = ws ++ f.ws;
-        brings = loaded f.ns f.ws c.requires.first f.gathers;
+        gives = loaded f.ns f.ws c.requires.first f.gives;
         adds = AddsNodes-then ms old warned c.add_definitions.new.self [] f.ns ws f.ws
             (AddsNodes-warnings ms old warned ws c.requires.long refl refl c.in_ok-add_import_warnings.ensures) f.adds;
       };

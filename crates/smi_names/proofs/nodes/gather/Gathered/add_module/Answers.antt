@@ -17,7 +17,7 @@ returns-then-is_double c =
       added = record {
         ns = [];
         ws = W.DoubleModule c.args.module.now.name.octets ∷ [];
-        brings = left_out double;
+        gives = left_out double;
         adds = AddsNodes-warnings c.args.names.now old new (W.DoubleModule c.args.module.now.name.octets ∷ []) c.requires.long refl refl warned;
       };
     }

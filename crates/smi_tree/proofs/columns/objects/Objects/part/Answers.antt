@@ -1,6 +1,6 @@
 -- By the syntax of the object.
 use Rattle.std.proofs.Common.{rules, ◌≡◌, IsTrue}
-use Rattle.smi_tree.specs.{types.Kept.facts_of, columns.Definitions.qualified_name, private.columns.Named.IsFoundAt}
+use Rattle.smi_tree.specs.{types.Kept.facts_of, columns.Definitions.qualified_name, private.Named.IsFoundAt}
 use Rattle.smi_tree.proofs.{Choosing.one_syntax, Parting.part_untyped, Parting.part_read}
 use Rattle.smi_tree.proofs.columns.objects.Objects.part.Goals as goal
 

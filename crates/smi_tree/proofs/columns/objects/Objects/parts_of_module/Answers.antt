@@ -8,8 +8,8 @@ defs-init c = rw c.in_ok-kept.ensures.items (first_none _ _)
 
 pub defs-preserved : goal.defs-preserved
 defs-preserved c =
-    first_next _ _ c.defs.def-index c.defs.kept.items c.push.new.self.items c.def-item.result c.in_ok-own.own c.defs.invariant (search rules) c.defs-test.true
-    c.def-item.is c.in_ok-own.ensures
+    first_next _ _ c.defs.def-index c.defs.kept.items c.push.new.self.items c.def-item.result c.in_ok-own_parts.field-0 c.defs.invariant (search rules) c.defs-test.true
+    c.def-item.is c.in_ok-own_parts.ensures
 
 pub returns : goal.returns
 returns c = grind (arith, common_steps, first_all)

@@ -9,8 +9,8 @@ modules-init c = rw c.in_ok-kept.ensures.items (first_none _ _)
 pub modules-preserved : goal.modules-preserved
 modules-preserved c =
     let view : c.self.inside.modules.now ≡ c.args.self.now = c.self.view_is in
-    first_next _ _ c.modules.home-index c.modules.kept.items c.push.new.self.items c.home-item.result c.in_ok-own.own c.modules.invariant (search rules)
-    (rw view at c.modules-test.true) (rw view at c.home-item.is) c.in_ok-own.ensures
+    first_next _ _ c.modules.home-index c.modules.kept.items c.push.new.self.items c.home-item.result c.in_ok-parts_of_module.field-0 c.modules.invariant (search rules)
+    (rw view at c.modules-test.true) (rw view at c.home-item.is) c.in_ok-parts_of_module.ensures
 
 pub returns : goal.returns
 returns c = grind (arith, common_steps, first_all)

@@ -5,11 +5,12 @@ use Rattle.smi_tree.proofs.columns.objects.Objects.row.Goals as goal
 
 pub returns-in_err-def-clause-row : goal.returns-in_err-def-clause-row
 returns-in_err-def-clause-row c = rw c.from_residual.ensures
-    (no_row_undefined c.args.self.now c.args.sources.now c.args.identifiers.now c.requires.long c.args.place c.requires.within c.in_err-def.ensures)
+    (no_row_undefined c.args.self.now c.args.sources.now c.args.identifiers.now c.requires.long c.args.place c.requires.within
+    (rw c.self.view_is at c.in_err-def.ensures))
 
 pub returns-then-not-is_object_type-clause-row : goal.returns-then-not-is_object_type-clause-row
 returns-then-not-is_object_type-clause-row c = no_row_other c.args.self.now c.args.sources.now c.args.identifiers.now c.requires.long c.args.place
-    c.requires.within c.in_ok-def.def.now c.in_ok-def.ensures
+    c.requires.within c.in_ok-def.def.now (rw c.self.view_is at c.in_ok-def.ensures)
     (λ object. let held = rw c.if-not-is_object_type.true at (c.is_object_type.ensures.1 object) in absurd (search rules))
 
 pub returns-in_err-row-clause-row : goal.returns-in_err-row-clause-row
@@ -29,4 +30,4 @@ returns-clause-row c =
     let read = slice_get_read c.args.sources.now (length c.args.sources.now) c.in_ok-row.row c.in_ok-source.source.now refl
     c.in_ok-source.ensures.lookup.3.0 c.in_ok-source.ensures.lookup.1 in
     row_is c.args.self.now c.args.sources.now c.args.identifiers.now c.requires.long c.args.place c.requires.within row.0 row.1 c.in_ok-row.row row.2 row.3
-    c.in_ok-def.def.now c.in_ok-source.source.now c.used.result c.in_ok-def.ensures (c.is_object_type.ensures.0 holds) read c.used.ensures
+    c.in_ok-def.def.now c.in_ok-source.source.now c.used.result (rw c.self.view_is at c.in_ok-def.ensures) (c.is_object_type.ensures.0 holds) read c.used.ensures

@@ -44,15 +44,3 @@ returns-in-Ok-Instance-clause-draft g c = λ before h.
     (λ _ moved. row_added format before line c.args.number old h row only c.put.new.self moved
     c.put.ensures.objects)
     (λ e k. row_halted format before line c.args.number old h row states e k)
-
-pub returns-in-Err-Line-clause-draft : goal.returns-in-Err-Line-clause-draft
-returns-in-Err-Line-clause-draft g c = grind (arith, common_steps, stopped)
-
-pub returns-in-Err-Name-clause-draft : goal.returns-in-Err-Name-clause-draft
-returns-in-Err-Name-clause-draft g c = grind (arith, common_steps, stopped)
-
-pub returns-in-Err-Value-clause-draft : goal.returns-in-Err-Value-clause-draft
-returns-in-Err-Value-clause-draft g c = grind (arith, common_steps, stopped)
-
-pub returns-in-Err-Memory-clause-draft : goal.returns-in-Err-Memory-clause-draft
-returns-in-Err-Memory-clause-draft g c = grind (arith, common_steps, full)

@@ -1,6 +1,6 @@
 use Rattle.std.proofs.Common.{◌+◌, ◌-◌, List, ℕ, arith, drop, length, refl, subst, take}
 use Rattle.std.proofs.{lemmas.Grind.common_steps, lemmas.List.take_all, lemmas.Result.err_from_is_err_and}
-use Rattle.snmp_tools.specs.{private.Chosen.chosen, Letters.IsFirstUnknown}
+use Rattle.snmp_tools.specs.{private.Planned.chosen, Letters.IsFirstUnknown}
 use Rattle.snmp_tools.proofs.ChosenLetters.{ends, goes_on, none_read}
 use Rattle.snmp_tools.proofs.plan.choices.Choices.read.Goals as goal
 

@@ -1,5 +1,5 @@
 use Rattle.std.proofs.Common.{◌≤◌, ◌-◌, length}
-use Rattle.snmp_tools.specs.private.Chosen.{chosen}
+use Rattle.snmp_tools.specs.private.Planned.{chosen}
 use Rattle.snmp_tools.proofs.ChosenLetters.{AreReadTo}
 use Rattle.snmp_tools.proofs.plan.choices.Choices.read.Given as goal
 

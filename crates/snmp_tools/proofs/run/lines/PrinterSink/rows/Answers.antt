@@ -50,7 +50,7 @@ rows-preserved g c =
         made.0,
         made.1 ++ p ∷ [],
         made.2 ∙ ap (λ ps. (made.0 ∷ made.1) ++ ps) left ∙ sym (append_assoc (made.0 ∷ made.1) (p ∷ []) c.read_next-in-rows.new.self),
-        next_line (λ r. r) c.rows.self.writer c.args.self.now.writer
+        next_line c.rows.self.writer c.args.self.now.writer
             c.rows.self.letters c.args.self.now.letters (made.0 ∷ made.1) p c.rows.self.text.now.items line.0 c.line-in-rows.new.out.items
             c.rows.invariant.writer c.rows.invariant.letters made.3 line.1 line.2,
       );
@@ -72,9 +72,8 @@ returns-in_err-write_lines-clause-err g c =
     let made = c.rows.invariant.made in
     let same = at_err c.line-in-rows.result (sym c.if-is_err-2.true ∙ c.is_err-in-rows.ensures.value) c.line-in-rows.ensures.unchanged_on_error in
     let exit = err_from_is_err_and c.from_residual.result c.from_residual.ensures.1 in
-    rw (exit.1, exit.2) (refused_at (λ s. s.writer) (λ s. s.letters) (λ s. s.out.ghost_name) (λ s. g.O.Output.stream s.out.now)
-    (λ r. r) (later g) (λ s t. (refl, refl, refl))
-    (λ s t. g.met.O.Output.after_takes s.out.now t) c.args.self.now (with_output g c.rows.self c.line-in-rows.new.self c.write_lines.new.out)
+    rw (exit.1, exit.2) (refused_at (λ s. s.writer) (λ s. s.letters) (λ s. s.out.ghost_name) (λ s. g.O.Output.stream s.out.now) (later g)
+    (λ s t. (refl, refl, refl)) (λ s t. g.met.O.Output.after_takes s.out.now t) c.args.self.now (with_output g c.rows.self c.line-in-rows.new.self c.write_lines.new.out)
     made.0 made.1 c.rows.rows c.args.rows c.rows.self.text.now.items _
     (g.O.Output.stream c.rows.self.out.now)
     (c.line-in-rows.ensures.same ∙ c.rows.invariant.writer, c.rows.invariant.letters, ap (λ o. o.ghost_name) c.rows.invariant.output)
@@ -86,9 +85,8 @@ returns-then-is_err-2-clause-err g c =
     let made = c.rows.invariant.made in
     let same = at_err c.line-in-rows.result (sym c.if-is_err-2.true ∙ c.is_err-in-rows.ensures.value) c.line-in-rows.ensures.unchanged_on_error in
     let next = c.read_next-in-rows.ensures.some c.rows-test.true in
-    refused_next (λ s. s.writer) (λ s. s.letters) (λ s. s.out.ghost_name) (λ s. g.O.Output.stream s.out.now)
-    (λ r. r) (later g) (λ s t. (refl, refl, refl))
-    (λ s t. g.met.O.Output.after_takes s.out.now t) c.args.self.now (with_output g c.rows.self c.line-in-rows.new.self c.write_lines.new.out)
+    refused_next (λ s. s.writer) (λ s. s.letters) (λ s. s.out.ghost_name) (λ s. g.O.Output.stream s.out.now) (later g)
+    (λ s t. (refl, refl, refl)) (λ s t. g.met.O.Output.after_takes s.out.now t) c.args.self.now (with_output g c.rows.self c.line-in-rows.new.self c.write_lines.new.out)
     made.0 made.1 c.rows.rows c.args.rows c.rows.self.text.now.items _
     (g.O.Output.stream c.rows.self.out.now)
     (c.line-in-rows.ensures.same ∙ c.rows.invariant.writer, c.rows.invariant.letters, ap (λ o. o.ghost_name) c.rows.invariant.output)
@@ -98,9 +96,8 @@ returns-then-is_err-2-clause-err g c =
 pub returns-clause-ok : goal.returns-clause-ok
 returns-clause-ok g c =
     let made = c.rows.invariant.made in
-    given_if (λ s. s.writer) (λ s. s.letters) (λ s. s.out.ghost_name) (λ s. g.O.Output.stream s.out.now)
-    (λ r. r) (later g) (λ s t. (refl, refl, refl))
-    (λ s t. g.met.O.Output.after_takes s.out.now t) c.args.self.now _ made.0 made.1 c.rows.rows c.args.rows c.rows.self.text.now.items _
+    given_if (λ s. s.writer) (λ s. s.letters) (λ s. s.out.ghost_name) (λ s. g.O.Output.stream s.out.now) (later g)
+    (λ s t. (refl, refl, refl)) (λ s t. g.met.O.Output.after_takes s.out.now t) c.args.self.now _ made.0 made.1 c.rows.rows c.args.rows c.rows.self.text.now.items _
     (g.O.Output.stream c.rows.self.out.now) (c.rows.invariant.writer, c.rows.invariant.letters, ap (λ o. o.ghost_name) c.rows.invariant.output)
     made.3 made.2 c.as_slice-2.ensures.value (ap (λ o. g.O.Output.stream o.now) c.rows.invariant.output)
     c.write_lines-2.result (c.read_next-in-rows.ensures.none c.rows-test.false).0 c.write_lines-2.ensures.whole_at_ok
@@ -108,9 +105,8 @@ returns-clause-ok g c =
 pub returns-clause-err : goal.returns-clause-err
 returns-clause-err g c =
     let made = c.rows.invariant.made in
-    refused_if (λ s. s.writer) (λ s. s.letters) (λ s. s.out.ghost_name) (λ s. g.O.Output.stream s.out.now)
-    (λ r. r) (later g) (λ s t. (refl, refl, refl))
-    (λ s t. g.met.O.Output.after_takes s.out.now t) c.args.self.now (with_output g c.rows.self c.rows.self.writer c.write_lines-2.new.out)
+    refused_if (λ s. s.writer) (λ s. s.letters) (λ s. s.out.ghost_name) (λ s. g.O.Output.stream s.out.now) (later g)
+    (λ s t. (refl, refl, refl)) (λ s t. g.met.O.Output.after_takes s.out.now t) c.args.self.now (with_output g c.rows.self c.rows.self.writer c.write_lines-2.new.out)
     made.0 made.1 c.rows.rows c.args.rows c.rows.self.text.now.items _
     (g.O.Output.stream c.rows.self.out.now) (c.rows.invariant.writer, c.rows.invariant.letters, ap (λ o. o.ghost_name) c.rows.invariant.output)
     made.3 made.2 c.as_slice-2.ensures.value (ap (λ o. g.O.Output.stream o.now) c.rows.invariant.output)

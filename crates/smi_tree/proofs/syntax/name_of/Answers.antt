@@ -5,7 +5,7 @@ use Rattle.smi_text.specs.{declared.trees.tree.Base.Base, declared.trees.names.N
 use Rattle.smi_text.specs.declared.trees.tree.Base.TheVariants as B
 use Rattle.smi_tree.specs.types.Types.{base_in, name_in_base, name_in}
 use Rattle.smi_names.specs.declared.meaning.base.TypeBase.{TypeBase}
-use Rattle.smi_tree.proofs.types.syntax.name_of.Goals as goal
+use Rattle.smi_tree.proofs.syntax.name_of.Goals as goal
 
 named : (b : Base) (x : Name) → b ≡ B.Named x → is_some (base_in b) ≡ false → Some x.octets ≡ name_in b
 named b x e h = rw e (by (base_in (B.Named x)) (rw e at h))

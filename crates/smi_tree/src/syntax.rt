@@ -74,10 +74,7 @@ pub(crate) fn hint_of(kind: &DefKind) -> Option<&Text>
     ensures { option_copied result ≡ type_hint kind.now }
 {
     match kind {
-        DefKind::TextualConvention(clauses) => match &clauses.display_hint {
-            Some(hint) => Some(hint),
-            None => None,
-        },
+        DefKind::TextualConvention(clauses) => clauses.display_hint.as_ref(),
         _ => None,
     }
 }
@@ -117,28 +114,19 @@ pub(crate) fn object_type_of(kind: &DefKind) -> Option<&SimpleType>
 fn type_in(kind: &DefKind) -> Option<&SimpleType>
     ensures { option_copied result ≡ type_in kind.now }
 {
-    match type_of(kind) {
-        Some(simple) => Some(simple),
-        None => object_type_of(kind),
-    }
+    type_of(kind).or(object_type_of(kind))
 }
 
 /// The names of numbers or bits that a definition of a type or of an object states.
 pub(crate) fn names_in_definition(def: &Def) -> Option<&[NamedNumber]>
     ensures { option_copied result ≡ names_of def.now }
 {
-    match type_in(&def.kind) {
-        Some(simple) => names_of(simple),
-        None => None,
-    }
+    names_of(type_in(&def.kind)?)
 }
 
 /// The SIZE that a definition of a type or of an object states.
 pub(crate) fn sizes_in_definition(def: &Def) -> Option<&[Range]>
     ensures { option_copied result ≡ sizes_of def.now }
 {
-    match type_in(&def.kind) {
-        Some(simple) => sizes_of(simple),
-        None => None,
-    }
+    sizes_of(type_in(&def.kind)?)
 }
