@@ -203,9 +203,19 @@ FIRST_CHILDREN = {".1.3.6.1": ".4", ".1.3.6.1.4": ".1", ".1.3.6.1.4.1": ".32473"
 WITH_SYNTAX = [f"{dotted(E)}{rest}" for rest in (".1", ".2.1.1", ".2.1.2", ".3.1.1")]
 free_calls("each look-up of a loaded tree", "free_look_ups", TINY, b"", "".join(
     (f"{name}\nin a module\n" if at > 2 else "") + f"{name}\n" * 2
-    + (f"{name}{FIRST_CHILDREN[name]}\n" if name in FIRST_CHILDREN else "")
+    + (f"{name}{FIRST_CHILDREN[name]}\n" * 2 if name in FIRST_CHILDREN else "")
     + ("with a syntax\n" if name in WITH_SYNTAX else "") + ("with an index\n" if name in WITH_SYNTAX[1:] else "")
     for at, name in enumerate(NODES)))
+ONE = message(BULK, -7, [(E + (1, 4294967295), text(b"x" * 300))], 1, 65536)
+free_calls("each call that reads or writes a message", "free_codec", ONE, b"", (ONE * 2).decode(errors="replace"))
+free_calls("Lexer", "free_lexer", b'a { 1 } -- b\n"c\n" \'0F\'H ?', b"", "a\n{\n1\n}\n\"c\n\"\n'0F'H\na bad octet\n")
+free_calls("Lexer of an open string", "free_lexer", b'a "b', b"", "a\nan open string\n")
+for name, answer in {"tinyState": "tinyState\n", "enterprises": "enterprises\nTINY-SMI\n", "nosuch": ""}.items():
+    free_calls(f"Module::define and import of {name}", "free_found", TINY, name.encode(), answer)
+free_calls("resolve_front", "free_front", TINY, b'tinyMac."a|b"|4|x', f"{dotted(E)}.2.1.2.3.97.124.98\n|4|x\n")
+free_calls("resolve_front of a name that means nothing", "free_front", TINY, b"nosuch|4|x", "a fault\n")
+for letters, answer in {b"nfsSqQxavetbUX": "X\n", b"": "all\n"}.items():
+    free_calls(f"Letters::parse of {letters.decode() or 'nothing'}", "free_letters", letters, b"", answer)
 for name, meaning in {'TINY-MIB::tinyMac."wes"': MAC, "tinyKeyUse.'wes'": f"{dotted(E)}.3.1.1.119.101.115",
                       "iso.3.6.internet": ".1.3.6.1", "nosuch": "a fault"}.items():
     free_calls(f"resolve of {name}", "free_resolve", TINY, name.encode(), f"{meaning}\n")

@@ -719,6 +719,8 @@ Unknown name: tinyer" snmpwalk --mib tiny.txt table:tiny.tab tinyer
 expect 1 '' "$warnings
 Unknown name: tinyer" snmptranslate --mib tiny.txt -Td tinyer
 expect 1 'iso.3' 'Unknown name: x' snmptranslate .1.3 x .1.3.6
+hundreds=$(seq -f '.1.3.%g' 300)
+prints "$hundreds" snmptranslate -On $hundreds
 breaks_off() { expect 1 'iso.3' "$warnings"$'\n'"$1$2" snmptranslate --mib tiny.txt iso.3 "$2"; }
 breaks_off 'Unknown name: ' ''
 breaks_off 'Unknown name: ' NO-MIB::iso

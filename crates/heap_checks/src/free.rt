@@ -5,10 +5,11 @@ ghost use Rattle.snmp_oid.specs.Identifier.{IsWire, wire};
 
 use crate::Fault;
 use crate::agents::{reply, table_of};
-use crate::modules::tree_of;
+use crate::modules::{modules_of, tree_of};
 use crate::room::Room;
 use crate::walks::{Rows, link_of, reserve, walk_over};
-use smi_show::resolve;
+use smi_show::{Letters, resolve, resolve_front};
+use smi_text::{LexError, Lexer};
 use smi_tree::{NodeId, Tree};
 use smi_value::Hint;
 use snmp_oid::Oid;
@@ -20,7 +21,7 @@ const MARK: usize = 77_777;
 
 /// A mark, which lasts as long as what is returned: so the compiler leaves it there.
 #[inline(never)]
-fn mark(alloc: Global) -> Result<Vec<u8>, Fault> {
+pub(crate) fn mark(alloc: Global) -> Result<Vec<u8>, Fault> {
     match Vec::with_capacity(alloc, MARK) {
         Ok(marked) => Ok(marked),
         Err(_) => Err(Fault::Refused),
@@ -122,6 +123,37 @@ fn is_done(end: &WalkEnd) -> Result<(), Fault> {
     }
 }
 
+/// `Lexer`: the tokens of a text, a line each, and its fault if it has one.
+pub fn lexed(alloc: Global, text: &[u8], room: &mut Room<'_>) -> Result<(), Fault> {
+    let _begun = mark(alloc)?;
+    'tokens: for token in Lexer::new(text) {
+        room.append_line(match token {
+            Ok(token) => token.text,
+            Err(LexError::BadByte { .. }) => b"a bad octet",
+            Err(LexError::OpenString { .. }) => b"an open string",
+        });
+    }
+    let _ended = mark(alloc)?;
+    Ok(())
+}
+
+/// `Module::define` and `Module::import` of a name, in each module of a text: the label of the
+/// definition, and the module that the name is imported from.
+pub fn found(alloc: Global, text: &[u8], name: &[u8], room: &mut Room<'_>) -> Result<(), Fault> {
+    let modules = modules_of(alloc, text)?;
+    let _begun = mark(alloc)?;
+    'modules: for module in &modules {
+        if let Some(def) = module.define(name) {
+            room.append_line(def.label.as_bytes());
+        }
+        if let Some(import) = module.import(name) {
+            room.append_line(import.source.as_bytes());
+        }
+    }
+    let _ended = mark(alloc)?;
+    Ok(())
+}
+
 /// The look-ups in a loaded tree: of each node what stands for its label in its module and in all,
 /// for its identifier, and first below that; and whether it has a syntax and an index.
 pub fn look_ups(alloc: Global, text: &[u8], room: &mut Room<'_>) -> Result<(), Fault> {
@@ -150,7 +182,9 @@ fn append_look_ups(tree: &Tree, id: NodeId, room: &mut Room<'_>) {
     let (deepest, _rest) = tree.deepest(node.oid);
     append_node(tree, deepest, room);
     let mut children = tree.children(node.oid);
-    append_node(tree, children.next(), room);
+    if let Some(child) = children.next() {
+        append_child(tree, node.oid, child, room);
+    }
     if tree.syntax_of(id).is_some() {
         room.append_line(b"with a syntax");
     }
@@ -168,6 +202,14 @@ fn append_node(tree: &Tree, found: Option<NodeId>, room: &mut Room<'_>) {
     }
 }
 
+/// Appends the identifier of a child, and that of the child of its label.
+fn append_child(tree: &Tree, parent: &Oid, child: NodeId, room: &mut Room<'_>) {
+    append_node(tree, Some(child), room);
+    if child < tree.len() {
+        append_node(tree, tree.child(parent, tree.node(child).label), room);
+    }
+}
+
 /// `resolve` of a name, by a loaded tree.
 pub fn resolved(alloc: Global, text: &[u8], name: &[u8], room: &mut Room<'_>) -> Result<(), Fault> {
     let tree = tree_of(alloc, text)?;
@@ -177,6 +219,39 @@ pub fn resolved(alloc: Global, text: &[u8], name: &[u8], room: &mut Room<'_>) ->
     match meaning {
         Ok(name) => room.append_name(&name),
         Err(_) => room.append_line(b"a fault"),
+    }
+    Ok(())
+}
+
+/// `resolve_front` of a text up to its first `|`, by a loaded tree: the identifier, and what follows.
+pub fn front_resolved(
+    alloc: Global,
+    modules: &[u8],
+    text: &[u8],
+    room: &mut Room<'_>,
+) -> Result<(), Fault> {
+    let tree = tree_of(alloc, modules)?;
+    let _begun = mark(alloc)?;
+    let meaning = resolve_front(&tree, text, b'|');
+    let _ended = mark(alloc)?;
+    match meaning {
+        Ok((name, size)) => {
+            room.append_name(&name);
+            room.append_line(text.get(size..).unwrap_or(&[]));
+        }
+        Err(_) => room.append_line(b"a fault"),
+    }
+    Ok(())
+}
+
+/// `Letters::parse`: whether all octets of a text are letters, or the first that isn't one.
+pub fn letters_parsed(alloc: Global, text: &[u8], room: &mut Room<'_>) -> Result<(), Fault> {
+    let _begun = mark(alloc)?;
+    let letters = Letters::parse(text);
+    let _ended = mark(alloc)?;
+    match letters {
+        Ok(_) => room.append_line(b"all"),
+        Err(octet) => room.append_line(&[octet]),
     }
     Ok(())
 }

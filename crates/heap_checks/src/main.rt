@@ -8,6 +8,7 @@
 #![tactic(auto)]
 
 mod agents;
+mod codec;
 mod free;
 mod modules;
 mod room;
@@ -121,6 +122,11 @@ fn free_by(
         "free_walk" => free::walked(alloc, first, second, Method::Next, room),
         "free_bulk_walk" => free::walked(alloc, first, second, Method::Bulk(10), room),
         "free_get" => free::got(alloc, first, room),
+        "free_codec" => codec::written(alloc, first, room),
+        "free_lexer" => free::lexed(alloc, first, room),
+        "free_found" => free::found(alloc, first, second, room),
+        "free_front" => free::front_resolved(alloc, first, second, room),
+        "free_letters" => free::letters_parsed(alloc, first, room),
         "free_look_ups" => free::look_ups(alloc, first, room),
         "free_resolve" => free::resolved(alloc, first, second, room),
         "free_hint" => free::hint_parsed(alloc, first, room),

@@ -7,7 +7,7 @@ use smi_tree::Tree;
 use std::alloc::Global;
 
 /// The modules of a text.
-fn modules_of(alloc: Global, text: &[u8]) -> Result<Vec<Module>, Fault> {
+pub(crate) fn modules_of(alloc: Global, text: &[u8]) -> Result<Vec<Module>, Fault> {
     match parse_modules(alloc, text) {
         Ok(modules) => Ok(modules),
         Err(ParseError::Memory) => Err(Fault::Refused),
