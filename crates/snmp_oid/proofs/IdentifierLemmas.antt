@@ -1,5 +1,5 @@
 -- Facts about identifiers as lists of numbers.
-use Rattle.std.proofs.Common.{◌≡◌, ℕ, ◌<◌, ◌↔◌, inl, inr, List, [], ◌∷◌, ◌++◌, length, take, drop, refl, sym, ◌∙◌, ap, subst, arith, length-drop}
+use Rattle.std.proofs.Common.{◌≡◌, ℕ, ◌<◌, ◌↔◌, ◌⊎◌, inl, inr, List, [], ◌∷◌, ◌++◌, length, take, drop, refl, sym, ◌∙◌, ap, subst, arith, length-drop}
 use Rattle.std.proofs.{lemmas.List.take-append-drop, Math.Seq.take-append_seam, lemmas.Map.Text.is_eq-slice_cmp, lemmas.Slice.Eq.bytes_eq-Decides}
 use Rattle.std.specs.Ordering.{MatchOrdering, nat_cmp, ordering_then, ordering_reverse}
 use Rattle.std.specs.{Cmp.ranked, Cmp.nat_cmp_is, Cmp.Lexicographic.slice_cmp, Cmp.Lexicographic.nat_list_cmp_total, declared.cmp.Ordering.Ordering}
@@ -89,3 +89,23 @@ ordered_greater o p = (
   λ e. subst (λ (r : Ordering). Says r o p) e (compared o p),
   λ h. nat_list_cmp_total.antisymm o p ∙ ap ordering_reverse (less_from_precedes p o h),
 )
+
+-- the order is strict, and total
+
+pub precedes_asymmetric : (o p : List ℕ) → Precedes o p → Precedes p o → ⊥
+precedes_asymmetric o p h k =
+    let less : slice_cmp nat_cmp o p ≡ Less = less_from_precedes o p h in
+    let greater : slice_cmp nat_cmp o p ≡ Greater = (ordered_greater o p).1 k in
+    cc
+
+pub precedes_transitive : (o p q : List ℕ) → Precedes o p → Precedes p q → Precedes o q
+precedes_transitive o p q h k =
+    (ordered_less o q).0 (nat_list_cmp_total.trans o p q (less_from_precedes o p h) (less_from_precedes p q k))
+
+by_outcome : (o p : List ℕ) (r : Ordering) → Says r o p → Precedes o p ⊎ ((o ≡ p) ⊎ Precedes p o)
+by_outcome o p Less h = inl h
+by_outcome o p Equal h = inr (inl h)
+by_outcome o p Greater h = inr (inr h)
+
+pub precedes_total : (o p : List ℕ) → Precedes o p ⊎ ((o ≡ p) ⊎ Precedes p o)
+precedes_total o p = by_outcome o p (slice_cmp nat_cmp o p) (compared o p)

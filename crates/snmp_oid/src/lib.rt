@@ -29,4 +29,4 @@ pub use oid::{MAX_LEN, Oid, OidError, compare_numbers};
 
 // Laws, for proofs and readers.
 pub use numeric::names;
-pub use oid::{order, ranks};
+pub use oid::{order, ranks, strict_order};

@@ -1,7 +1,7 @@
 //! An object identifier of up to 128 numbers, which lie in the value itself.
 ghost use Rattle.std.specs.Prelude.{◌≡◌, ℕ, ◌+◌, ◌<◌, ◌≤◌, ◌↔◌, List, [], ◌∷◌, ◌++◌, length};
 ghost use Rattle.std.specs.Prelude.{IsTrue, IsOk, IfOk, IfErr, OnOk, OnErr, Some, ⊤, refl, take};
-ghost use Rattle.std.specs.Prelude.{true, get_or};
+ghost use Rattle.std.specs.Prelude.{true, get_or, ◌⊎◌};
 ghost use Rattle.std.proofs.Common.{rules};
 ghost use Rattle.std.specs.{Ordering.nat_cmp, Cmp.partial_equiv_from_equiv, Cmp.Rules.hashing};
 ghost use Rattle.std.specs.{Bool.nat_eq, declared.cmp.Ordering.Ordering};
@@ -291,6 +291,17 @@ fn are_same_four(o: &[u32], p: &[u32], from: usize) -> bool
         && o[from + 2] == p[from + 2]
         && o[from + 3] == p[from + 3]
 }
+
+/// `Precedes` is a strict total order: no two identifiers precede each other, what precedes one
+/// precedes all that follow it, and of two that differ one precedes the other.
+///
+/// A law: the call does nothing, and its caller knows what it states.
+#[inline]
+pub fn strict_order()
+    ensures asymmetric { (o p : List ℕ) → Precedes o p → Precedes p o → ⊥ }
+    ensures transitive { (o p q : List ℕ) → Precedes o p → Precedes p q → Precedes o q }
+    ensures total { (o p : List ℕ) → Precedes o p ⊎ ((o ≡ p) ⊎ Precedes p o) }
+{}
 
 /// The order of identifiers is that of their ranks, numbers of 128 digits to the base 2^32 + 1.
 ///

@@ -1,7 +1,6 @@
 use Rattle.std.proofs.lemmas.Grind.{common_steps}
-use Rattle.std.proofs.Common.{ℕ, ◌+◌, ◌-◌, ◌*◌, ◌≤◌, ◌^◌, get_or, arith, drop_of_length-le}
-use Rattle.snmp_oid.specs.Numeric.{IsNumeral}
-use Rattle.snmp_oid.proofs.Numeral.{read_more_at, read_all, read_large_at}
+use Rattle.std.proofs.Common.{arith}
+use Rattle.snmp_oid.proofs.Numeral.{read_more_at}
 use Rattle.snmp_oid.proofs.numeric.parse_number.Goals as goal
 
 pub digits-preserved : goal.digits-preserved
