@@ -1,9 +1,9 @@
 -- Bindings: how long they are, and how they are written.
-use Rattle.std.proofs.{lemmas.Grind.common_steps, lemmas.List.at_drop_all}
-use Rattle.std.proofs.Common.{◌≡◌, ℕ, ◌+◌, ◌-◌, ◌<◌, ◌≤◌, List, [], ◌∷◌, ◌++◌, length, drop, refl, sym, ap, ◌∙◌, arith, length-append}
-use Rattle.std.specs.List.{flat_map}
+use Rattle.std.proofs.{lemmas.Grind.common_steps, lemmas.List.at_drop_all, lemmas.List.map-append, lemmas.List.take_more}
+use Rattle.std.proofs.Common.{◌≡◌, ℕ, ◌+◌, ◌-◌, ◌<◌, ◌≤◌, List, [], ◌∷◌, ◌++◌, length, get_or, take, drop, refl, sym, ap, ◌∙◌, arith, length-append}
+use Rattle.std.specs.List.{flat_map, AllByRecursion}
 use Rattle.snmp_wire.specs.{declared.binding.Binding.Binding, Canon.canon_binding, Canon.canon_bindings, Message.VarBind, Message.var_bind}
-use Rattle.snmp_wire.specs.{Message.var_binds, ber.Value.object_id, ber.Value.null_value, ber.Spelling.sequence_tag, ber.Writing.Writes}
+use Rattle.snmp_wire.specs.{Message.var_binds, Range.IsBindingInRange, ber.Value.object_id, ber.Value.null_value, ber.Spelling.sequence_tag, ber.Writing.Writes}
 use Rattle.snmp_wire.specs.ber.Canon.{canon_content, canon_element, canon_header, canon_length, canon_value}
 use Rattle.snmp_wire.proofs.ElementLaws.{header_short, content_fits, element_size, header_fits, sizes_value, writes_element}
 use Rattle.snmp_wire.proofs.WritingLaws.{length-flat_map_drop, writes_then}
@@ -71,7 +71,17 @@ unfolding canon_bindings
 bindings_are [] = refl
 bindings_are (binding ∷ more) = ap (λ rest. canon_binding (var_bind binding) ++ rest) (bindings_are more)
 
-pub ruleset binding_sizes = (common_steps, bindings_are, binding_octets, length-flat_map_drop, at_drop_all)
+ranges_push : (ps : List VarBind) (p : VarBind) → AllByRecursion IsBindingInRange ps → IsBindingInRange p → AllByRecursion IsBindingInRange (ps ++ p ∷ [])
+ranges_push [] p are here = (here, tt)
+ranges_push (q ∷ ps) p are here = (are.0, ranges_push ps p are.1 here)
+
+-- the bindings before a place are in range, and so is the one there
+pub ranges_more : (bindings : List Binding) (i : ℕ) (binding : Binding) → i < length bindings → binding ≡ get_or bindings i binding
+    → IsBindingInRange (var_bind binding)
+    → AllByRecursion IsBindingInRange (var_binds (take i bindings)) → AllByRecursion IsBindingInRange (var_binds (take (i + 1) bindings))
+ranges_more bindings i binding low is here before = rw (take_more bindings i binding low, ← is, map-append) (ranges_push _ _ before here)
+
+pub ruleset binding_sizes = (common_steps, bindings_are, binding_octets, length-flat_map_drop, at_drop_all, ranges_more)
 
 -- NULL has no content
 pub null_octets : canon_value null_value ≡ 5 ∷ 0 ∷ []

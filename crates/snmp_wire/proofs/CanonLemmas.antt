@@ -9,8 +9,9 @@ use lib.Signed.{lt_z, le_z}
 use mir.Val.{SFits}
 use mir.Syntax.{w32}
 use lib.IntN.{nat_abs}
-use Rattle.snmp_wire.specs.ber.Canon.{canon_length, canon_number, digit_count, length_size, magnitude_of, number_size, octets, digits}
-use Rattle.snmp_wire.proofs.ElementLaws.{length-canon_element, length-canon_header}
+use Rattle.snmp_wire.specs.ber.Value.{integer_value}
+use Rattle.snmp_wire.specs.ber.Canon.{canon_length, canon_number, canon_value, digit_count, length_size, magnitude_of, number_size, octets, digits}
+use Rattle.snmp_wire.proofs.ElementLaws.{content_number, length-canon_element, length-canon_header, sizes_value}
 use Rattle.snmp_wire.proofs.{ElementLaws.canon_length_short, ElementLaws.header_short, WritingLaws.writes_same, WritingLaws.writes_then}
 use Rattle.snmp_wire.specs.ber.Writing.{Writes}
 use Rattle.snmp_wire.proofs.Digits.{digits-add, length-digits, digits-suc}
@@ -107,6 +108,21 @@ pub length-canon_number : (z : ℤ) → length (canon_number z) ≡ number_size 
 unfolding canon_number
 length-canon_number (pos n) = length-digits 256 (number_size n) n
 length-canon_number (negsuc n) = length-digits 256 (number_size n) (256 ^ number_size n - (n + 1))
+
+pub magnitude_small : (z : ℤ) → SFits w32 z → magnitude_of z < 2 ^ 31
+magnitude_small (pos n) fits = omega (arith, fits)
+magnitude_small (negsuc n) fits = omega (arith, fits)
+
+-- an INTEGER of 32 bits has four octets at most
+pub number_few : (z : ℤ) → SFits w32 z → length (canon_number z) ≤ 4
+number_few z fits = omega (arith, length-canon_number z, number_small (magnitude_of z) 3 (omega (arith, magnitude_small z fits)))
+
+pub integer_most : (z : ℤ) → SFits w32 z → length (canon_value (integer_value z)) ≤ 6
+integer_most z fits =
+    let few : length (canon_number z) ≤ 4 = number_few z fits in
+    let header = header_short (length (canon_number z)) (omega (arith, few)) in
+    let whole = sizes_value 2 (length (canon_number z)) (integer_value z) (sym (ap length (content_number z))) (sym header) in
+    omega (arith, few, whole)
 
 pub octets_from_zero : (n : ℕ) → octets (number_size n) n ≡ canon_number (pos n)
 unfolding canon_number
@@ -241,6 +257,7 @@ pub ruleset element_lengths = (
   length-canon_length_long,
   digit_some,
   length-from_zero,
+  integer_most,
   length-canon_header,
   length-canon_element,
   count_rises,

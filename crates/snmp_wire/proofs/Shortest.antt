@@ -16,7 +16,7 @@ use Rattle.snmp_wire.specs.ber.Value.{opaque_octets, counter64}
 use Rattle.snmp_wire.specs.ber.Spelling.{IsContent, SpellsValue, value_tag}
 use Rattle.snmp_wire.proofs.CanonLemmas.{canon_length_long, digit_most, digit_some, length-canon_length_long, length-canon_length_short}
 use Rattle.snmp_wire.proofs.CanonLemmas.{length-canon_number, number_small, number_some, octets_from_below, octets_from_zero, sized, digits_small}
-use Rattle.snmp_wire.proofs.CanonLemmas.{length_rises}
+use Rattle.snmp_wire.proofs.CanonLemmas.{length_rises, number_few}
 use Rattle.snmp_wire.proofs.Digits.{Octets, are_digits, digits_value, digits-suc, length-digits, both_octets, octets_by, back_octets, below_power}
 use Rattle.snmp_wire.proofs.Digits.{digits_are, front_octets}
 use Rattle.snmp_wire.proofs.IdentifierWriting.{is_object_id, length-name, name_octets}
@@ -72,14 +72,10 @@ negative_value n small =
 pub is_integer : (z : ℤ) → SFits w32 z → IsInteger (canon_number z) z
 is_integer z fits = record {
   some = omega (arith, length-canon_number z, number_some (magnitude_of z));
-  few = omega (arith, length-canon_number z, number_small (magnitude_of z) 3 (omega (arith, small z fits)));
+  few = number_few z fits;
   value = value z fits;
 }
   where
-    small : (z : ℤ) → SFits w32 z → magnitude_of z < 2 ^ 31
-    small (pos n) fits = omega (arith, fits)
-    small (negsuc n) fits = omega (arith, fits)
-
     value : (z : ℤ) → SFits w32 z → twos_complement (canon_number z) ≡ z
     value (pos n) fits = let u = unsigned_is_strict n (omega (arith, fits)) in positive (canon_number (pos n)) u.0 ∙ ap pos u.1
     value (negsuc n) fits = negative_value n (omega (arith, fits))

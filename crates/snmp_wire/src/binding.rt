@@ -7,7 +7,7 @@ ghost use Rattle.snmp_wire.specs.ber.Writing.{Writes};
 ghost use Rattle.snmp_wire.specs.ber.Value.{datum, null_value, object_id};
 ghost use Rattle.snmp_wire.specs.Reading as reading;
 ghost use Rattle.snmp_oid.specs.Identifier.{IsWire};
-ghost use Rattle.snmp_wire.specs.Canon.{IsEncodable, canon_binding};
+ghost use Rattle.snmp_wire.specs.{Canon.IsEncodable, Canon.canon_binding, Range.IsBindingInRange};
 
 use crate::EncodedName;
 use crate::ber::tag::{OBJECT_IDENTIFIER, SEQUENCE};
@@ -380,6 +380,8 @@ pub fn binding_size(binding: &Binding<'_>) -> u64
     requires { IsEncodable (var_bind binding.now) }
     ensures value { result ≡ length (canon_binding (var_bind binding.now)) }
     ensures at_most_70000 { result ≤ 70000 }
+    // What can be written is within the ranges of its types.
+    ensures range { IsBindingInRange (var_bind binding.now) }
 {
     pair_size(&binding.name, &binding.value)
 }
@@ -394,6 +396,7 @@ pub(crate) fn pair_size(name: &Oid, value: &ValueRef<'_>) -> u64
       value = datum value.now;
     })) }
     ensures at_most_70000 { result ≤ 70000 }
+    ensures range { IsBindingInRange (record { name = name.now; value = datum value.now }) }
 {
     let name = identifier_size(name);
     let value = content_size(value);
@@ -418,6 +421,7 @@ pub fn encode_binding(binding: &Binding<'_>, out: &mut [u8]) -> Option<usize>
     ensures variant { IsSome result
         ↔ (length (canon_binding (var_bind binding.now)) ≤ length out.old) }
     ensures unchanged { IfNone result (out.new ≡ out.old) }
+    ensures range { IsBindingInRange (var_bind binding.now) }
 {
     let size = binding_size(binding) as usize;
     if out.len() < size {

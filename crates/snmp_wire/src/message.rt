@@ -1,9 +1,11 @@
 //! Messages, read from datagrams and written.
 ghost use Rattle.std.specs.Prelude.{◌≡◌, ℕ, List, ◌++◌, IfOk, IfErr, Ok, ◌+◌, ◌^◌, ◌<◌, ◌≤◌, ◌↔◌};
 ghost use Rattle.std.specs.Prelude.{length, drop, take, IfSome, IfNone, IsSome, All};
+ghost use Rattle.std.specs.List.{AllByRecursion};
 ghost use Rattle.snmp_wire.specs.{Fault.IsFault, ber.Value.integer_value, ber.Value.octet_string};
 ghost use Rattle.snmp_wire.specs.{ber.Reading.AgreesBy, Spelling.Spells, ber.Canon.canon_value};
-ghost use Rattle.snmp_wire.specs.{Parts.parts_message, Parts.with_bindings, Range.IsMessageInRange};
+ghost use Rattle.snmp_wire.specs.{Parts.parts_message, Parts.with_bindings, ber.Number.AreOctets};
+ghost use Rattle.snmp_wire.specs.Range.{IsBindingInRange, IsMessageInRange};
 ghost use Rattle.snmp_wire.specs.{Shortest.IsShortestEncoding, ber.Writing.Writes};
 ghost use Rattle.snmp_wire.specs.Message.{Message, VarBind, var_bind, var_binds};
 ghost use Rattle.snmp_wire.specs.Reading as reading;
@@ -229,8 +231,8 @@ pub fn size(parts: &Parts<'_>) -> u64
     requires bindings { All (λ b. IsEncodable (var_bind b)) parts.now.bindings.now }
     requires total { length (canon_bindings (var_binds parts.now.bindings.now)) ≤ 4000000000 }
     ensures value { result ≡ length (canon (parts_message parts.now)) }
-    // Of a message in range, each shortest encoding has this many octets.
-    ensures shortest { (octets : List ℕ) → IsMessageInRange (parts_message parts.now)
+    // Each shortest encoding has this many octets.
+    ensures shortest { (octets : List ℕ)
         → IsShortestEncoding octets (parts_message parts.now) → result ≡ length octets }
 {
     one_shortest_encoding();
@@ -250,9 +252,11 @@ pub fn encode(parts: &Parts<'_>, out: &mut [u8]) -> Option<usize>
     ensures some { IfSome result (λ n.
         (n ≡ length (canon (parts_message parts.now)))
         × (out.new ≡ canon (parts_message parts.now) ++ drop n out.old)) }
-    // Of a message in range, this is a shortest encoding; it has just one.
-    ensures shortest { IsMessageInRange (parts_message parts.now)
-        → IfSome result (λ n. IsShortestEncoding (take n out.new) (parts_message parts.now)) }
+    // It is a shortest encoding of the message, which has just one.
+    ensures shortest { IfSome result
+        (λ n. IsShortestEncoding (take n out.new) (parts_message parts.now)) }
+    // So it is read as that message.
+    ensures read { IfSome result (λ n. Spells (parts_message parts.now) (take n out.new)) }
     ensures variant { IsSome result ↔ (length (canon (parts_message parts.now)) ≤ length out.old) }
     ensures unchanged { IfNone result (out.new ≡ out.old) }
 {
@@ -280,6 +284,10 @@ pub fn head_size(parts: &Parts<'_>, total: u64) -> u64
     requires total { total ≤ 4000000000 }
     ensures value { result ≡ length (canon_head (parts_message parts.now) total) }
     ensures at_most_70000 { result ≤ 70000 }
+    // The message is in range if its bindings are.
+    ensures range { (bindings : List VarBind) → AllByRecursion IsBindingInRange bindings
+        → length (canon_bindings bindings) ≤ 4000000000
+        → IsMessageInRange (with_bindings parts.now bindings) }
 {
     let version = integer_element_size(parts.version);
     let community = text_element_size(parts.community);
@@ -308,9 +316,9 @@ pub fn encode_head(parts: &Parts<'_>, total: u64, out: &mut [u8]) -> Option<usiz
     ensures some { IfSome result (λ n.
         (n ≡ length (canon_head (parts_message parts.now) total))
         × (out.new ≡ canon_head (parts_message parts.now) total ++ drop n out.old)) }
-    // With these bindings after it, the head of a message in range makes a shortest encoding.
+    // With these bindings after it, it makes a shortest encoding.
     ensures shortest { (bindings : List VarBind)
-        → IsMessageInRange (with_bindings parts.now bindings)
+        → AllByRecursion IsBindingInRange bindings
         → total ≡ length (canon_bindings bindings)
         → IfSome result (λ n. IsShortestEncoding (take n out.new ++ canon_bindings bindings)
         (with_bindings parts.now bindings)) }
@@ -343,9 +351,9 @@ pub fn seal(parts: &Parts<'_>, at: usize, len: usize, out: &mut [u8]) -> Option<
         (n ≡ length (canon_head (parts_message parts.now) len) + len)
         × (take n out.new
         ≡ canon_head (parts_message parts.now) len ++ take len (drop at out.old))) }
-    // Of a message in range, this is a shortest encoding.
+    // Of bindings in range, this is a shortest encoding.
     ensures shortest { (bindings : List VarBind)
-        → IsMessageInRange (with_bindings parts.now bindings)
+        → AllByRecursion IsBindingInRange bindings
         → take len (drop at out.old) ≡ canon_bindings bindings
         → IfSome result (λ n. IsShortestEncoding (take n out.new)
         (with_bindings parts.now bindings)) }
@@ -369,7 +377,8 @@ pub fn seal(parts: &Parts<'_>, at: usize, len: usize, out: &mut [u8]) -> Option<
 fn bindings_size(bindings: &[Binding<'_>]) -> u64
     requires bindings { All (λ b. IsEncodable (var_bind b)) bindings.now }
     requires total { length (canon_bindings (var_binds bindings.now)) ≤ 4000000000 }
-    ensures { result ≡ length (canon_bindings (var_binds bindings.now)) }
+    ensures value { result ≡ length (canon_bindings (var_binds bindings.now)) }
+    ensures range { AllByRecursion IsBindingInRange (var_binds bindings.now) }
 {
     let mut total = 0;
     'bindings: for binding in bindings {
@@ -396,6 +405,7 @@ fn text_element_size(text: &[u8]) -> u64
     requires { length text.now ≤ 65535 }
     ensures value { result ≡ length (canon_value (octet_string text.now)) }
     ensures at_most_65541 { result ≤ 65541 }
+    ensures octets { AreOctets text.now }
 {
     header_size(text.len() as u64) + text.len() as u64
 }

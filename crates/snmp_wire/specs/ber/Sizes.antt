@@ -1,7 +1,9 @@
 -- How many octets encodings take (X.690, 8.1 and 8.3).
-use Rattle.std.specs.Prelude.{◌≡◌, ℕ, pos, ◌+◌, ◌<◌, ◌≤◌, List, length}
+use Rattle.std.specs.Prelude.{◌≡◌, ℕ, ℤ, pos, ◌+◌, ◌<◌, ◌≤◌, List, length, FitsSigned}
+use Rattle.std.specs.Int.{w32}
 use Rattle.snmp_wire.specs.ber.Canon.{canon_element, canon_header, canon_length, canon_number}
-use Rattle.snmp_wire.specs.ber.Canon.{digit_count, length_size, number_size}
+use Rattle.snmp_wire.specs.ber.Canon.{canon_value, digit_count, length_size, number_size}
+use Rattle.snmp_wire.specs.ber.Value.{integer_value}
 
 -- the sizes of lengths, whole numbers and elements
 pub record ElementSizes : Type 0 where
@@ -13,6 +15,8 @@ pub record ElementSizes : Type 0 where
   pub digits : (base limit more n : ℕ) → 1 ≤ digit_count base limit more n
   -- a number from 0
   pub number : (n : ℕ) → length (canon_number (pos n)) ≡ number_size n
+  -- an INTEGER of 32 bits, below zero or not
+  pub integer : (z : ℤ) → FitsSigned w32 z → length (canon_value (integer_value z)) ≤ 6
   -- a tag and a length
   pub header : (tag size : ℕ) → length (canon_header tag size) ≡ 1 + length (canon_length size)
   -- a tag, a length and the content

@@ -5,7 +5,7 @@ ghost use Rattle.std.specs.Prelude.{◌^◌, ◌%◌};
 ghost use Rattle.snmp_wire.specs.ber.Reading as reading;
 ghost use Rattle.snmp_wire.specs.ber.Reading.{AgreesBy, checked};
 ghost use Rattle.std.specs.List.{flat_map};
-ghost use Rattle.snmp_oid.specs.Identifier.{IsWire};
+ghost use Rattle.snmp_oid.specs.Identifier.{IsIdentifier, IsWire};
 ghost use Rattle.snmp_wire.specs.ber.Canon.{AreShort, canon_content, canon_subidentifier};
 ghost use Rattle.snmp_wire.specs.ber.Canon.{eight_from, septets, subidentifier_size};
 ghost use Rattle.snmp_wire.specs.{ber.Value.object_id, ber.Writing.Writes};
@@ -356,6 +356,7 @@ pub fn identifier_size(name: &Oid) -> u64
     requires { IsWire name.now }
     ensures value { result ≡ length (canon_content (object_id name.now)) }
     ensures at_most_640 { result ≤ 640 }
+    ensures identifier { IsIdentifier name.now }
 {
     let [first, second, rest @ ..] = name.as_slice() else {
         unreachable!()

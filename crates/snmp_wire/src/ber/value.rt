@@ -1,13 +1,14 @@
 //! The value of a variable binding.
 ghost use Rattle.std.specs.Prelude.{◌≡◌, true, ℕ, IsOk, IfOk, Ok, ◌+◌, ◌^◌, ◌<◌, ◌≤◌, length, pos};
 ghost use Rattle.std.specs.Prelude.{[], ◌++◌};
-ghost use Rattle.snmp_wire.specs.ber.Value.{datum, integer_value, object_id, octet_string};
+ghost use Rattle.snmp_wire.specs.ber.Value.{datum, integer_value, ip_address, object_id};
+ghost use Rattle.snmp_wire.specs.ber.Value.{octet_string};
 ghost use Rattle.snmp_oid.specs.Identifier.{IsWire};
 ghost use Rattle.snmp_wire.specs.ber.Reading as reading;
 ghost use Rattle.snmp_wire.specs.ber.Reading.{AgreesBy, checked};
 ghost use Rattle.snmp_wire.specs.ber.Canon.{IsEncodableValue, canon_content, canon_element};
 ghost use Rattle.snmp_wire.specs.ber.Canon.{canon_number, canon_value};
-ghost use Rattle.snmp_wire.specs.ber.Writing.{Writes};
+ghost use Rattle.snmp_wire.specs.{ber.Number.AreOctets, ber.Range.IsInRange, ber.Writing.Writes};
 
 use crate::ber::error::allowed;
 use crate::ber::identifier::{check_identifier, identifier_of, identifier_size, put_identifier};
@@ -201,10 +202,11 @@ pub fn content_size(value: &ValueRef<'_>) -> u64
     requires { IsEncodableValue (datum value.now) }
     ensures value { result ≡ length (canon_content (datum value.now)) }
     ensures at_most_65535 { result ≤ 65535 }
+    ensures range { IsInRange (datum value.now) }
 {
     match value {
         ValueRef::Integer(number) => integer_size(*number) as u64,
-        ValueRef::Octets(text) | ValueRef::Opaque(text) => text.len() as u64,
+        ValueRef::Octets(text) | ValueRef::Opaque(text) => string_size(text),
         ValueRef::ObjectId(name) => object_id_size(name),
         ValueRef::IpAddress(address) => address_size(*address),
         ValueRef::Counter32(number) | ValueRef::Gauge32(number) | ValueRef::TimeTicks(number) => {
@@ -218,6 +220,16 @@ pub fn content_size(value: &ValueRef<'_>) -> u64
     }
 }
 
+/// How many octets a string has. A function of its own, since the proof takes from a slice that is
+/// passed that each item is an octet.
+#[inline]
+fn string_size(text: &[u8]) -> u64
+    ensures value { result ≡ length text.now }
+    ensures octets { AreOctets text.now }
+{
+    text.len() as u64
+}
+
 /// How many octets the content of an identifier takes. Few values are identifiers, so this isn't
 /// inlined.
 #[inline(never)]
@@ -225,6 +237,7 @@ fn object_id_size(name: &Oid) -> u64
     requires { IsWire name.now }
     ensures value { result ≡ length (canon_content (object_id name.now)) }
     ensures at_most_640 { result ≤ 640 }
+    ensures range { IsInRange (object_id name.now) }
 {
     identifier_size(name)
 }
@@ -234,6 +247,7 @@ fn object_id_size(name: &Oid) -> u64
 fn address_size(address: [u8; 4]) -> u64
     ensures value { result ≡ length address }
     ensures at_most_4 { result ≤ 4 }
+    ensures range { IsInRange (ip_address address) }
 {
     address.len() as u64
 }

@@ -13,4 +13,5 @@ returns-clause-shortest c = λ bindings range are.
     let within = length-drop c.args.at c.args.out.now in
     let total = sym (length-take-le c.args.len (drop c.args.at c.args.out.now) (omega (arith, c.requires.within, within))) ∙ ap length are in
     sealed_is_shortest c.one_shortest_encoding.ensures m bindings c.args.len octets
-    (sealed ∙ ap (λ text. canon_head m c.args.len ++ text) are) total range
+    (sealed ∙ ap (λ text. canon_head m c.args.len ++ text) are) total
+    (c.head_size-head.ensures.range bindings range (omega (arith, total, c.requires.total)))

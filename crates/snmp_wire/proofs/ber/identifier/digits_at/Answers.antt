@@ -1,5 +1,5 @@
-use Rattle.std.proofs.{lemmas.Grind.common_steps, Common.sym, Common.◌∙◌, Common.arith, lemmas.List.take_rest, lemmas.Bool.lt-ltb, lemmas.Bool.le-ltb}
-use Rattle.snmp_wire.proofs.IdentifierReading.{digits_end, from_step}
+use Rattle.std.proofs.{Common.sym, Common.◌∙◌, Common.arith}
+use Rattle.snmp_wire.proofs.IdentifierReading.{digits_end}
 use Rattle.snmp_wire.proofs.ber.identifier.digits_at.Goals as goal
 
 pub returns : goal.returns

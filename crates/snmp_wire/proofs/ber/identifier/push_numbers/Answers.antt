@@ -1,6 +1,6 @@
-use Rattle.std.proofs.{lemmas.Grind.common_steps, Common.arith, lemmas.List.length_push, lemmas.List.length-append}
-use Rattle.snmp_wire.proofs.ReadingLaws.{some_left, none_left}
-use Rattle.snmp_wire.proofs.IdentifierReading.{start, push_has_room, push_goes_on, push_ends, plain_fits, push_plain, number_ok}
+use Rattle.std.proofs.{Common.arith, lemmas.List.length-append}
+use Rattle.snmp_wire.proofs.ReadingLaws.{some_left}
+use Rattle.snmp_wire.proofs.IdentifierReading.{start, plain_fits, push_plain}
 use Rattle.snmp_wire.proofs.ber.identifier.push_numbers.Goals as goal
 
 pub numbers-init : goal.numbers-init

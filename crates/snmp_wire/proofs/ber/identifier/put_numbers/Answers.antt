@@ -1,4 +1,4 @@
-use Rattle.std.proofs.{lemmas.Grind.common_steps, Common.◌-◌, Common.◌++◌, Common.length, Common.sym, Common.ap, Common.◌∙◌, Common.arith}
+use Rattle.std.proofs.{Common.◌-◌, Common.◌++◌, Common.length, Common.sym, Common.ap, Common.◌∙◌, Common.arith}
 use Rattle.snmp_wire.specs.ber.Canon.{canon_subidentifier, eight_from}
 use Rattle.snmp_wire.proofs.WritingLaws.{writes_same, writes_then}
 use Rattle.snmp_wire.proofs.IdentifierWriting.{length-canon_subidentifier, nine, nine_counted, none_before}

@@ -1,9 +1,9 @@
-use Rattle.std.proofs.Common.{arith, ℤ, ap, length, subst, sym, ◌≤◌}
-use Rattle.std.proofs.{lemmas.Grind.common_steps, lemmas.Int.to_z-of_z}
+use Rattle.std.proofs.Common.{ℤ, ap, length, subst, sym, ◌≤◌}
+use Rattle.std.proofs.{lemmas.Int.to_z-of_z}
 use mir.Syntax.{w32}
 use Rattle.snmp_wire.specs.ber.Canon.{canon_number}
-use Rattle.snmp_wire.proofs.ElementLaws.{content_fits, header_fits, writes_element}
-use Rattle.snmp_wire.proofs.{ElementLemmas.number_short, WritingLaws.writes_same}
+use Rattle.snmp_wire.proofs.ElementLaws.{content_fits, writes_element}
+use Rattle.snmp_wire.proofs.{WritingLaws.writes_same}
 use Rattle.snmp_wire.proofs.ber.value.put_integer_value.Goals as goal
 
 pub put_integer-start-requires-clause-room : goal.put_integer-start-requires-clause-room

@@ -1,6 +1,6 @@
-use Rattle.std.proofs.Common.{arith, pos}
-use Rattle.snmp_wire.proofs.{CanonLemmas.length-from_zero, ElementLemmas.number_short}
-use Rattle.snmp_wire.proofs.ElementLaws.{content_fits, header_fits, writes_element}
+use Rattle.std.proofs.Common.{arith}
+use Rattle.snmp_wire.proofs.{CanonLemmas.length-from_zero}
+use Rattle.snmp_wire.proofs.ElementLaws.{content_fits, writes_element}
 use Rattle.snmp_wire.proofs.ber.value.put_long_number.Goals as goal
 
 pub put_unsigned-start-requires-clause-room : goal.put_unsigned-start-requires-clause-room
