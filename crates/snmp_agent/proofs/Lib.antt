@@ -32,3 +32,4 @@ pub mod Rising
 pub mod Statements
 pub mod Following
 pub mod Unique
+pub mod RowChanges

@@ -6,8 +6,9 @@ use Rattle.snmp_wire.specs.declared.kind.Kind.TheVariants as kind
 use Rattle.snmp_wire.specs.{Message.VarBind, Message.Message, Spelling.Spells, Canon.canon}
 use Rattle.snmp_agent.specs.{table.Table.MibView, table.Table.IsGet, table.Table.IsNext, table.Table.IsNextAfter, declared.config.Why.Why}
 use Rattle.snmp_agent.specs.declared.config.Why.TheVariants as why
+use Rattle.snmp_agent.specs.declared.config.Outcome.TheVariants.{Reply}
 use Rattle.snmp_agent.specs.Reply.{Agent, response, AreAnswers, no_error, IsWhole, Fits, or_zero}
-use Rattle.snmp_agent.specs.Reply.{AreRounds, IsBulk, IsLongestFront, IsResponse, whole, shortened, bulk, IsReply, IsDropped}
+use Rattle.snmp_agent.specs.Reply.{AreRounds, IsBulk, IsLongestFront, IsResponse, whole, shortened, bulk, IsReply, IsDropped, IsRefused}
 use Rattle.snmp_agent.specs.table.Exact.{HasOne}
 use Rattle.snmp_agent.proofs.Lists.{same_front}
 
@@ -137,3 +138,18 @@ module _ (gets : HasGets) (nexts : HasNexts) (later_nexts : HasNextsAfter) (spel
   no_reply agent datagram reply why.TooLong h (p, r, asked, answered, large) =
       let same : h.request ≡ p = same_request datagram h.request p h.is_request.spelt asked.spelt in
       large (rw (← responses agent h.request p h.response r same h.is_response answered) h.fits)
+
+-- ---- so that one is sent
+
+pub is_replied : (size : ℕ) (out octets : List ℕ) → size ≡ length (take size out) → take size out ≡ octets
+    → (Reply size ≡ Reply (length octets)) × (take (length octets) out ≡ octets)
+is_replied size out octets long taken =
+    let same : size ≡ length octets = long ∙ ap length taken in
+    (ap Reply same, subst (λ (n : ℕ). take n out ≡ octets) same taken)
+
+pub refused_is_dropped : (agent : Agent) (octets : List ℕ) (reason : Why) → IsRefused agent.community octets reason → IsDropped agent octets reason
+refused_is_dropped agent octets why.Undecodable is = is
+refused_is_dropped agent octets why.Version is = is
+refused_is_dropped agent octets why.Community is = is
+refused_is_dropped agent octets why.Pdu is = is
+refused_is_dropped agent octets why.TooLong is = absurd is

@@ -1,5 +1,6 @@
 //! Requests and their replies.
-ghost use Rattle.std.specs.Prelude.{◌≡◌, ◌≢◌, ℕ, ◌≤◌, ◌<◌, [], length, take, IfOk, IfErr, IsSome};
+ghost use Rattle.std.specs.Prelude.{◌≡◌, ◌≢◌, ℕ, ◌≤◌, ◌<◌, List, [], length, take, IfOk, IfErr};
+ghost use Rattle.std.specs.Prelude.{IsSome};
 ghost use Rattle.snmp_wire.specs.declared.kind.Kind.TheVariants as kind;
 ghost use Rattle.snmp_wire.specs.{Canon.canon_bindings, Message.Message, Parts.parts_message};
 ghost use Rattle.snmp_agent.specs.Reply.{agent_of, IsReply, IsDropped, IsRequest, IsRefused};
@@ -10,6 +11,7 @@ ghost use Rattle.snmp_agent.specs.private.Answering.{whole_index, whole_status};
 use crate::answers::append_answers;
 use crate::bulk::{append_bulk, room_for_bindings};
 use crate::config::{Config, Outcome, Why};
+use crate::laws::one_reply;
 use crate::room::ReplyBindings;
 use crate::table::{Guesses, Hint, Last, Table};
 use snmp_oid::order;
@@ -42,6 +44,10 @@ pub fn answer(
     ensures reply { (n : ℕ) → result ≡ Outcome.Reply n
         → IsReply (agent_of table.now config.now) request.now (take n out.new) }
     ensures length { (n : ℕ) → result ≡ Outcome.Reply n → n ≤ config.now.max_size }
+    // A request that has a reply gets it.
+    ensures replied { (octets : List ℕ)
+        → IsReply (agent_of table.now config.now) request.now octets
+        → (result ≡ Outcome.Reply (length octets)) × (take (length octets) out.new ≡ octets) }
     // The reason is the first that applies.
     ensures dropped { (why : Why) → result ≡ Outcome.Dropped why
         → IsDropped (agent_of table.now config.now) request.now why }
@@ -66,6 +72,10 @@ pub fn answer_near(
     ensures reply { (n : ℕ) → result ≡ Outcome.Reply n
         → IsReply (agent_of table.now config.now) request.now (take n out.new) }
     ensures length { (n : ℕ) → result ≡ Outcome.Reply n → n ≤ config.now.max_size }
+    // A request that has a reply gets it.
+    ensures replied { (octets : List ℕ)
+        → IsReply (agent_of table.now config.now) request.now octets
+        → (result ≡ Outcome.Reply (length octets)) × (take (length octets) out.new ≡ octets) }
     ensures dropped { (why : Why) → result ≡ Outcome.Dropped why
         → IsDropped (agent_of table.now config.now) request.now why }
 {
@@ -83,9 +93,14 @@ fn answer_by(
     ensures reply { (n : ℕ) → result ≡ Outcome.Reply n
         → IsReply (agent_of table.now config.now) request.now (take n out.new) }
     ensures length { (n : ℕ) → result ≡ Outcome.Reply n → n ≤ config.now.max_size }
+    // A request that has a reply gets it.
+    ensures replied { (octets : List ℕ)
+        → IsReply (agent_of table.now config.now) request.now octets
+        → (result ≡ Outcome.Reply (length octets)) × (take (length octets) out.new ≡ octets) }
     ensures dropped { (why : Why) → result ≡ Outcome.Dropped why
         → IsDropped (agent_of table.now config.now) request.now why }
 {
+    one_reply();
     match accepted(config.community, request) {
         Ok(message) => match reply(table, config, &message, out, hint) {
             Some(size) => Outcome::Reply(size),

@@ -8,6 +8,8 @@ ghost use Rattle.snmp_agent.specs.table.Format.{IsMarked, Names, first_format};
 ghost use Rattle.snmp_agent.specs.table.Stated.{AreTableBy, IsTableOf, IsFirstFault, IsTableIn};
 ghost use Rattle.snmp_agent.specs.table.Stated.{IsFirstFaultIn};
 ghost use Rattle.snmp_agent.specs.table.Table.{MibView, IsGet, IsMibView, IsNext, IsNextAfter};
+ghost use Rattle.snmp_agent.specs.table.Table.{IsRow, with_row, without_row};
+ghost use Rattle.snmp_wire.specs.Message.{Datum, VarBind};
 
 use crate::config::Why;
 use crate::table::TableError;
@@ -63,6 +65,24 @@ pub fn one_answer()
 {
     order();
 }
+
+/// Changes of one row: a Get of a name that was put has its value, no row has a name that was
+/// removed, and Gets of other names are unchanged (RFC 3416, section 4.2.1). A row that is put and
+/// then removed leaves nothing; a put and a removal of two names may come in either order.
+pub fn changed_rows()
+    ensures put { (view : MibView) (o : List ℕ) (v : Datum)
+        → IsGet (with_row view o v) o (record { name = o; value = v }) }
+    ensures put_elsewhere { (view : MibView) (o q : List ℕ) (v : Datum) (p : VarBind) → q ≢ o
+        → IsGet (with_row view o v) q p ↔ IsGet view q p }
+    ensures removed { (view : MibView) (o : List ℕ) (p : VarBind)
+        → IsRow (without_row view o) p → p.name ≢ o }
+    ensures removed_elsewhere { (view : MibView) (o q : List ℕ) (p : VarBind) → q ≢ o
+        → IsGet (without_row view o) q p ↔ IsGet view q p }
+    ensures put_and_removed { (view : MibView) (o : List ℕ) (v : Datum)
+        → without_row (with_row view o v) o ≡ without_row view o }
+    ensures two_names { (view : MibView) (o q : List ℕ) (v : Datum) → q ≢ o
+        → without_row (with_row view o v) q ≡ with_row (without_row view q) o v }
+{}
 
 /// An agent has at most one reply to a datagram, and none to one that it drops.
 pub fn one_reply()

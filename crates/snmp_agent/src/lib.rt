@@ -44,7 +44,7 @@ pub use table::{Hint, NumericNames, Resolver, Table, TableError};
 // second `impl`, and laws.
 pub use agent::answer;
 pub use laws::{
-    no_fault, one_answer, one_fault, one_reply, one_table, shortest_reply, table_of_lines,
-    unmarked_table,
+    changed_rows, no_fault, one_answer, one_fault, one_reply, one_table, shortest_reply,
+    table_of_lines, unmarked_table,
 };
 pub use table::{PutError, Successors};

@@ -17,6 +17,7 @@ pub struct Page {
     pub rows: Vec<EncodedBinding>,
     ghost some: { 1 ≤ length rows.items },
     ghost most: { length rows.items ≤ PAGE_ROWS },
+    ghost at_most_256: { length rows.items ≤ 256 },
 }
 
 impl Page {

@@ -1,4 +1,4 @@
-use Rattle.snmp_agent.proofs.Partition.{partitioned, place_found}
+use Rattle.snmp_agent.proofs.Partition.{place_found}
 use Rattle.snmp_agent.proofs.table.search.place_near.Goals as goal
 
 pub returns : goal.returns

@@ -1,7 +1,7 @@
-use Rattle.std.proofs.{Common.arith, Common.map, Common.ap, Common.◌∙◌, lemmas.Grind.common_steps}
+use Rattle.std.proofs.{Common.map, Common.ap, Common.◌∙◌}
 use Rattle.std.specs.{List.list_any, Ordering.nat_cmp, Ordering.eq_by_cmp, Cmp.Lexicographic.slice_cmp}
 use Rattle.snmp_agent.specs.{table.Form.States, table.Form.nothing, table.Form.object_prefix, table.Form.instance, private.table.Draft.draft_objects}
-use Rattle.snmp_agent.proofs.Adding.{either, full, row_added, row_halted, stopped}
+use Rattle.snmp_agent.proofs.Adding.{either, full, row_added, row_halted}
 use Rattle.snmp_agent.proofs.{OneStatement.states_only, table.draft.Draft.add.Goals.in-Ok, table.draft.Draft.add.Goals.in-Err}
 use Rattle.snmp_agent.proofs.TableDrafts.{holds_nothing, holds_object, list_any-insert}
 use Rattle.snmp_agent.proofs.table.draft.Draft.add.Goals as goal
