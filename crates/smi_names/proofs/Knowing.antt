@@ -4,6 +4,7 @@ use Rattle.std.proofs.{lemmas.Option.slice_get_cases, lemmas.List.Elements.All-n
 use Rattle.std.proofs.Common.{◌≡◌, ℕ, zero, suc, ◌<◌, ◌≤◌, Bool, true, false, cond, List, [], ◌∷◌, ◌++◌, length, Option, Some, None, unwrap_or}
 use Rattle.std.proofs.Common.{refl, sym, ap, ◌∙◌, arith, append_assoc, get_or, inl, inr}
 use Rattle.std.specs.List.{slice_get}
+use Rattle.indexmap.specs.IndexMap.{hasher_of}
 use Rattle.smi_text.specs.{trees.Mark.same_text, declared.trees.tree.Module.Module}
 use Rattle.smi_names.specs.{meaning.Meaning.Decision, meaning.Meaning.or_else, declared.meaning.entry.Entry.Entry}
 use Rattle.smi_names.specs.meaning.Scopes.{Content, NamePlaces, content_of, place_in, known, decided_as, IsWithin, IsEntryOf, KnowsMore}
@@ -53,15 +54,16 @@ put_absent scope new name place none put x = put x ∙ by (same_text name x) ref
 module _ (old : List Entry) (scope : NamePlaces) (m : Module) (i : ℕ) (within : IsWithin old scope) where
   -- the name is there, and keeps its place
   pub KnowsMore-there : (new : NamePlaces) (name : List ℕ) (d : Decision) (p place : ℕ) → place_in scope name ≡ Some p
-      → ((x : List ℕ) → place_in new x ≡ or_else (place_in scope x) (cond (same_text name x) (Some place) None))
+      → ((x : List ℕ) → place_in new x ≡ or_else (place_in scope x) (cond (same_text name x) (Some place) None)) → hasher_of new ≡ hasher_of scope
       → KnowsMore old scope old new m i (λ x. cond (same_text name x) (Some d) None)
-  KnowsMore-there new name d p place there put = record {
+  KnowsMore-there new name d p place there put hashed = record {
     knows = λ x. rw (stays x) (by x (same_text name x) refl);
     added = [];
     grown = sym (append-nil old);
     of = All-nil (IsEntryOf m i);
     there = All-nil (λ e. known old new e.name.now ≡ Some (content_of e));
     within = λ x q at. within x q (sym (stays x) ∙ at);
+    hashed = hashed;
   }
     where
       keeps : (x : List ℕ) (b : Bool) → same_text name x ≡ b → or_else (place_in scope x) (cond b (Some place) None) ≡ place_in scope x
@@ -82,8 +84,9 @@ module _ (old : List Entry) (scope : NamePlaces) (m : Module) (i : ℕ) (within 
   -- the name is new
   pub KnowsMore-entered : (new : NamePlaces) (name : List ℕ) (e : Entry) → place_in scope name ≡ None
       → ((x : List ℕ) → place_in new x ≡ cond (same_text name x) (Some (length old)) (place_in scope x)) → e.module.now ≡ m → e.name.now ≡ name
-      → IsEntryOf m i e → KnowsMore old scope (old ++ e ∷ []) new m i (λ x. cond (same_text name x) (Some (content_of e).decided) None)
-  KnowsMore-entered new name e none places home named is_of = record {
+      → IsEntryOf m i e → hasher_of new ≡ hasher_of scope
+      → KnowsMore old scope (old ++ e ∷ []) new m i (λ x. cond (same_text name x) (Some (content_of e).decided) None)
+  KnowsMore-entered new name e none places home named is_of hashed = record {
     knows = λ x. by x (same_text name x) refl;
     added = e ∷ [];
     grown = refl;
@@ -91,6 +94,7 @@ module _ (old : List Entry) (scope : NamePlaces) (m : Module) (i : ℕ) (within 
     there = All-push (λ d. known (old ++ e ∷ []) new d.name.now ≡ Some (content_of d)) [] e
         (All-nil (λ d. known (old ++ e ∷ []) new d.name.now ≡ Some (content_of d))) itself;
     within = λ x p at. inside x p (same_text name x) (sym (places x) ∙ at);
+    hashed = hashed;
   }
     where
       by : (x : List ℕ) (b : Bool) → same_text name x ≡ b
@@ -123,6 +127,7 @@ KnowsMore-then e0 e1 e2 s0 s1 s2 m i f g h a b same = record {
   there = All-append (λ e. known e2 s2 e.name.now ≡ Some (content_of e)) a.added b.added
       (λ k e l. b.knows (get_or a.added k e).name.now ∙ rw (a.there k e l) refl) b.there;
   within = b.within;
+  hashed = b.hashed ∙ a.hashed;
 }
   where
     both : (x : List ℕ) (k : Option Content) (d : Option Decision)

@@ -1,6 +1,7 @@
 -- The places of names, and the place to which each name leads.
 use Rattle.std.specs.Prelude.{◌≡◌, ℕ, ◌==◌, ◌&&◌, Bool, false, List, length, ⊤, Option, Some, None}
-use Rattle.std.specs.Prelude.{option_map, unwrap_or}
+use Rattle.std.specs.Prelude.{option_map, unwrap_or, All}
+use Rattle.indexmap.specs.IndexMap.{hasher_of}
 use Rattle.smi_text.specs.{trees.Mark.same_text, declared.trees.tree.Def.Def}
 use Rattle.std.specs.{List.slice_get, Option.option_and_then}
 use Rattle.smi_text.specs.declared.trees.tree.Import.{Import}
@@ -25,6 +26,10 @@ place_by d p = place_at d (place_in d.homes p.home) p.name
 abbrev pub next_place : Directory → (Def → Option (List ℕ)) → Entry → Option ℕ
 next_place d leads e = option_map (place_by d)
     (next_by leads (qualified (content_of e)) (Some (content_of e).decided))
+
+-- the maps of the directory have one key
+abbrev pub HaveOneKey : Directory → Type 0
+HaveOneKey d = All (λ scope. hasher_of scope ≡ hasher_of d.homes) d.scopes.items
 
 -- ---- for private functions
 

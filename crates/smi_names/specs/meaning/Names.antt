@@ -5,7 +5,12 @@ use Rattle.smi_text.specs.{trees.Mark.same_text, declared.trees.tree.Module.Modu
 use Rattle.smi_names.specs.meaning.Meaning.{decision}
 use Rattle.smi_names.specs.meaning.Scopes.{NamePlaces, known, decided_as, IsWithin}
 use Rattle.smi_names.specs.meaning.Scopes.{IsDefinedAt, IsDecided}
-use Rattle.smi_names.specs.declared.meaning.entry.Entry.{Entry}
+use Rattle.smi_names.specs.{declared.hash.NameHash.NameHash, declared.meaning.entry.Entry.Entry}
+
+-- the names of these modules, found by maps that have this key
+pub record KeyedNames : Type 0 where
+  pub modules : List Module
+  pub key : NameHash
 
 -- the place of the first module of a name
 abbrev pub module_place : List Module → List ℕ → Option ℕ

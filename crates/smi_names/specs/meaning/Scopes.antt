@@ -1,7 +1,7 @@
 -- The names of modules with their places among the entries.
 use Rattle.std.specs.Prelude.{◌≡◌, ℕ, ◌<◌, List, ◌++◌, length, Option, Some, option_map, All}
 use Rattle.std.specs.{List.slice_get, Option.option_and_then, Str.bytes_eq}
-use Rattle.indexmap.specs.IndexMap.{IndexMap, get}
+use Rattle.indexmap.specs.IndexMap.{IndexMap, get, hasher_of}
 use Rattle.smi_text.specs.{declared.trees.tree.Module.Module, declared.trees.tree.Def.Def}
 use Rattle.smi_names.specs.{declared.hash.NameHash.NameHash, declared.meaning.entry.Entry.Entry}
 use Rattle.smi_names.specs.meaning.Meaning.{QualifiedName, Decision, defined, imported, root}
@@ -73,7 +73,7 @@ content_named ms a =
 abbrev pub IsEntryOf : Module → ℕ → Entry → Type 0
 IsEntryOf m i e = (e.«module».now ≡ m) × (e.source.0 ≡ i) × IsDefinedAt e
 
--- the scope knows more: where it knew nothing, it has what `more` decides
+-- the scope knows more: where it knew nothing, it has what `more` decides; it is hashed as before
 pub record KnowsMore (old : List Entry) (before : NamePlaces) (new : List Entry)
     (scope : NamePlaces) (m : Module) (i : ℕ) (more : List ℕ
     → Option Decision) : Type 0 where
@@ -84,3 +84,4 @@ pub record KnowsMore (old : List Entry) (before : NamePlaces) (new : List Entry)
   pub of : All (IsEntryOf m i) added
   pub there : All (λ e. known new scope e.name.now ≡ Some (content_of e)) added
   pub within : IsWithin new scope
+  pub hashed : hasher_of scope ≡ hasher_of before

@@ -1,5 +1,6 @@
 //! The places of names: which entry a name of a module has, and to which its own leads.
-ghost use Rattle.std.specs.Prelude.{◌≡◌, ℕ, List, [], map, IfOk, Some};
+ghost use Rattle.std.specs.Prelude.{◌≡◌, ℕ, List, [], map, IfOk, Some, All};
+ghost use Rattle.indexmap.specs.IndexMap.{hasher_of};
 ghost use Rattle.smi_names.specs.meaning.Scopes.{place_in};
 ghost use Rattle.smi_names.specs.meaning.Names.{AreEach, module_place};
 ghost use Rattle.smi_names.specs.meaning.Directory.{place_by, place_at, next_place};
@@ -49,7 +50,9 @@ pub(crate) fn homes<'a>(
     hash: NameHash,
     modules: &'a [Module],
 ) -> Result<NamePlaces<'a>, AllocError>
-    ensures { IfOk result (λ homes. (x : List ℕ) → place_in homes x ≡ module_place modules.now x) }
+    ensures placed { IfOk result (λ homes.
+        (x : List ℕ) → place_in homes x ≡ module_place modules.now x) }
+    ensures hashed { IfOk result (λ homes. hasher_of homes ≡ hash) }
 {
     let mut homes = IndexMap::with_hasher(alloc, hash);
     'modules: for (i, module) in modules.iter().enumerate() {
@@ -66,7 +69,8 @@ pub(crate) fn scopes<'a>(
     modules: &'a [Module],
 ) -> Result<Vec<NamePlaces<'a>>, AllocError>
     requires { entries.old.items ≡ [] }
-    ensures { IfOk result (λ scopes. AreEach modules.now scopes.items entries.new.items) }
+    ensures each { IfOk result (λ scopes. AreEach modules.now scopes.items entries.new.items) }
+    ensures hashed { IfOk result (λ scopes. All (λ scope. hasher_of scope ≡ hash) scopes.items) }
 {
     let mut scopes = Vec::new(alloc);
     'modules: for (i, module) in modules.iter().enumerate() {

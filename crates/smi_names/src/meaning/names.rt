@@ -27,30 +27,33 @@ pub struct Names<'a> {
 }
 
 impl<'a> Model for Names<'a> {
-    ghost use Rattle.std.specs.Prelude.{List};
-    ghost use Rattle.smi_text.specs.declared.trees.tree.Module.{Module};
+    ghost use Rattle.indexmap.specs.IndexMap.{hasher_of};
     ghost use Rattle.smi_names.specs.chains.Resolution.{shared, AreWithin};
+    ghost use Rattle.smi_names.specs.meaning.Directory.{HaveOneKey};
+    ghost use Rattle.smi_names.specs.meaning.Names.{KeyedNames};
     ghost use Rattle.smi_names.specs.meaning.Resolved.{IsDirectory, known_names};
     ghost use Rattle.smi_names.specs.meaning.Parents.{AreResolved};
 
-    ghost Value = { List Module };
+    ghost Value = { KeyedNames };
 
-    ghost view = { λ s. s.modules.now };
+    ghost view = { λ s. record { modules = s.modules.now; key = hasher_of s.directory.homes } };
 
     ghost invariant = { λ s. AreWithin s.resolutions.list.items s.resolutions.places.items
         × IsDirectory s.modules.now s.directory
         × AreResolved (known_names s.modules.now s.directory)
-        (shared s.resolutions.list.items s.resolutions.places.items) };
+        (shared s.resolutions.list.items s.resolutions.places.items)
+        × HaveOneKey s.directory };
 }
 
 impl<'a> Names<'a> {
-    /// The names of these modules, each resolved once.
+    /// The names of these modules, each resolved once. The maps that find them have this key.
     pub fn new(
         alloc: Global,
         hash: NameHash,
         modules: &'a [Module],
     ) -> Result<Names<'a>, AllocError>
-        ensures { IfOk result (λ names. names ≡ modules.now) }
+        ensures modules { IfOk result (λ names. names.modules ≡ modules.now) }
+        ensures key { IfOk result (λ names. names.key ≡ hash) }
     {
         let mut entries = Vec::new(alloc);
         let scopes = scopes(alloc, hash, &mut entries, modules)?;
@@ -73,13 +76,20 @@ impl<'a> Names<'a> {
         })
     }
 
+    /// The key of the maps that find the names.
+    pub fn key(&self) -> NameHash
+        ensures { result ≡ self.now.key }
+    {
+        *self.directory.homes.hasher()
+    }
+
     /// What a name resolves to in the module named `home`; None if it has no meaning there.
     pub fn resolution(&self, home: &'a [u8], name: &'a [u8]) -> Option<&Resolution>
         // The module's own definition decides, else an import with the meaning of the name there,
         // else a root. It leads to one identifier, or to none for one reason.
         ensures { let qualified : QualifiedName = record { home = home.now; name = name.now } in
-            MatchOption result (origin self.now qualified ≡ nowhere)
-            (λ resolution. ComesTo (origin self.now) qualified resolution.now) }
+            MatchOption result (origin self.now.modules qualified ≡ nowhere)
+            (λ resolution. ComesTo (origin self.now.modules) qualified resolution.now) }
     {
         let place = self.directory.place(home, name);
         self.resolutions.get(place)
@@ -98,12 +108,13 @@ impl<'a> Names<'a> {
         name: &'a [u8],
         from: &mut usize,
     ) -> Option<&Resolution>
-        requires there { slice_get self.now source.0 ≡ Some «module».now }
-        requires first { module_named self.now «module».now.name.octets ≡ Some «module».now }
+        requires there { slice_get self.now.modules source.0 ≡ Some «module».now }
+        requires first { module_named self.now.modules «module».now.name.octets
+            ≡ Some «module».now }
         ensures { let qualified : QualifiedName
             = record { home = «module».now.name.octets; name = name.now } in
-            MatchOption result (origin self.now qualified ≡ nowhere)
-            (λ resolution. ComesTo (origin self.now) qualified resolution.now) }
+            MatchOption result (origin self.now.modules qualified ≡ nowhere)
+            (λ resolution. ComesTo (origin self.now.modules) qualified resolution.now) }
     {
         let guess = from.saturating_add(source.1);
         if self.directory.is_entry(guess, source.0, name) {
@@ -121,8 +132,8 @@ impl<'a> Names<'a> {
 
     /// What decides the meaning of a name in the module named `home`.
     pub fn decider(&self, home: &'a [u8], name: &'a [u8]) -> Option<Decider<'a>>
-        ensures { option_map decision_of result
-            ≡ option_and_then (λ m. decision m name.now) (module_named self.now home.now) }
+        ensures { option_map decision_of result ≡ option_and_then (λ m. decision m name.now)
+            (module_named self.now.modules home.now) }
     {
         let entries = self.entries();
         let entry = entries.get(entries.place(home, name))?;
@@ -131,7 +142,7 @@ impl<'a> Names<'a> {
 
     /// The names by their places.
     pub fn entries(&self) -> Entries<'_, 'a>
-        ensures { result.modules ≡ self.now }
+        ensures { result.modules ≡ self.now.modules }
     {
         Entries {
             modules: self.modules,
@@ -141,14 +152,14 @@ impl<'a> Names<'a> {
 
     /// The place of the first module of a name.
     pub fn module_place(&self, name: &'a [u8]) -> Option<usize>
-        ensures { result ≡ module_place self.now name.now }
+        ensures { result ≡ module_place self.now.modules name.now }
     {
         find(&self.directory.homes, name)
     }
 
     /// Whether there is a module of this name.
     pub fn is_loaded(&self, name: &'a [u8]) -> bool
-        ensures { result ≡ is_some (module_named self.now name.now) }
+        ensures { result ≡ is_some (module_named self.now.modules name.now) }
     {
         find(&self.directory.homes, name).is_some()
     }

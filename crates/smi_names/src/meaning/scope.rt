@@ -1,6 +1,7 @@
 //! The names that have a meaning in a module.
 ghost use Rattle.std.specs.Prelude.{◌≡◌, ℕ, List, [], ◌∷◌, ◌++◌, Some, None, option_map, OnOk};
 ghost use Rattle.std.specs.Prelude.{IfOk, All, if◌then◌else◌};
+ghost use Rattle.indexmap.specs.IndexMap.{hasher_of};
 ghost use Rattle.smi_text.specs.trees.Lookup.{first_definition, first_import};
 ghost use Rattle.smi_text.specs.trees.Lookup as lookup;
 ghost use Rattle.smi_text.specs.trees.Mark.{same_text};
@@ -193,6 +194,7 @@ pub(crate) fn scope<'a>(
     ensures grown { IfOk result (λ _. (added : List Entry)
         × (entries.new.items ≡ entries.old.items ++ added)
         × All (IsEntryOf «module».now place) added × All IsDecided added) }
+    ensures hashed { IfOk result (λ scope. hasher_of scope ≡ hash) }
 {
     let mut scope = IndexMap::with_capacity_and_hasher(alloc, module.defs.len(), hash)?;
     enter_definitions(entries, &mut scope, module, place)?;

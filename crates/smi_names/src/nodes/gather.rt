@@ -55,7 +55,7 @@ fn push_copy(oids: &mut Vec<Oid>, oid: &Oid) -> Result<(), AllocError>
 /// Whether one of the modules before this place has the name of a module.
 #[tactic(auto, using(crate::proofs::Importing::is_loaded_before, crate::proofs::Importing::is_loaded_none, std::proofs::lemmas::Grind::common_steps))]
 fn is_double<'a>(names: &Names<'a>, module: &'a Module, place: usize) -> bool
-    ensures { result ≡ is_loaded (take place names.now) «module».now.name.octets }
+    ensures { result ≡ is_loaded (take place names.now.modules) «module».now.name.octets }
 {
     match names.module_place(module.name.as_bytes()) {
         Some(first) => first < place,
@@ -103,11 +103,12 @@ impl Gathered {
         from: &mut usize,
     ) -> Result<(), AllocError>
         requires long { length self.old.sources.items ≡ length self.old.oids.items }
-        requires there { slice_get names.now at.0 ≡ Some «module».now }
+        requires there { slice_get names.now.modules at.0 ≡ Some «module».now }
         requires defined { slice_get «module».now.defs at.1 ≡ Some def.now }
-        requires first { module_named names.now «module».now.name.octets ≡ Some «module».now }
-        ensures added { OnOk result
-            (Adds names.now self.old self.new (GivesNodes names.now «module».now def.now)) }
+        requires first { module_named names.now.modules «module».now.name.octets
+            ≡ Some «module».now }
+        ensures added { let modules = names.now.modules in OnOk result
+            (Adds modules self.old self.new (GivesNodes modules «module».now def.now)) }
     {
         if def.identifier().is_none() {
             return Ok(());
@@ -128,10 +129,11 @@ impl Gathered {
         place: usize,
     ) -> Result<(), AllocError>
         requires long { length self.old.sources.items ≡ length self.old.oids.items }
-        requires there { slice_get names.now place ≡ Some «module».now }
-        requires first { module_named names.now «module».now.name.octets ≡ Some «module».now }
-        ensures added { OnOk result
-            (Adds names.now self.old self.new (Gathers names.now «module».now «module».now.defs)) }
+        requires there { slice_get names.now.modules place ≡ Some «module».now }
+        requires first { module_named names.now.modules «module».now.name.octets
+            ≡ Some «module».now }
+        ensures added { let modules = names.now.modules in OnOk result
+            (Adds modules self.old self.new (Gathers modules «module».now «module».now.defs)) }
     {
         let defs = module.defs.as_slice();
         let mut from = 0;
@@ -151,11 +153,10 @@ impl Gathered {
         place: usize,
     ) -> Result<(), AllocError>
         requires long { length self.old.sources.items ≡ length self.old.oids.items }
-        requires there { slice_get names.now place ≡ Some «module».now }
-        requires first { is_loaded (take place names.now) «module».now.name.octets ≡ false }
-        ensures added { OnOk result
-            (Adds names.now self.old self.new
-            (Brings names.now (take place names.now) «module».now)) }
+        requires there { slice_get names.now.modules place ≡ Some «module».now }
+        requires first { is_loaded (take place names.now.modules) «module».now.name.octets ≡ false }
+        ensures added { let modules = names.now.modules in OnOk result
+            (Adds modules self.old self.new (Brings modules (take place modules) «module».now)) }
     {
         add_import_warnings(alloc, &mut self.warnings, names, module)?;
         self.add_definitions(alloc, names, module, place)?;
@@ -171,10 +172,9 @@ impl Gathered {
         place: usize,
     ) -> Result<(), AllocError>
         requires long { length self.old.sources.items ≡ length self.old.oids.items }
-        requires there { slice_get names.now place ≡ Some «module».now }
-        ensures added { OnOk result
-            (Adds names.now self.old self.new
-            (Brings names.now (take place names.now) «module».now)) }
+        requires there { slice_get names.now.modules place ≡ Some «module».now }
+        ensures added { let modules = names.now.modules in OnOk result
+            (Adds modules self.old self.new (Brings modules (take place modules) «module».now)) }
     {
         if is_double(names, module, place) {
             let name = Text::copied(alloc, module.name.as_bytes())?;
@@ -226,7 +226,7 @@ pub fn gather_nodes<'a>(
     modules: &'a [Module],
 ) -> Result<Gathered, AllocError>
     // The names are those of these modules.
-    requires { names.now ≡ modules.now }
+    requires { names.now.modules ≡ modules.now }
     ensures { IfOk result (λ gathered. AreGathered modules.now gathered modules.now) }
 {
     // There is room for a node for each resolution: most of these are of nodes.

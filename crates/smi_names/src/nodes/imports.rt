@@ -17,7 +17,8 @@ fn is_stated(decider: Decider<'_>) -> bool
 
 /// Whether the module named `home` is loaded, and defines or imports `name`.
 fn has_name<'a>(names: &Names<'a>, home: &'a [u8], name: &'a [u8]) -> bool
-    ensures { result ≡ imports.defines_or_imports (module_named names.now home.now) name.now }
+    ensures { let source = module_named names.now.modules home.now in
+        result ≡ imports.defines_or_imports source name.now }
 {
     match names.decider(home, name) {
         Some(decider) => is_stated(decider),
@@ -35,7 +36,7 @@ fn add_symbol_warnings<'a>(
     symbol: &'a TokenText,
 ) -> Result<(), AllocError>
     ensures { let from = import.now.source.octets in
-        let source = module_named names.now from in
+        let source = module_named names.now.modules from in
         OnOk result (warnings.new.items ≡ warnings.old.items
         ++ imports.symbol_warnings source «module».now.name.octets from symbol.now) }
 {
@@ -62,7 +63,7 @@ fn add_symbols_warnings<'a>(
     import: &'a Import,
 ) -> Result<(), AllocError>
     ensures { let from = import.now.source.octets in
-        let source = module_named names.now from in
+        let source = module_named names.now.modules from in
         OnOk result (warnings.new.items ≡ warnings.old.items
         ++ flat_map (imports.symbol_warnings source «module».now.name.octets from)
         import.now.symbols) }
@@ -83,7 +84,7 @@ fn add_clause_warnings<'a>(
     import: &'a Import,
 ) -> Result<(), AllocError>
     ensures { OnOk result (warnings.new.items ≡ warnings.old.items
-        ++ imports.clause_warnings names.now «module».now.name.octets import.now) }
+        ++ imports.clause_warnings names.now.modules «module».now.name.octets import.now) }
 {
     if names.is_loaded(import.source.as_bytes()) {
         return add_symbols_warnings(alloc, warnings, names, module, import);
@@ -102,7 +103,7 @@ pub(crate) fn add_import_warnings<'a>(
     module: &'a Module,
 ) -> Result<(), AllocError>
     ensures { OnOk result (warnings.new.items ≡ warnings.old.items
-        ++ imports.import_warnings names.now «module».now) }
+        ++ imports.import_warnings names.now.modules «module».now) }
 {
     let clauses = import_clauses(module);
     'clauses: for import in clauses {

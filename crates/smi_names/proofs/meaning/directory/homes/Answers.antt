@@ -4,8 +4,11 @@ use Rattle.smi_names.proofs.Placing.{module_place-more}
 use Rattle.smi_names.proofs.meaning.directory.homes.Goals as goal
 
 pub modules-preserved : goal.modules-preserved
-modules-preserved c = λ x.
-    let inside : c.modules.i < length c.args.modules.now = search rules in
-    let name : c.new.result ≡ c.index-modules-i.result.name.octets = c.new.ensures ∙ c.as_bytes.ensures.octets in
-    c.in_ok-insert_if_absent.ensures.put x ∙ rw (name, c.modules.invariant x)
-    (module_place-more c.args.modules.now c.modules.i c.index-modules-i.result x inside c.index-modules-i.is)
+modules-preserved c = record {
+  placed = λ x.
+      let inside : c.modules.i < length c.args.modules.now = search rules in
+      let name : c.new.result ≡ c.index-modules-i.result.name.octets = c.new.ensures ∙ c.as_bytes.ensures.octets in
+      c.in_ok-insert_if_absent.ensures.put x ∙ rw (name, c.modules.invariant.placed x)
+      (module_place-more c.args.modules.now c.modules.i c.index-modules-i.result x inside c.index-modules-i.is);
+  hashed = c.in_ok-insert_if_absent.ensures.hashed ∙ c.modules.invariant.hashed;
+}

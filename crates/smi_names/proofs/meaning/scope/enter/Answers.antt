@@ -11,7 +11,7 @@ returns-then-first-place c =
     let there = had_place (place_in c.args.scope.now e.name.now) p c.len-place.result (rw c.new.ensures at c.in_ok-first.ensures.returned) c.if-first-place.true in
     record {
       entered = KnowsMore-there c.args.entries.now.items c.args.scope.now e.module.now e.source.0 c.requires.within c.insert_if_absent.new.places
-          e.name.now (decision_of e.decider) p c.len-place.result there (rw c.new.ensures at c.in_ok-first.ensures.put);
+          e.name.now (decision_of e.decider) p c.len-place.result there (rw c.new.ensures at c.in_ok-first.ensures.put) c.in_ok-first.ensures.hashed;
     }
 
 pub returns : goal.returns
@@ -27,5 +27,5 @@ returns c =
     let places = put_absent c.args.scope.now c.insert_if_absent.new.places e.name.now (length c.args.entries.now.items) none put in
     rw pushed (record {
       entered = KnowsMore-entered c.args.entries.now.items c.args.scope.now e.module.now e.source.0 c.requires.within c.insert_if_absent.new.places
-          e.name.now e none places refl refl (refl, refl, c.requires.found);
+          e.name.now e none places refl refl (refl, refl, c.requires.found) c.in_ok-first.ensures.hashed;
     })

@@ -6,5 +6,5 @@ use Rattle.smi_names.proofs.nodes.imports.has_name.Goals as goal
 
 pub returns-in-Some : goal.returns-in-Some
 returns-in-Some c =
-    c.is_stated.ensures ∙ defines_or_imports_by (module_named c.args.names.now c.args.home.now) c.args.name.now (Some (decision_of c.in-Some.decider))
+    c.is_stated.ensures ∙ defines_or_imports_by (module_named c.args.names.now.modules c.args.home.now) c.args.name.now (Some (decision_of c.in-Some.decider))
     c.in-Some.ensures

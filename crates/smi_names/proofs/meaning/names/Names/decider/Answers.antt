@@ -8,10 +8,10 @@ pub returns-in_err-entry : goal.returns-in_err-entry
 returns-in_err-entry c =
     let none : c.get.result ≡ None = search rules in
     let found = rw (c.entries-entries.ensures, none) at (c.get.ensures.found ∙ c.place.ensures) in
-    rw c.from_residual.ensures (decided_at c.args.name.now None (module_named c.args.self.now c.args.home.now) found)
+    rw c.from_residual.ensures (decided_at c.args.name.now None (module_named c.args.self.now.modules c.args.home.now) found)
 
 pub returns : goal.returns
 returns c =
     let some : c.get.result ≡ Some c.in_ok-entry.entry = search rules in
     let found = rw (c.entries-entries.ensures, some) at (c.get.ensures.found ∙ c.place.ensures) in
-    decided_at c.args.name.now _ (module_named c.args.self.now c.args.home.now) found
+    decided_at c.args.name.now _ (module_named c.args.self.now.modules c.args.home.now) found

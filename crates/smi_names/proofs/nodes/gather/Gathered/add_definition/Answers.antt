@@ -19,7 +19,7 @@ pub returns-then-is_none : goal.returns-then-is_none
 returns-then-is_none c =
     let none : is_some (identifier_value_of c.args.def.now.kind) ≡ false = search rules in
     record {
-      added = Adds-none c.args.names.now c.args.self.now (GivesNodes c.args.names.now c.args.module.now c.args.def.now) c.requires.long
+      added = Adds-none c.args.names.now.modules c.args.self.now (GivesNodes c.args.names.now.modules c.args.module.now c.args.def.now) c.requires.long
           (rw (none_of (identifier_value_of c.args.def.now.kind) none) (refl, refl));
     }
 
@@ -31,10 +31,10 @@ pub returns-in-None : goal.returns-in-None
 returns-in-None c =
     let some : is_some (identifier_value_of c.args.def.now.kind) ≡ true = search rules in
     let v = some_of (identifier_value_of c.args.def.now.kind) some in
-    let comes : ComesTo (origin c.args.names.now) (record { home = c.args.module.now.name.octets; name = c.args.def.now.label.octets }) R.Unresolved =
+    let comes : ComesTo (origin c.args.names.now.modules) (record { home = c.args.module.now.name.octets; name = c.args.def.now.label.octets }) R.Unresolved =
     rw (sym c.as_bytes.ensures.octets) (here c.in-None.ensures) in
     record {
-      added = GivesNodes-added c.args.names.now c.args.self.now c.add-in-None.new.self (S.Definition c.args.at.0 c.args.at.1)
+      added = GivesNodes-added c.args.names.now.modules c.args.self.now c.add-in-None.new.self (S.Definition c.args.at.0 c.args.at.1)
           c.args.module.now c.args.def.now R.Unresolved v.0 c.add-in-None.result
           c.requires.long (λ o. rw (c.requires.there, c.requires.defined) refl) v.1 comes c.add-in-None.ensures.added;
     }

@@ -6,7 +6,7 @@ use Rattle.smi_names.proofs.Gathering.{Adds-none, Gathers-more}
 use Rattle.smi_names.proofs.nodes.gather.Gathered.add_definitions.Goals as goal
 
 pub defs-init : goal.defs-init
-defs-init c = Adds-none c.args.names.now c.args.self.now (Gathers c.args.names.now c.args.module.now []) c.requires.long none
+defs-init c = Adds-none c.args.names.now.modules c.args.self.now (Gathers c.args.names.now.modules c.args.module.now []) c.requires.long none
 
 pub add_definition-requires-clause-defined : goal.add_definition-requires-clause-defined
 add_definition-requires-clause-defined c = grind (arith, common_steps, slice_get_read)
@@ -17,5 +17,5 @@ defs-preserved c =
     let k = c.defs.k in
     let inside : c.defs.k < length c.as_slice-defs.result.now = search rules in
     let more : take (k + 1) ds ≡ take k ds ++ c.index-defs-k.result ∷ [] = take_more ds k c.index-defs-k.result inside ∙ rw (sym c.index-defs-k.is) refl in
-    rw more (Gathers-more c.args.names.now c.args.self.now c.defs.self c.add_definition.new.self c.args.module.now (take k ds) c.index-defs-k.result
+    rw more (Gathers-more c.args.names.now.modules c.args.self.now c.defs.self c.add_definition.new.self c.args.module.now (take k ds) c.index-defs-k.result
     c.defs.invariant c.in_ok-add_definition.ensures.added)

@@ -6,8 +6,8 @@ use Rattle.smi_names.proofs.nodes.gather.Gathered.add_loaded.Goals as goal
 
 pub returns : goal.returns
 returns c =
-    let ms = c.args.names.now in
-    let ws = import_warnings c.args.names.now c.args.module.now in
+    let ms = c.args.names.now.modules in
+    let ws = import_warnings c.args.names.now.modules c.args.module.now in
     let f = c.in_ok-add_definitions.ensures.added in
     let old = c.args.self.now in
     let warned : Gathered = record { sources = old.sources; oids = old.oids; warnings = c.add_import_warnings.new.warnings } in

@@ -12,12 +12,12 @@ returns-then-is_double c =
     let pushed : c.push.new.self.items ≡ old.warnings.items ++ W.DoubleModule c.in_ok-name.name ∷ [] = search rules in
     let name : c.in_ok-name.name ≡ c.as_bytes.result.now = c.in_ok-name.ensures in
     let warned = rw (name, c.as_bytes.ensures.octets) at pushed in
-    let double : is_loaded (take c.args.place c.args.names.now) c.args.module.now.name.octets ≡ true = search rules in
+    let double : is_loaded (take c.args.place c.args.names.now.modules) c.args.module.now.name.octets ≡ true = search rules in
     record {
       added = record {
         ns = [];
         ws = W.DoubleModule c.args.module.now.name.octets ∷ [];
         gives = left_out double;
-        adds = AddsNodes-warnings c.args.names.now old new (W.DoubleModule c.args.module.now.name.octets ∷ []) c.requires.long refl refl warned;
+        adds = AddsNodes-warnings c.args.names.now.modules old new (W.DoubleModule c.args.module.now.name.octets ∷ []) c.requires.long refl refl warned;
       };
     }
