@@ -32,7 +32,10 @@ fn tree_by(alloc: Global, hash: NameHash, text: &[u8]) -> Option<Tree> {
         return None;
     };
     match Tree::load_with_key(alloc, hash, modules) {
-        Ok((tree, _warnings)) => Some(tree),
+        Ok(loaded) => {
+            let (tree, _warnings) = loaded.into_parts();
+            Some(tree)
+        }
         Err(_) => None,
     }
 }

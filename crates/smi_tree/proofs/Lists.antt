@@ -1,5 +1,5 @@
 -- Elements of lists by their places.
-use Rattle.std.proofs.Common.{◌≡◌, ℕ, suc, ◌<◌, List, [], ◌∷◌, ◌++◌, length, Some, refl, arith, ◌⊎◌, inl, inr}
+use Rattle.std.proofs.Common.{◌≡◌, ℕ, zero, suc, ◌<◌, List, [], ◌∷◌, ◌++◌, length, Some, refl, arith, ◌⊎◌, inl, inr}
 use Rattle.std.specs.List.{slice_get}
 use Rattle.std.proofs.{lemmas.Grind.common_steps, lemmas.Option.slice_get_cases}
 
@@ -10,6 +10,11 @@ pub get_push : {A : Type 0} (xs : List A) (y : A) (j : ℕ) (x : A) → slice_ge
     → ((j < length xs) × (slice_get xs j ≡ Some x)) ⊎ ((j ≡ length xs) × (y ≡ x))
 get_push [] y j x e = grind (arith, common_steps)
 get_push (z ∷ xs) y j x e = grind (arith, common_steps, get_push xs y)
+
+pub get_before_push : {A : Type 0} (xs : List A) (y : A) (j : ℕ) (x : A) → slice_get xs j ≡ Some x → slice_get (xs ++ y ∷ []) j ≡ Some x
+get_before_push [] y j x e = cc
+get_before_push (z ∷ xs) y zero x e = e
+get_before_push (z ∷ xs) y (suc j) x e = get_before_push xs y j x e
 
 pub get_at_push : {A : Type 0} (xs : List A) (y : A) → slice_get (xs ++ y ∷ []) (length xs) ≡ Some y
 get_at_push [] y = refl

@@ -5,14 +5,15 @@ use Rattle.std.proofs.Common.{sym, ap, subst, ◌∙◌, arith}
 use Rattle.std.specs.{Prelude.slice_index_or, List.slice_get, Option.option_and_then}
 use Rattle.smi_text.specs.{trees.Mark.same_text, trees.Word.is_word, declared.trees.tree.Module.Module}
 use Rattle.smi_names.specs.{meaning.Meaning.Means, meaning.Meaning.QualifiedName, declared.nodes.warning.Warning.Warning}
-use Rattle.smi_tree.specs.{branches.Standing.place_of, Tree.Contents}
+use Rattle.smi_tree.specs.{branches.Standing.place_of, columns.Index.StandsAt, Tree.Contents}
 use Rattle.smi_tree.specs.Standing.{Longest, longest_up_to, longest}
 use Rattle.smi_tree.specs.Naming.{Standing, LabelLeadsTo, IsSound, home_name, standing_from, standing_of_longest, oid_of, oid_anywhere, oid_in_module}
 use Rattle.smi_tree.specs.Naming.{is_module_loaded, nearest_node}
 use Rattle.smi_tree.specs.Nodes.{oids_of, is_of, place_in_module, place_anywhere}
-use Rattle.smi_names.specs.nodes.Nodes.{Node, node_of_root, roots, Loads}
+use Rattle.smi_names.specs.nodes.Nodes.{Node, roots, Loads}
 use Rattle.smi_tree.proofs.{First.first, First.passing, Listing.same, Listing.same_itself, Lists.get_within, PlacesLemmas.place_found}
-use Rattle.smi_tree.proofs.Soundness.{IsOfModule, root-or-module}
+use Rattle.smi_tree.specs.Defined.{IsDefined}
+use Rattle.smi_tree.proofs.Soundness.{root-case, root-or-definition}
 
 -- the place of the longest beginning is that of its first numbers
 abbrev Reaches : List (List ℕ) → List ℕ → ℕ → Longest → Type 0
@@ -25,6 +26,11 @@ reached oids o (suc j) l e = grind (arith, common_steps, reached oids o j l)
 
 oid-at : (nodes : List Node) (i : ℕ) (n : Node) → slice_get nodes i ≡ Some n → slice_get (oids_of nodes) i ≡ Some n.oid
 oid-at nodes i n e = slice_get-map (λ (m : Node). m.oid) nodes i ∙ rw e refl
+
+-- the node that stands for an identifier has it
+pub standing_is : (nodes : List Node) (o : List ℕ) (n : Node) → StandsAt nodes o n → n.oid ≡ o
+standing_is nodes o n s =
+    sym (get_or_from_slice_get (oids_of nodes) s.place n.oid [] (oid-at nodes s.place n s.there)) ∙ (place_found (oids_of nodes) o s.place s.first).1
 
 -- a node as names see it, and the node that it is
 pub record StandsFor (t : Contents) (o : List ℕ) (node : Standing) : Type 0 where
@@ -45,19 +51,18 @@ stands t o node e = by (longest t.nodes o) refl e
         let r = reached (oids_of t.nodes) o (length o) l f in
         let at = place_found (oids_of t.nodes) (take l.depth o) l.place r.1 in
         let n = get_within t.nodes l.place (omega (arith, at.0, length-map t.nodes (λ (m : Node). m.oid))) in
-        let read = get_or_from_slice_get (oids_of t.nodes) l.place n.0.oid [] (oid-at t.nodes l.place n.0 n.1) in
         let seen : Some (standing_from l.depth (slice_index_or t.indexes l.place None) n.0) ≡ Some node = rw n.1 at e in
         let is : standing_from l.depth (slice_index_or t.indexes l.place None) n.0 ≡ node = cc in
         subst (λ node. StandsFor t o node) is
-        (record { place = l.place; n = n.0; there = n.1; home = refl; label = refl; depth = r.0; oid = sym read ∙ at.1 })
-
--- the roots
-pub root-case : (P : Node → Type 0) → P (node_of_root 0) → P (node_of_root 1) → P (node_of_root 2)
-    → (k : ℕ) (n : Node) → slice_get roots k ≡ Some n → P n
-root-case P c i j zero n e = let is : node_of_root 0 ≡ n = cc in subst P is c
-root-case P c i j (suc zero) n e = let is : node_of_root 1 ≡ n = cc in subst P is i
-root-case P c i j (suc (suc zero)) n e = let is : node_of_root 2 ≡ n = cc in subst P is j
-root-case P c i j (suc (suc (suc k))) n e = cc
+        (record {
+          place = l.place;
+          n = n.0;
+          there = n.1;
+          home = refl;
+          label = refl;
+          depth = r.0;
+          oid = standing_is t.nodes (take l.depth o) n.0 (record { place = l.place; first = r.1; there = n.1 });
+        })
 
 root-leads : (ns : List Node) (k : ℕ) (n : Node) → slice_get roots k ≡ Some n
     → oid_of (roots ++ ns) (place_anywhere (roots ++ ns) n.label) ≡ Some n.oid
@@ -83,7 +88,7 @@ both-true : (a b : Bool) → (a && b) ≡ true → (a ≡ true) × (b ≡ true)
 both-true a b e = grind (arith, common_steps)
 
 in-its-module : (ms : List Module) (ns : List Node) (ws : List Warning) → OneMeaning → Loads ms ms ns ws → (k : ℕ) (n : Node)
-    → slice_get (roots ++ ns) k ≡ Some n → (f : IsOfModule ms n)
+    → slice_get (roots ++ ns) k ≡ Some n → (f : IsDefined ms n)
     → oid_of (roots ++ ns) (place_in_module (roots ++ ns) f.home.name.octets f.definition.label.octets) ≡ Some n.oid
 in-its-module ms ns ws law l k n there f =
     let home = f.home.name.octets in
@@ -93,25 +98,25 @@ in-its-module ms ns ws law l k n there f =
     let first = passing (is_of home x) (roots ++ ns) k n there passes in
     let y = first.2.x in
     rw first.1 (oid-at (roots ++ ns) first.0 y first.2.at ∙ ap (λ o. Some o)
-    (by y (root-or-module ms ns ws first.0 y l first.2.at) first.2.passes))
+    (by y (root-or-definition ms ns ws first.0 y l first.2.at) first.2.passes))
   where
-    by : (y : Node) → ((j : ℕ) × (slice_get roots j ≡ Some y)) ⊎ IsOfModule ms y → is_of f.home.name.octets f.definition.label.octets y ≡ true → y.oid ≡ n.oid
+    by : (y : Node) → ((j : ℕ) × (slice_get roots j ≡ Some y)) ⊎ IsDefined ms y → is_of f.home.name.octets f.definition.label.octets y ≡ true → y.oid ≡ n.oid
     by y (inl r) t = let named = rw (root-home r.0 y r.1) at t in cc
     by y (inr g) t =
         let both = both-true (same_text g.home.name.octets f.home.name.octets) (same_text g.definition.label.octets f.definition.label.octets) (rw g.is at t) in
         let home : g.home.name.octets ≡ f.home.name.octets = same g.home.name.octets f.home.name.octets both.0 in
         let label : g.definition.label.octets ≡ f.definition.label.octets = same g.definition.label.octets f.definition.label.octets both.1 in
-        let means = rw (home, label) at g.means in
-        law ms (record { home = f.home.name.octets; name = f.definition.label.octets }) y.oid n.oid means f.means
+        let means = rw (home, label) at g.identifier.0 in
+        law ms (record { home = f.home.name.octets; name = f.definition.label.octets }) y.oid n.oid means f.identifier.0
 
 leads-by : (t : Contents) (ns : List Node) (ws : List Warning) → OneMeaning → t.nodes ≡ roots ++ ns → Loads t.modules t.modules ns ws → (k : ℕ) (n : Node)
-    → slice_get (roots ++ ns) k ≡ Some n → ((j : ℕ) × (slice_get roots j ≡ Some n)) ⊎ IsOfModule t.modules n
+    → slice_get (roots ++ ns) k ≡ Some n → ((j : ℕ) × (slice_get roots j ≡ Some n)) ⊎ IsDefined t.modules n
     → LabelLeadsTo t (home_name n.home) n.label n.oid
 unfolding oid_anywhere oid_in_module is_module_loaded
 leads-by t ns ws law nodes l k n there (inl r) = rw (root-home r.0 n r.1, nodes) (root-leads ns r.0 n r.1)
 leads-by t ns ws law nodes l k n there (inr f) = grind (arith, common_steps, in-its-module)
 
-word-by : (t : Contents) (n : Node) → ((j : ℕ) × (slice_get roots j ≡ Some n)) ⊎ IsOfModule t.modules n → is_word n.label ≡ true
+word-by : (t : Contents) (n : Node) → ((j : ℕ) × (slice_get roots j ≡ Some n)) ⊎ IsDefined t.modules n → is_word n.label ≡ true
 word-by t n (inl r) = root-word r.0 n r.1
 word-by t n (inr f) = rw f.is f.definition.label.lexical
 
@@ -136,5 +141,5 @@ pub sound_by : (t : Contents) (ns : List Node) (ws : List Warning) → OneMeanin
     → IsSound t
 sound_by t ns ws law nodes l = sound-from t (λ k n e.
     let there = subst (λ (ns : List Node). slice_get ns k ≡ Some n) nodes e in
-    let r = root-or-module t.modules ns ws k n l there in
+    let r = root-or-definition t.modules ns ws k n l there in
     (word-by t n r, leads-by t ns ws law nodes l k n there r))

@@ -1,68 +1,80 @@
--- Nodes of modules have words as labels, which lead to them.
-use Rattle.std.proofs.Common.{arith, ◌≡◌, ℕ, ◌⊎◌, inl, inr, true, List, [], ◌∷◌, ◌++◌, Option, Some, None, is_some, refl, subst}
+-- Nodes of modules are those of definitions.
+use Rattle.std.proofs.Common.{arith, ◌≡◌, ℕ, zero, suc, ◌⊎◌, inl, inr, false, List, [], ◌∷◌, ◌++◌, length, Option, Some, None, is_some, refl, subst}
 use Rattle.std.proofs.lemmas.Grind.{common_steps}
 use Rattle.std.specs.List.{slice_get}
 use Rattle.smi_names.specs.declared.chains.shared.Resolution.TheVariants as R
 use Rattle.smi_text.specs.{trees.Lookup.identifier_value_of, declared.trees.tree.Def.Def, declared.trees.tree.Part.Part}
 use Rattle.smi_text.specs.declared.trees.tree.Module.{Module}
-use Rattle.smi_names.specs.{meaning.Meaning.Means, declared.nodes.warning.Warning.Warning}
+use Rattle.smi_names.specs.{meaning.Meaning.module_named, declared.nodes.warning.Warning.Warning}
 use Rattle.smi_names.specs.nodes.Nodes.{Node, node_of, roots, GivesNodesBy, Gathers, none, more, is_loaded, Brings, left_out, loaded, Loads, none_yet}
-use Rattle.smi_names.specs.nodes.Nodes.{then_module}
-use Rattle.smi_tree.proofs.Listing.{same_itself}
-
--- a node of a module that is loaded, whose label means its identifier
-pub record IsOfModule (ms : List Module) (n : Node) : Type 0 where
-  pub home : Module
-  pub definition : Def
-  pub is : n ≡ node_of home definition n.oid
-  pub loaded : is_loaded ms home.name.octets ≡ true
-  pub means : Means ms (record { home = home.name.octets; name = definition.label.octets }) n.oid
+use Rattle.smi_names.specs.nodes.Nodes.{node_of_root, then_module}
+use Rattle.smi_tree.specs.{Defined.IsRoot, Defined.IsDefined, Tree.Contents, Tree.IsTree}
+use Rattle.smi_tree.proofs.{Listing.same_itself, Lists.get_at_push, Lists.get_before_push}
 
 in-either : {A : Type 0} (xs ys : List A) (k : ℕ) (x : A) → slice_get (xs ++ ys) k ≡ Some x → (slice_get xs k ≡ Some x) ⊎ ((j : ℕ) × (slice_get ys j ≡ Some x))
 in-either [] ys k x e = inr (k, e)
 in-either (y ∷ xs) ys k x e = grind (arith, common_steps, in-either xs ys)
 
-given : (ms : List Module) (m : Module) (d : Def) (v : Option (List Part)) (ns : List Node) (ws : List Warning) (k : ℕ) (n : Node)
-    → is_loaded ms m.name.octets ≡ true → GivesNodesBy ms m d v ns ws → slice_get ns k ≡ Some n → IsOfModule ms n
-given ms m d None ns ws k n l g e = let at : slice_get [] k ≡ Some n = rw g.0 at e in cc
-given ms m d (Some v) ns ws k n l (R.Numbers o, comes, is, w) e =
+given : (ms : List Module) (m : Module) (d : Def) (place : ℕ) (v : Option (List Part)) (ns : List Node) (ws : List Warning) (k : ℕ) (n : Node)
+    → module_named ms m.name.octets ≡ Some m → slice_get m.defs place ≡ Some d → GivesNodesBy ms m d v ns ws → slice_get ns k ≡ Some n → IsDefined ms n
+given ms m d place None ns ws k n first there g e = let at : slice_get [] k ≡ Some n = rw g.0 at e in cc
+given ms m d place (Some v) ns ws k n first there (R.Numbers o, comes, is, w) e =
     let one = rw is at e in
     let here : node_of m d o ≡ n = grind (arith, common_steps) in
-    let P : Node → Type 0 = λ n. IsOfModule ms n in
-    subst P here (record { home = m; definition = d; is = refl; loaded = l; means = comes.0 })
-given ms m d (Some v) ns ws k n l (_, comes, is, w) e = let at : slice_get [] k ≡ Some n = rw is at e in cc
+    let P : Node → Type 0 = λ n. IsDefined ms n in
+    subst P here (record { home = m; first = first; definition = d; place = place; there = there; is = refl; identifier = comes })
+given ms m d place (Some v) ns ws k n first there (_, comes, is, w) e = let at : slice_get [] k ≡ Some n = rw is at e in cc
 
-gathered : (ms : List Module) (m : Module) (ds : List Def) (ns : List Node) (ws : List Warning) (k : ℕ) (n : Node) → is_loaded ms m.name.octets ≡ true
-    → Gathers ms m ds ns ws → slice_get ns k ≡ Some n → IsOfModule ms n
-gathered ms m _ _ _ k n l none e = cc
-gathered ms m _ _ _ k n l (more ds d ns more_nodes ws more_warnings g gives) e = elim (in-either ns more_nodes k n e) [
-  | inl f ↦ gathered ms m ds ns ws k n l g f
-  | inr f ↦ given ms m d (identifier_value_of d.kind) more_nodes more_warnings f.0 n l gives f.1
+-- the first definitions of a module
+gathered : (ms : List Module) (m : Module) (ds : List Def) (ns : List Node) (ws : List Warning) (k : ℕ) (n : Node)
+    → module_named ms m.name.octets ≡ Some m → ((p : ℕ) (d : Def) → slice_get ds p ≡ Some d → slice_get m.defs p ≡ Some d)
+    → Gathers ms m ds ns ws → slice_get ns k ≡ Some n → IsDefined ms n
+gathered ms m _ _ _ k n first there none e = cc
+gathered ms m _ _ _ k n first there (more ds d ns more_nodes ws more_warnings g gives) e = elim (in-either ns more_nodes k n e) [
+  | inl f ↦ gathered ms m ds ns ws k n first (λ p x h. there p x (get_before_push ds d p x h)) g f
+  | inr f ↦ given ms m d (length ds) (identifier_value_of d.kind) more_nodes more_warnings f.0 n first (there (length ds) d (get_at_push ds d)) gives f.1
 ]
 
--- a module more
-loaded-more : (ms : List Module) (m : Module) (x : List ℕ) → is_loaded ms x ≡ true → is_loaded (ms ++ m ∷ []) x ≡ true
-loaded-more [] m x e = cc
-loaded-more (y ∷ ms) m x e = grind (arith, common_steps, loaded-more ms m x, is_some)
+-- the first module of a name stays the first
+named-more : (ms : List Module) (m : Module) (x : List ℕ) (f : Module) → module_named ms x ≡ Some f → module_named (ms ++ m ∷ []) x ≡ Some f
+named-more [] m x f e = cc
+named-more (y ∷ ms) m x f e = grind (arith, common_steps, named-more ms m x f)
 
-loaded-last : (ms : List Module) (m : Module) → is_loaded (ms ++ m ∷ []) m.name.octets ≡ true
-loaded-last [] m = rw (same_itself m.name.octets) refl
-loaded-last (y ∷ ms) m = grind (arith, common_steps, loaded-last ms m, is_some)
+named-last : (ms : List Module) (m : Module) → is_loaded ms m.name.octets ≡ false → module_named (ms ++ m ∷ []) m.name.octets ≡ Some m
+named-last [] m e = rw (same_itself m.name.octets) refl
+named-last (y ∷ ms) m e = grind (arith, common_steps, named-last ms m, is_some)
 
-brought : (ms before : List Module) (m : Module) (ns : List Node) (ws : List Warning) (k : ℕ) (n : Node) → is_loaded ms m.name.octets ≡ true
-    → Brings ms before m ns ws → slice_get ns k ≡ Some n → IsOfModule ms n
-brought ms before m _ _ k n l (left_out d) e = cc
-brought ms before m _ _ k n l (loaded ns ws first g) e = gathered ms m m.defs ns ws k n l g e
+brought : (ms before : List Module) (m : Module) (ns : List Node) (ws : List Warning) (k : ℕ) (n : Node)
+    → (is_loaded before m.name.octets ≡ false → module_named ms m.name.octets ≡ Some m) → Brings ms before m ns ws → slice_get ns k ≡ Some n → IsDefined ms n
+brought ms before m _ _ k n first (left_out d) e = cc
+brought ms before m _ _ k n first (loaded ns ws new g) e = gathered ms m m.defs ns ws k n (first new) (λ p d h. h) g e
 
-each-loaded : (ms before : List Module) (ns : List Node) (ws : List Warning) (k : ℕ) (n : Node)
-    → ((x : List ℕ) → is_loaded before x ≡ true → is_loaded ms x ≡ true) → Loads ms before ns ws → slice_get ns k ≡ Some n → IsOfModule ms n
-each-loaded ms _ _ _ k n h none_yet e = cc
-each-loaded ms _ _ _ k n h (then_module before m ns more_nodes ws more_warnings l b) e = elim (in-either ns more_nodes k n e) [
-  | inl f ↦ each-loaded ms before ns ws k n (λ x g. h x (loaded-more before m x g)) l f
-  | inr f ↦ brought ms before m more_nodes more_warnings f.0 n (h m.name.octets (loaded-last before m)) b f.1
+each-defined : (ms before : List Module) (ns : List Node) (ws : List Warning) (k : ℕ) (n : Node)
+    → ((x : List ℕ) (m : Module) → module_named before x ≡ Some m → module_named ms x ≡ Some m) → Loads ms before ns ws → slice_get ns k ≡ Some n
+    → IsDefined ms n
+each-defined ms _ _ _ k n h none_yet e = cc
+each-defined ms _ _ _ k n h (then_module before m ns more_nodes ws more_warnings l b) e = elim (in-either ns more_nodes k n e) [
+  | inl f ↦ each-defined ms before ns ws k n (λ x y g. h x y (named-more before m x y g)) l f
+  | inr f ↦ brought ms before m more_nodes more_warnings f.0 n (λ new. h m.name.octets m (named-last before m new)) b f.1
 ]
 
--- a node of a tree is a root, or of a module
-pub root-or-module : (ms : List Module) (ns : List Node) (ws : List Warning) (k : ℕ) (n : Node) → Loads ms ms ns ws
-    → slice_get (roots ++ ns) k ≡ Some n → ((j : ℕ) × (slice_get roots j ≡ Some n)) ⊎ IsOfModule ms n
-root-or-module ms ns ws k n l e = grind (arith, common_steps, in-either, each-loaded)
+-- the roots
+pub root-case : (P : Node → Type 0) → P (node_of_root 0) → P (node_of_root 1) → P (node_of_root 2)
+    → (k : ℕ) (n : Node) → slice_get roots k ≡ Some n → P n
+root-case P c i j zero n e = let is : node_of_root 0 ≡ n = cc in subst P is c
+root-case P c i j (suc zero) n e = let is : node_of_root 1 ≡ n = cc in subst P is i
+root-case P c i j (suc (suc zero)) n e = let is : node_of_root 2 ≡ n = cc in subst P is j
+root-case P c i j (suc (suc (suc k))) n e = cc
+
+-- a node of a tree is a root, or that of a definition
+pub root-or-definition : (ms : List Module) (ns : List Node) (ws : List Warning) (k : ℕ) (n : Node) → Loads ms ms ns ws
+    → slice_get (roots ++ ns) k ≡ Some n → ((j : ℕ) × (slice_get roots j ≡ Some n)) ⊎ IsDefined ms n
+root-or-definition ms ns ws k n l e = grind (arith, common_steps, in-either, each-defined)
+
+pub root_or_defined : (ms : List Module) (t : Contents) (ws : List Warning) (k : ℕ) (n : Node) → IsTree ms t ws → slice_get t.nodes k ≡ Some n
+    → IsRoot n ⊎ IsDefined ms n
+root_or_defined ms t ws k n is e =
+    elim (root-or-definition ms is.ns ws k n is.loads (subst (λ (ns : List Node). slice_get ns k ≡ Some n) is.nodes e)) [
+      | inl r ↦ inl (root-case IsRoot (0, omega arith, refl) (1, omega arith, refl) (2, omega arith, refl) r.0 n r.1)
+      | inr d ↦ inr d
+    ]

@@ -1,6 +1,7 @@
 -- What a tree keeps of its nodes.
 use Rattle.std.specs.Prelude.{◌≡◌, ℕ, List, length, Option}
 use Rattle.std.specs.List.{position_from}
+use Rattle.indexmap.specs.IndexMap.{hasher_of}
 use Rattle.smi_text.specs.declared.trees.tree.Module.{Module}
 use Rattle.smi_names.specs.{meaning.Names.module_place, nodes.Gathered.nodes_of}
 use Rattle.smi_names.specs.meaning.Scopes.{NamePlaces, place_in}
@@ -8,7 +9,9 @@ use Rattle.smi_names.specs.declared.nodes.gather.Source.{Source}
 use Rattle.smi_names.specs.declared.nodes.warning.Warning.{Warning}
 use Rattle.smi_tree.specs.declared.types.Types.{Types}
 use Rattle.smi_tree.specs.{declared.columns.index_part.IndexPart.IndexPart, Shown.syntaxes_from}
-use Rattle.smi_tree.specs.Tree.{Contents, IsTree}
+use Rattle.smi_tree.specs.declared.places.LabelPlaces.{LabelPlaces}
+use Rattle.smi_tree.specs.declared.tree.loaded.Resolved.{Resolved}
+use Rattle.smi_tree.specs.Tree.{Contents, IsTree, Load}
 use Rattle.smi_tree.specs.Places.{Others, has_label, AreOthers}
 
 abbrev pub contents : List Module → List Source → List (List ℕ) → Types
@@ -30,3 +33,20 @@ pub record IsTreeKept (ms : List Module) (ss : List Source) (os : List (List ℕ
   pub homes : (x : List ℕ) → place_in of_homes x ≡ module_place ms x
   pub labels : (x : List ℕ) → place_in of_labels x ≡ position_from (has_label ms x) 0 ss
   pub others : AreOthers ms ss of_others ss
+
+-- what a load keeps, as a tree with its warnings and its key
+abbrev pub load_kept : List Module → Resolved → Load
+load_kept ms r = record {
+  tree = contents ms r.sources.items r.identifiers r.types r.indexes;
+  warnings = r.warnings.items;
+  key = r.key;
+}
+
+-- what a load keeps is what a tree keeps, and each map has the key of those that found the names
+pub record IsLoadKept (ms : List Module) (r : Resolved) (of_homes : NamePlaces)
+    (places : LabelPlaces) : Type 0 where
+  pub kept : IsTreeKept ms r.sources.items r.identifiers r.types r.indexes of_homes places.labels
+      places.others
+  pub key_of_homes : hasher_of of_homes ≡ r.key
+  pub key_of_labels : hasher_of places.labels ≡ r.key
+  pub key_of_others : hasher_of places.others ≡ r.key

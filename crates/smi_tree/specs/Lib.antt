@@ -5,6 +5,7 @@ pub mod Standing
 pub mod Shown
 pub mod Tree
 pub mod Bare
+pub mod Defined
 pub mod Kept
 pub mod Naming
 pub mod Found

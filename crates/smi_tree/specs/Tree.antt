@@ -1,7 +1,8 @@
 -- What a tree of names holds.
 use Rattle.std.specs.{Prelude.◌≡◌, Prelude.List, Prelude.◌++◌, Prelude.Option, Option.option_copied}
 use Rattle.smi_text.specs.declared.trees.tree.Module.{Module}
-use Rattle.smi_names.specs.nodes.Nodes.{Node, roots, Loads}
+use Rattle.smi_names.specs.{declared.hash.NameHash.NameHash, nodes.Nodes.Node, nodes.Nodes.roots}
+use Rattle.smi_names.specs.nodes.Nodes.{Loads}
 use Rattle.smi_names.specs.declared.nodes.warning.Warning.{Warning}
 use Rattle.smi_tree.specs.{types.Types.Facts, columns.Index.AreIndexesOf, Shown.AreSyntaxesOf}
 use Rattle.smi_tree.specs.declared.columns.index_part.IndexPart.{IndexPart}
@@ -25,6 +26,13 @@ pub record IsTree (modules : List Module) (tree : Contents) (warnings : List War
   pub loads : Loads modules modules ns warnings
   pub syntaxes : AreSyntaxesOf modules tree.nodes tree.syntaxes
   pub indexes : AreIndexesOf modules tree.nodes tree.indexes
+
+-- a tree as it was loaded: with the warnings of its modules, and with the key of each map of names
+-- that the load made
+pub record Load : Type 0 where
+  pub tree : Contents
+  pub warnings : List Warning
+  pub key : NameHash
 
 -- a node as it is shown
 abbrev pub seen_node : Seen → Node

@@ -1,8 +1,12 @@
 //! Laws of trees of names, for any modules.
-ghost use Rattle.std.specs.Prelude.{◌≡◌, ℕ, List, [], MatchOption};
+ghost use Rattle.std.specs.{Prelude.◌≡◌, Prelude.ℕ, Prelude.List, Prelude.[], Prelude.◌⊎◌};
+ghost use Rattle.std.specs.{Prelude.MatchOption, Prelude.Some, List.slice_get};
 ghost use Rattle.smi_text.specs.declared.trees.tree.Module.{Module};
 ghost use Rattle.smi_names.specs.{declared.nodes.warning.Warning.Warning, nodes.Nodes.Node};
+ghost use Rattle.smi_names.specs.meaning.Meaning.{QualifiedName};
 ghost use Rattle.smi_tree.specs.{Bare.bare, Standing.longest, Tree.Contents, Tree.IsTree};
+ghost use Rattle.smi_tree.specs.{Defined.IsRoot, Defined.IsDefined, columns.Index.StandsAt};
+ghost use Rattle.smi_tree.specs.{types.Chain.TypeOrigin, types.Types.Facts, types.Types.HasSyntax};
 ghost use Rattle.smi_tree.specs.Nodes.{IsFirstChild, child_of, oids_of};
 ghost use Rattle.smi_tree.specs.branches.Standing.{HasNoBeginning, IsDeepestAt};
 
@@ -48,4 +52,30 @@ pub fn look_ups()
         (λ at. IsDeepestAt (oids_of nodes) o at.place at.depth) }
     ensures child { (nodes : List Node) (o label : List ℕ)
         → IsFirstChild nodes o label (child_of nodes o label) }
+{}
+
+/// Each node of a tree is a root, or that of a definition in its modules (RFC 2578, sections 3.5
+/// and 3.6).
+///
+/// A law: the call does nothing, and its caller may use what it ensures.
+pub fn defined_nodes()
+    ensures { (modules : List Module) (tree : Contents) (warnings : List Warning) (place : ℕ)
+        (node : Node) → IsTree modules tree warnings → slice_get tree.nodes place ≡ Some node
+        → IsRoot node ⊎ IsDefined modules node }
+{}
+
+/// The node that stands for an identifier has that identifier.
+///
+/// A law: the call does nothing, and its caller may use what it ensures.
+pub fn standing_nodes()
+    ensures { (nodes : List Node) (oid : List ℕ) (node : Node) → StandsAt nodes oid node
+        → node.oid ≡ oid }
+{}
+
+/// An object has one syntax at most: its chain of types has one end.
+///
+/// A law: the call does nothing, and its caller may use what it ensures.
+pub fn one_syntax()
+    ensures { (modules : List Module) (object : TypeOrigin QualifiedName) (facts other : Facts)
+        → HasSyntax modules object facts → HasSyntax modules object other → facts ≡ other }
 {}

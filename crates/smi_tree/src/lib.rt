@@ -36,7 +36,7 @@ pub use crate::syntax::TypeSyntax;
 pub use nearest::{Found, Near, NearestNode};
 pub use node::Node;
 pub use smi_names::{NameHash, TypeBase, Warning};
-pub use tree::{NodeId, Tree};
+pub use tree::{Loaded, NodeId, Tree};
 
 // The parts of a tree by themselves, for tests.
 pub use crate::branches::{Deepest, Identifiers};
@@ -44,4 +44,6 @@ pub use crate::columns::Indexes;
 pub use crate::types::Types;
 
 // Laws: the calls do nothing, and a proof may use what they ensure.
-pub use laws::{bare_tree, look_ups, one_deepest, one_tree};
+pub use laws::{
+    bare_tree, defined_nodes, look_ups, one_deepest, one_syntax, one_tree, standing_nodes,
+};

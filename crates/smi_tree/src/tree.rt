@@ -14,8 +14,9 @@ ghost use Rattle.smi_tree.specs.Naming.{standing_of_longest};
 ghost use Rattle.smi_tree.specs.Nodes.{IsFirstChild, is_labelled, oids_of, place_anywhere};
 ghost use Rattle.smi_tree.specs.Nodes.{place_in_module};
 ghost use Rattle.smi_tree.specs.Standing.{depth_of, longest, longest_of};
-ghost use Rattle.smi_tree.specs.{types.Kept.facts_of, private.Resolved.IsResolved, Shown.shown_at};
-ghost use Rattle.smi_tree.specs.Shown.{units_at};
+ghost use Rattle.smi_tree.specs.{types.Kept.facts_of, Shown.shown_at, Shown.units_at};
+
+mod loaded;
 
 use crate::branches::{Children, Deepest, Identifiers};
 use crate::columns::{IndexPart, Indexes};
@@ -25,7 +26,9 @@ use crate::places::{Others, Places, find, homes, labels};
 use crate::shown::{syntax, units_of, value_syntax};
 use crate::syntax::TypeSyntax;
 use crate::types::Types;
-use smi_names::{NameHash, Names, Source, Warning, gather_nodes, one_identifier};
+pub use loaded::Loaded;
+use loaded::resolve;
+use smi_names::{NameHash, Source, Warning, one_identifier};
 use smi_text::{Def, Module, Text};
 use smi_value::ValueSyntax;
 use snmp_oid::Oid;
@@ -89,87 +92,38 @@ impl Drop for Tree {
     }
 }
 
-/// What modules define, resolved.
-#[derive(Drop)]
-struct Resolved {
-    /// Where each node comes from.
-    sources: Vec<Source>,
-    /// The identifier of each node.
-    identifiers: Identifiers,
-    /// The syntax of types and objects.
-    types: Types,
-    /// The index of each node that is a column.
-    indexes: Indexes,
-    /// The warnings, in order of loading.
-    warnings: Vec<Warning>,
-}
-
-/// What modules define, by what their names mean.
-fn resolve(alloc: Global, hash: NameHash, modules: &[Module]) -> Result<Resolved, AllocError>
-    ensures { IfOk result (λ resolved. IsResolved modules.now resolved) }
-{
-    let names = Names::new(alloc, hash, modules)?;
-    resolve_by(alloc, &names, modules)
-}
-
-/// What modules define, by their names.
-fn resolve_by<'a>(
-    alloc: Global,
-    names: &Names<'a>,
-    modules: &'a [Module],
-) -> Result<Resolved, AllocError>
-    requires { names.now ≡ modules.now }
-    ensures { IfOk result (λ resolved. IsResolved modules.now resolved) }
-{
-    let types = Types::new(alloc, names, modules)?;
-    let gathered = gather_nodes(alloc, names, modules)?;
-    let identifiers = Identifiers::new(alloc, gathered.oids)?;
-    let sources = gathered.sources;
-    let indexes = Indexes::new(alloc, names, modules, &types, &sources, &identifiers)?;
-    Ok(Resolved {
-        sources,
-        identifiers,
-        types,
-        indexes,
-        warnings: gathered.warnings,
-    })
-}
-
 impl Tree {
-    /// The tree of modules, with the warnings that they give, in order. Its maps of names have the
-    /// fixed key.
+    /// The tree of modules, with the warnings that they give, in order. It is the tree that
+    /// [`Tree::load_with_key`] loads with the fixed key.
     ///
     /// Names may refer to what stands later, in the same module or in another. A module whose name
     /// an earlier one has is left out.
     pub fn load(alloc: Global, modules: Vec<Module>) -> Result<(Tree, Vec<Warning>), AllocError>
         ensures { IfOk result (λ loaded. IsTree modules.items loaded.0 loaded.1.items) }
     {
-        Tree::load_with_key(alloc, NameHash::Fixed, modules)
+        Ok(Tree::load_with_key(alloc, NameHash::Fixed, modules)?.into_parts())
     }
 
-    /// Does what [`Tree::load`] does; the maps of names have this key. Someone who doesn't know the
-    /// key can't choose names that make look-ups slow.
+    /// Loads the tree of modules, as [`Tree::load`] does, with this key: each map of names that the
+    /// load makes has it. Someone who doesn't know the key can't choose names that make look-ups
+    /// slow.
     pub fn load_with_key(
         alloc: Global,
         key: NameHash,
         modules: Vec<Module>,
-    ) -> Result<(Tree, Vec<Warning>), AllocError>
-        ensures { IfOk result (λ loaded. IsTree modules.items loaded.0 loaded.1.items) }
+    ) -> Result<Loaded, AllocError>
+        ensures tree { IfOk result (λ loaded. IsTree modules.items loaded.tree loaded.warnings) }
+        ensures key { IfOk result (λ loaded. loaded.key ≡ key) }
     {
         let resolved = resolve(alloc, key, &modules)?;
         let homes = homes(alloc, key, &modules)?;
         let places = labels(alloc, key, &modules, &homes, &resolved.sources)?;
-        let tree = Tree {
+        Ok(Loaded {
             modules,
-            sources: resolved.sources,
-            identifiers: resolved.identifiers,
+            resolved,
             homes,
-            labels: places.labels,
-            others: places.others,
-            types: resolved.types,
-            indexes: resolved.indexes,
-        };
-        Ok((tree, resolved.warnings))
+            places,
+        })
     }
 
     /// How many nodes there are, the roots included.
@@ -374,6 +328,15 @@ impl Tree {
         }
     }
 
+    /// A tree is that of its modules, with some warnings.
+    ///
+    /// A law: the call does nothing, and its caller may use what it ensures.
+    pub fn is_tree(&self)
+        ensures { (warnings : List Warning) × IsTree self.now.modules self.now warnings }
+    {
+        let _ = &self.modules;
+    }
+
     /// Labels are words, and lead to the nodes that they are shown for.
     ///
     /// A law: the call does nothing, and its caller may use what it ensures.
@@ -387,13 +350,6 @@ impl Tree {
 }
 
 impl Tree {
-    /// What a tree holds is what its modules bring: a law, which does nothing when it runs.
-    fn is_tree(&self)
-        ensures { (warnings : List Warning) × IsTree self.now.modules self.now warnings }
-    {
-        let _ = &self.modules;
-    }
-
     /// The node at a place, if there is one. Inlined, so that parts which a caller doesn't read
     /// aren't looked up.
     #[inline(always)]

@@ -74,7 +74,7 @@ impl Types {
         modules: &'a [Module],
     ) -> Result<Types, AllocError>
         // The names are those of these modules.
-        requires { names.now ≡ modules.now }
+        requires { names.now.modules ≡ modules.now }
         ensures { IfOk result (λ types. AreTypesOf modules.now types) }
     {
         let entries = names.entries();

@@ -88,7 +88,8 @@ fn names_chosen_for_the_fixed_key_have_places_of_their_own_by_another(rt: HostRu
 
 /// The tree of the tiny modules, in a box, whose `drop` is proved once.
 fn tree_by(alloc: Global, hash: NameHash) -> Result<Box<Tree>, Fail> {
-    let (tree, _warnings) = Tree::load_with_key(alloc, hash, modules_of(alloc, TINY)?)?;
+    let loaded = Tree::load_with_key(alloc, hash, modules_of(alloc, TINY)?)?;
+    let (tree, _warnings) = loaded.into_parts();
     Ok(Box::new(alloc, tree)?)
 }
 

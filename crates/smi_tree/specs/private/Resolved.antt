@@ -1,7 +1,7 @@
 -- What modules define, resolved, for private clauses.
 use Rattle.std.specs.Prelude.{◌≡◌, List, length}
 use Rattle.smi_text.specs.declared.trees.tree.Module.{Module}
-use Rattle.smi_tree.specs.{Tree.IsTree, Kept.contents, declared.tree.Resolved.Resolved}
+use Rattle.smi_tree.specs.{Tree.IsTree, Kept.contents, declared.tree.loaded.Resolved.Resolved}
 
 pub record IsResolved (ms : List Module) (r : Resolved) : Type 0 where
   pub long : length r.sources.items ≡ length r.identifiers

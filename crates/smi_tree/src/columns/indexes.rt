@@ -47,7 +47,7 @@ impl Indexes {
         identifiers: &Identifiers,
     ) -> Result<Indexes, AllocError>
         // Names, types, sources and identifiers are those of these modules.
-        requires named { names.now ≡ modules.now }
+        requires named { names.now.modules ≡ modules.now }
         requires typed { AreTypesOf modules.now types.now }
         requires long { length sources.now ≡ length identifiers.now }
         ensures { IfOk result (λ indexes. AreIndexesOf modules.now

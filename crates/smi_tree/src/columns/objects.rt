@@ -50,8 +50,8 @@ impl<'n, 'a> Model for Objects<'n, 'a> {
 
     ghost view = { λ s. s.modules.now };
 
-    ghost invariant = { λ s. (s.entries.modules ≡ s.modules.now) × (s.names.now ≡ s.modules.now)
-        × AreTypesOf s.modules.now s.types.now
+    ghost invariant = { λ s. (s.entries.modules ≡ s.modules.now)
+        × (s.names.now.modules ≡ s.modules.now) × AreTypesOf s.modules.now s.types.now
         × AreMeant s.entries leads_nowhere stands_at s.found.items };
 }
 
@@ -96,7 +96,7 @@ impl<'n, 'a> Objects<'n, 'a> {
         modules: &'a [Module],
         types: &'n Types,
     ) -> Result<Objects<'n, 'a>, AllocError>
-        requires named { names.now ≡ modules.now }
+        requires named { names.now.modules ≡ modules.now }
         requires typed { AreTypesOf modules.now types.now }
         ensures { IfOk result (λ objects. objects ≡ modules.now) }
     {

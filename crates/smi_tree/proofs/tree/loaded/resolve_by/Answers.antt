@@ -1,10 +1,10 @@
 -- What is gathered is a tree.
 use Rattle.std.proofs.Common.{◌≡◌, length, sym, ap, ◌∙◌}
 use Rattle.smi_tree.proofs.Syntaxes.{is_tree, syntaxes_right}
-use Rattle.smi_tree.proofs.tree.resolve_by.Goals as goal
+use Rattle.smi_tree.proofs.tree.loaded.resolve_by.Goals as goal
 
-pub returns : goal.returns
-returns c =
+pub returns-clause-resolved : goal.returns-clause-resolved
+returns-clause-resolved c =
     let ms = c.args.modules.now in
     let g = c.in_ok-gathered.gathered in
     let t = c.in_ok-types.types in

@@ -1,0 +1,131 @@
+//! Trees as they are loaded: what modules define is resolved, and with the places of its names it
+//! is a tree.
+ghost use Rattle.std.specs.Prelude.{◌≡◌, IfOk};
+ghost use Rattle.smi_tree.specs.private.Resolved.{IsResolved};
+
+use crate::branches::Identifiers;
+use crate::columns::Indexes;
+use crate::places::{LabelPlaces, Places};
+use crate::tree::Tree;
+use crate::types::Types;
+use smi_names::{NameHash, Names, Source, Warning, gather_nodes};
+use smi_text::Module;
+use std::alloc::{AllocError, Global};
+use std::marker::Model;
+
+/// What modules define, resolved.
+#[derive(Drop)]
+pub(super) struct Resolved {
+    /// Where each node comes from.
+    pub(super) sources: Vec<Source>,
+    /// The identifier of each node.
+    identifiers: Identifiers,
+    /// The syntax of types and objects.
+    types: Types,
+    /// The index of each node that is a column.
+    indexes: Indexes,
+    /// The warnings, in order of loading.
+    warnings: Vec<Warning>,
+    /// The key of the maps that found the names.
+    key: NameHash,
+}
+
+/// What modules define, by what their names mean.
+pub(super) fn resolve(
+    alloc: Global,
+    hash: NameHash,
+    modules: &[Module],
+) -> Result<Resolved, AllocError>
+    ensures resolved { IfOk result (λ resolved. IsResolved modules.now resolved) }
+    ensures hashed { IfOk result (λ resolved. resolved.key ≡ hash) }
+{
+    let names = Names::new(alloc, hash, modules)?;
+    resolve_by(alloc, &names, modules)
+}
+
+/// What modules define, by their names.
+fn resolve_by<'a>(
+    alloc: Global,
+    names: &Names<'a>,
+    modules: &'a [Module],
+) -> Result<Resolved, AllocError>
+    requires { names.now.modules ≡ modules.now }
+    ensures resolved { IfOk result (λ resolved. IsResolved modules.now resolved) }
+    ensures hashed { IfOk result (λ resolved. resolved.key ≡ names.now.key) }
+{
+    let types = Types::new(alloc, names, modules)?;
+    let gathered = gather_nodes(alloc, names, modules)?;
+    let identifiers = Identifiers::new(alloc, gathered.oids)?;
+    let sources = gathered.sources;
+    let indexes = Indexes::new(alloc, names, modules, &types, &sources, &identifiers)?;
+    Ok(Resolved {
+        sources,
+        identifiers,
+        types,
+        indexes,
+        warnings: gathered.warnings,
+        key: names.key(),
+    })
+}
+
+/// A tree as it was loaded, with its warnings and with the key of its maps of names.
+///
+/// [`Tree::load_with_key`] returns it, and [`Loaded::into_parts`] takes it apart.
+pub struct Loaded {
+    pub(super) modules: Vec<Module>,
+    pub(super) resolved: Resolved,
+    /// The place of each module's name.
+    pub(super) homes: Places,
+    /// The places of labels.
+    pub(super) places: LabelPlaces,
+}
+
+impl Model for Loaded {
+    ghost use Rattle.smi_tree.specs.Tree.{Load};
+
+    ghost Value = { Load };
+
+    ghost use Rattle.smi_tree.specs.Kept.{load_kept, IsLoadKept};
+
+    ghost view = { λ s. load_kept s.modules.items s.resolved };
+
+    ghost invariant = { λ s. IsLoadKept s.modules.items s.resolved s.homes s.places };
+}
+
+impl Drop for Loaded {
+    // Written out, as for a tree.
+    fn drop(self) {
+        let Loaded {
+            modules: _modules,
+            resolved: _resolved,
+            homes: _homes,
+            places: _places,
+        } = self;
+    }
+}
+
+impl Loaded {
+    /// The tree, and the warnings in order.
+    pub fn into_parts(self) -> (Tree, Vec<Warning>)
+        ensures tree { result.0 ≡ self.tree }
+        ensures warnings { result.1.items ≡ self.warnings }
+    {
+        let Loaded {
+            modules,
+            resolved,
+            homes,
+            places,
+        } = self;
+        let tree = Tree {
+            modules,
+            sources: resolved.sources,
+            identifiers: resolved.identifiers,
+            homes,
+            labels: places.labels,
+            others: places.others,
+            types: resolved.types,
+            indexes: resolved.indexes,
+        };
+        (tree, resolved.warnings)
+    }
+}
