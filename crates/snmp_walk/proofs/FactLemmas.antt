@@ -9,7 +9,8 @@ use Rattle.snmp_walk.specs.{Trail.last_name, Run.IsEachSent, Run.Try, Run.sent_b
 use Rattle.snmp_walk.specs.Tables.{CountsNames, of_table, of_tables}
 use Rattle.snmp_walk.specs.{Request.request_of, Request.asked_for, Traffic.Traffic, Traffic.Lost, Names.comes_after}
 use Rattle.snmp_walk.specs.declared.end.WalkEnd.TheVariants as ending
-use Rattle.snmp_walk.specs.Facts.{IsFresh, IsLastSent, IsEndedBy, IsLawfulEnd, HasNoReply, HasNone, IsDone, GivenFacts, WalkFacts, SendFacts, gets}
+use Rattle.snmp_walk.specs.Facts.{IsFresh, IsLastSent, IsEndedBy, IsLawfulEnd, HasNoReply, HasNone, IsDone, GivenFacts, WalkFacts, SendFacts, gets, walk_at}
+use Rattle.snmp_walk.specs.{Walk.walk_from, declared.mode.Mode.Mode}
 use Rattle.snmp_walk.proofs.JoinLemmas.{variables_rise, variables_are, next_first, get_one, get_row, after_precedes}
 use Rattle.snmp_walk.proofs.{TableLemmas.part_is, TableLemmas.whole_is, RowLemmas.only_one, TrailLemmas.last_name-append, PartLemmas.part_front}
 use Rattle.snmp_walk.proofs.{FullLemmas.AreRoomy, FullLemmas.IsFast, FullLemmas.fast_few, SendLemmas.Sends, RowLemmas.IsOneTable}
@@ -79,15 +80,26 @@ module _ (codec : Codec) (agents : Agents) (Silent : Walker → Type 0) (first :
       let begins = fresh.begins.1 in
       let given = part_front (IsNextFrom agents) (IsGotFrom agents) first rows refused part in
       let rising = rises codec agents views first s begins rows given in
+      let beginning : (view : MibView) (got : VarBind) → agents.tables ≡ view ∷ [] → IsGet view first.asked got
+      → (more : List VarBind) × (walk_at first view got ≡ (rows ++ refused) ++ more) =
+      λ view got e answer. part_is (variables view) got (IsNextFrom agents) (IsGotFrom agents) first
+      (one_table codec agents first view got views e answer) s begins (rows ++ refused) part in
+      let all_at_done : (view : MibView) (got : VarBind) → agents.tables ≡ view ∷ [] → IsGet view first.asked got → IsDone end
+      → rows ≡ walk_at first view got =
+      λ view got e answer done. whole_is (variables view) got (IsNextFrom agents) (IsGotFrom agents) first
+      (one_table codec agents first view got views e answer) s begins rows (whole done) in
       record {
         part = part;
         lawful = lawful;
-        beginning = λ view got e answer.
-            part_is (variables view) got (IsNextFrom agents) (IsGotFrom agents) first
-            (one_table codec agents first view got views e answer) s begins (rows ++ refused) part;
-        all_at_done = λ view got e answer done.
-            whole_is (variables view) got (IsNextFrom agents) (IsGotFrom agents) first
-            (one_table codec agents first view got views e answer) s begins rows (whole done);
+        beginning = beginning;
+        all_at_done = all_at_done;
+        rest_beginning = λ view e no_last.
+            let got = codec.got view first.asked in
+            let b = beginning view got.0 e got.1 in
+            (b.0, subst (λ (m : Mode). walk_from m first.root first.asked got.0 (variables view) ≡ (rows ++ refused) ++ b.0) no_last b.1);
+        rest_at_done = λ view e no_last done.
+            let got = codec.got view first.asked in
+            subst (λ (m : Mode). rows ≡ walk_from m first.root first.asked got.0 (variables view)) no_last (all_at_done view got.0 e got.1 done);
         from_tables = part_from codec agents views first s begins (rows ++ refused) part;
         common_names = λ name of each front last e passed. once rows name rising
             (common_in codec agents views first s begins rows given name of each

@@ -10,11 +10,13 @@ use Rattle.snmp_wire.specs.{Canon.canon, Message.Message, Message.VarBind, Messa
 use Rattle.snmp_walk.specs.{Facts.IsDone, private.Course.Heard, Link.Outcome, Link.Agents, Link.OneOf, Link.AreLawful, Link.IsReplyFrom, Names.is_end}
 use Rattle.snmp_walk.specs.{Read.Delivers, Read.all_given, Read.is_refused, Sink.Took, declared.end.SinkFault.SinkFault, declared.end.WalkEnd.WalkEnd}
 use Rattle.snmp_walk.specs.{declared.rows.Step.Step, private.Codec.Codec, Judged.IsResponseTo, private.Heard.IsAsked, private.Taken.awaits}
-use Rattle.snmp_walk.specs.{Ran.IsFreshAndHonest, Ran.IsGetTried, Tries.IsNotAwaited, declared.link.Link.Ghosts as LinkFacts}
+use Rattle.snmp_walk.specs.{Ran.IsHonestFrom, Ran.IsGetTried, Tries.IsNotAwaited, declared.link.Link.Ghosts as LinkFacts}
 use Rattle.snmp_walk.specs.Get.{AreFor, AreForNames, IsEndOfGet, IsReasonOfGet, MeansToGet, answers_of, are_for, step_of, get_request, IsBrought}
 use Rattle.snmp_walk.specs.Get.{IsLostGet}
 use Rattle.snmp_walk.specs.private.Course as heard
 use Rattle.snmp_walk.specs.declared.end.WalkEnd.TheVariants as ending
+use Rattle.snmp_walk.proofs.{HonestLemmas.lower_not_awaited}
+use Rattle.snmp_walk.specs.{Ran.AreOfLowerIds}
 use Rattle.snmp_walk.proofs.{NameLemmas.end_decided, JudgedLemmas.response_to_decided, LostLemmas.lost_of, LostLemmas.reply_of}
 use Rattle.snmp_wire.specs.declared.kind.Kind.TheVariants as kind
 use Rattle.snmp_agent.specs.{Reply.IsResponse, table.Table.MibView}
@@ -192,18 +194,18 @@ module _ (codec : Codec) (community : List ℕ) (id : ℕ) (names : List (List �
       let same = (codec.one a.message m d d [] [] a.spelt spelt refl).0 in
       (a.view, a.one, a.named, subst (IsResponse a.view agents.max_size Asked) same a.is_response)
 
-  asked_alone : (agents : Agents) → AreLawful agents → (sent : List (List ℕ)) → sent ≡ [] → IsAsked agents (IsNotAwaited community id) (canon Asked) sent
-  asked_alone agents lawful sent none = record {
+  asked_alone : (agents : Agents) → AreLawful agents → (sent : List (List ℕ)) → AreOfLowerIds sent id → IsAsked agents (IsNotAwaited community id) (canon Asked) sent
+  asked_alone agents lawful sent low = record {
     own = λ octets reply other. let a = answered agents lawful octets reply in
         other a.message a.spelt (subst (IsResponseTo community id) (sym a.is) (record { version = refl; community_is = refl; kind = refl; id_is = refl }));
-    others = λ d one. absurd (subst (λ (s : List (List ℕ)). OneOf s d) none one);
+    others = λ d one. inr (λ octets reply. lower_not_awaited codec agents lawful community id d octets (low d one) reply);
   }
 
   module _ {L : Type 0} (facts : LinkFacts L) (keeping : (link : L) → facts.honest link → facts.keeps link) (link after : L) (tries : ℕ)
       (lawful : facts.honest link → AreLawful (facts.agents link)) where
     -- the message that came
     pub brought : (m : Message) (d : List ℕ) → IsGetTried facts link after tries community id names (outcome.answered d) → Spells m d → awaits community id m ≡ true
-        → IsBrought (IsGetTried facts link after tries community id names) (facts.agents link) (IsFreshAndHonest facts link) community id names m
+        → IsBrought (IsGetTried facts link after tries community id names) (facts.agents link) (IsHonestFrom facts id link) community id names m
     brought m d tried spelt awaited = (
       (response_to_decided community id m).0 awaited,
       λ h. response_of (facts.agents link) (lawful h.0) m d spelt
@@ -214,7 +216,7 @@ module _ (codec : Codec) (community : List ℕ) (id : ℕ) (names : List (List �
     )
 
     -- none came
-    pub lost_get : IsGetTried facts link after tries community id names outcome.missed → IsFreshAndHonest facts link
+    pub lost_get : IsGetTried facts link after tries community id names outcome.missed → IsHonestFrom facts id link
         → (facts.traffic after).sent ≡ (facts.traffic link).sent ++ replicate tries (canon Asked)
         → IsLostGet (facts.agents link) tries (facts.traffic link) (canon Asked) (facts.traffic after)
     lost_get tried h sent =

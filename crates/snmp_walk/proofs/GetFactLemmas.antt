@@ -8,7 +8,7 @@ use Rattle.snmp_walk.specs.{declared.tries.Course.Course, Traffic.Traffic, Traff
 use Rattle.snmp_walk.specs.{private.Course.Heard, private.Course.heard_of, Read.IsReadAs, Read.Tells, Moved.IsMoved, Judged.IsResponseTo}
 use Rattle.snmp_walk.specs.{Network.AreRepliesOf, declared.link.Link.Ghosts as LinkFacts, Responses.IsResponseFrom, Responses.MayRespond, Link.Agents}
 use Rattle.snmp_walk.specs.{Link.OneOf, Link.AreLawful, Link.IsReplyFrom, Link.agent_in, Link.Outcome, Tries.AreTried, Tries.Happens, Tries.InTurn}
-use Rattle.snmp_walk.specs.{Tries.IsNotAwaited, Ran.HasHappened, Ran.but_for_errors, Ran.IsFreshAndHonest, Ran.IsGetTried, Ran.IsGotOver, Ran.IsRun}
+use Rattle.snmp_walk.specs.{Tries.IsNotAwaited, Ran.HasHappened, Ran.but_for_errors, Ran.IsHonestFrom, Ran.IsGetTried, Ran.IsGotOver, Ran.IsRun}
 use Rattle.snmp_wire.specs.{Message.VarBind, Message.Message, Spelling.Spells, Canon.canon, Range.IsMessageInRange}
 use Rattle.snmp_agent.specs.{Event.Event, table.Table.MibView, table.Table.IsMibView}
 use Rattle.snmp_agent.specs.Reply.{response, got, got_next, unwritten, Fits, IsWhole, IsResponse, whole, shortened, bulk}
@@ -17,6 +17,9 @@ use Rattle.snmp_walk.specs.declared.tries.Course.TheVariants as course
 use Rattle.snmp_walk.specs.private.Course as heard
 use Rattle.snmp_walk.specs.Get.{get_request, got_step, AreFor, AreGot, MeansToGet, IsBrought, IsReasonOfGet, HasRoomForGet, IsEndOfGet, IsLostGet}
 use Rattle.snmp_walk.specs.Get.{IsTooBig, GetFacts, GotFacts}
+use Rattle.std.proofs.Common.{◌+◌}
+use Rattle.snmp_walk.proofs.{NetworkLemmas.begins_tries, HonestLemmas.all_lower_more, HonestLemmas.all_lower_sent}
+use Rattle.snmp_walk.specs.{Ran.AreOfLowerIds}
 use Rattle.snmp_walk.proofs.{NameLemmas.no_end, JoinLemmas.get_one, NetworkLemmas.all_tries, NetworkLemmas.answered_tries}
 use Rattle.snmp_walk.proofs.HonestLemmas.{no_drop, error_or_none, may_be, of_community, own as spelt_own}
 use Rattle.snmp_walk.proofs.RowLemmas.{view_of, only_one, get_name, get_value}
@@ -243,6 +246,7 @@ module _ {W : Type 0} (codec : Codec) (facts : LinkFacts W) (link after : W) (tr
         record {
           events = e.0;
           in_turn = e.1;
+          begins = begins_tries facts q (IsNotAwaited community id) tries link after what h;
           replied = λ agents good replies. elim (reason agents good (λ m. Unit {0}) ⊥ (λ m. inl tt) replies) [
             | inl why ↦ got_facts agents good community id names (Unit {0}) tt Was rows refused end why may
             | inr none ↦ absurd none.0
@@ -311,7 +315,7 @@ module _ {W S : Type 0} (facts : LinkFacts W) (link : W) (tries : ℕ) (communit
   Tried after = IsGetTried facts link after tries community id names
 
   abbrev From : W → Message → Type 0
-  From after m = IsBrought (Tried after) (facts.agents link) (IsFreshAndHonest facts link) community id names m
+  From after m = IsBrought (Tried after) (facts.agents link) (IsHonestFrom facts id link) community id names m
 
   abbrev Sent : W → WalkEnd → Type 0
   Sent after end = facts.keeps link → (times : ℕ) × (times ≤ tries)
@@ -363,9 +367,11 @@ module _ {W S : Type 0} (facts : LinkFacts W) (link : W) (tries : ℕ) (communit
         done_unless_stopped = λ room ahead. tt;
       };
       moved = moved_none (ending.Done 0) (λ e. cc) (λ some. absurd (some none));
+      later = λ k. all_lower_more (facts.traffic link).sent id (id + 1) (omega arith);
       happened = record {
         events = [];
         in_turn = refl;
+        begins = tt;
         replied = λ agents good replies. nothing_got agents none;
         replied_or_failed = λ agents good replies. nothing_got agents none;
       };
@@ -375,10 +381,11 @@ module _ {W S : Type 0} (facts : LinkFacts W) (link : W) (tries : ℕ) (communit
   module _ (codec : Codec) (lawful : facts.honest link → AreLawful (facts.agents link)) (some : 0 < tries) (named : names ≢ []) where
     got_over : (length (canon Asked) ≤ 65507 → Spells Asked (canon Asked)) → (after : W) (sunk : S) (end : WalkEnd) → (g : IsGotSo after sunk end)
         → HasHappened facts link after end (λ agents why. GotFacts agents Asked names g.rows g.refused why)
-        → (end ≡ ending.NoResponse → IsFreshAndHonest facts link → IsLostGet (facts.agents link) tries (facts.traffic link) (canon Asked) (facts.traffic after))
+        → (end ≡ ending.NoResponse → IsHonestFrom facts id link → IsLostGet (facts.agents link) tries (facts.traffic link) (canon Asked) (facts.traffic after))
         → (65507 < length (canon Asked) → end ≡ ending.RequestTooLong) → (end ≡ ending.RequestTooLong → after ≡ link) → Sent after end
-        → HasMoved after end → IsOver after sunk end
-    got_over spells after sunk end g happened lost long unasked sent moved = record {
+        → HasMoved after end
+        → (facts.keeps link → AreOfLowerIds (facts.traffic link).sent id → AreOfLowerIds (facts.traffic after).sent (id + 1)) → IsOver after sunk end
+    got_over spells after sunk end g happened lost long unasked sent moved later = record {
       rows = g.rows;
       refused = g.refused;
       took = g.took;
@@ -389,8 +396,9 @@ module _ {W S : Type 0} (facts : LinkFacts W) (link : W) (tries : ℕ) (communit
         unasked = elim [ inl none ↦ absurd (named none) | inr too_long ↦ unasked too_long ];
         sent = sent;
         judged = λ fresh. get_facts (facts.agents link) (lawful fresh.0) community id names codec spells tries some (facts.traffic link) (facts.traffic after)
-            (IsFreshAndHonest facts link) fresh (Tried after) g.rows g.refused end (λ silent. lost silent fresh) g.reason g.ends;
+            (IsHonestFrom facts id link) fresh (Tried after) g.rows g.refused end (λ silent. lost silent fresh) g.reason g.ends;
         moved = moved;
+        later = later;
         happened = happened;
       };
     }
@@ -403,12 +411,14 @@ module _ {W S : Type 0} (facts : LinkFacts W) (link : W) (tries : ℕ) (communit
         (record {
           events = [];
           in_turn = refl;
+          begins = tt;
           replied = λ agents good replies. too_long agents good;
           replied_or_failed = λ agents good replies. too_long agents good;
         })
         (λ silent. let no : ⊥ = cc in absurd no) (λ _. refl)
         (λ _. refl) (sent_none ending.RequestTooLong (λ silent. cc) (λ _ fits. fits refl))
         (moved_none ending.RequestTooLong (λ e. cc) (λ _ fits. fits refl))
+        (λ k. all_lower_more (facts.traffic link).sent id (id + 1) (omega arith))
       where
         too_long : (agents : Agents) → AreLawful agents → GotFacts agents Asked names [] [] ending.RequestTooLong
         too_long agents good = got_facts agents good community id names (Unit {0}) tt (Tried link) [] [] ending.RequestTooLong refl long
@@ -425,7 +435,7 @@ module _ {W S : Type 0} (facts : LinkFacts W) (link : W) (tries : ℕ) (communit
           (moved_of facts (IsNotAwaited community id) (canon Asked) tries some what link after tried) in
           got_over (λ _. spelt_own codec Asked ranged no_set) after sunk end g
           (happened_by codec facts link after tries community id names ranged g.rows g.refused (facts.agents link)
-          (IsFreshAndHonest facts link) end g.reason g.ends short)
+          (IsHonestFrom facts id link) end g.reason g.ends short)
           (λ silent fresh.
           let none = a.2 silent in
           let y = x (keeping link fresh.0) in
@@ -434,6 +444,10 @@ module _ {W S : Type 0} (facts : LinkFacts W) (link : W) (tries : ℕ) (communit
           (λ long. absurd (omega (arith, long, ap length is, few, length-take n octets))) (λ long. absurd (short long))
           (λ keeps. let y = x keeps in (y.0, y.1, y.2, (λ silent. y.4 (a.2 silent)), λ _ sent fine. y.3 (λ cut. fine (a.0 cut))))
           (m.0, m.1, (λ _ _. m.2), m.3, m.4)
+          (λ k low.
+          let y = x k in
+          all_lower_sent Asked ranged no_set id (id + 1) refl (omega arith) (facts.traffic link).sent (facts.traffic after).sent y.0 y.2
+          (all_lower_more (facts.traffic link).sent id (id + 1) (omega arith) low))
 
       -- by what it returned
       abbrev IsReadSo : {V : Type 0} → V → S → List ℕ → Heard → Type 0

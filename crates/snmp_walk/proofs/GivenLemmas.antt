@@ -18,10 +18,11 @@ use Rattle.snmp_walk.specs.declared.end.WalkEnd.TheVariants as ending
 use Rattle.snmp_walk.specs.declared.rows.Step.TheVariants as step
 use Rattle.snmp_walk.proofs.StandingLemmas.{Small, taken_any, rising_answers, taken, part_of_stage, part_of_step, waiting}
 use Rattle.snmp_walk.proofs.{CaseLemmas.EndsEmpty, CaseLemmas.ends_empty, FactLemmas.given_facts, FreshLemmas.fresh_stands, FreshLemmas.lawful_reply}
-use Rattle.snmp_walk.proofs.{JoinLemmas.after_precedes, MemberLemmas.one_append, PartLemmas.part_front, SendLemmas.before_more}
+use Rattle.snmp_walk.proofs.{JoinLemmas.after_precedes, MemberLemmas.one_append, PartLemmas.part_front, HonestLemmas.before_more, HonestLemmas.lower_reply}
 use Rattle.snmp_walk.proofs.{RowLemmas.views_answer, HonestLemmas.any_reply, HonestLemmas.error_or_none}
 use Rattle.snmp_walk.proofs.JudgedLemmas.{only, response_to_decided}
-use Rattle.snmp_walk.proofs.NetworkLemmas.{tried-append, in_turn-append, all_tries, answered_tries}
+use Rattle.snmp_walk.proofs.NetworkLemmas.{tried-append, in_turn-append, all_tries, answered_tries, begins_both, begins_tries}
+use Rattle.snmp_walk.specs.{Network.BeginWithSend}
 
 module _ {L : Type 0} (codec : Codec) (facts : LinkFacts L) (tries : ℕ) (first : Walker) (fresh : IsFresh first) (link after : L) where
   abbrev Tried : Walker → L → Outcome → L → Type 0
@@ -48,6 +49,22 @@ module _ {L : Type 0} (codec : Codec) (facts : LinkFacts L) (tries : ℕ) (first
       let b = read_events a.read.readings first w link a.now a.read.are_read in
       let c = tried_events w a.now after o a.tried in
       (b.0 ++ c.0, in_turn-append (Happens facts) b.0 c.0 link a.now after b.1 c.1)
+
+  begins_tried : (w : Walker) (old new : L) (o : Outcome) (h : Tried w old o new) → BeginWithSend (tried_events w old new o h).0
+  begins_tried w old new o h = begins_tries facts (canon (request_of w)) (IsNotAwaited w.community w.id) tries old new o h
+
+  begins_read : (readings : List Reading) (v w : Walker) (old now : L) (h : AreRead Tried v old readings w now)
+      → BeginWithSend (read_events readings v w old now h).0
+  begins_read [] v w old now h = tt
+  begins_read (r ∷ more) v w old now h =
+      begins_both (tried_events v old h.2 (outcome.answered r.datagram) h.3).0 (read_events more h.1 w h.2 now h.5).0
+      (begins_tried v old h.2 (outcome.answered r.datagram) h.3) (begins_read more h.1 w h.2 now h.5)
+
+  begins_asked : (Sent : Walker → Type 0) (rows : List VarBind) (o : Outcome) (w : Walker) (more : List VarBind) (a : Asked Sent rows o w more)
+      → BeginWithSend (asked_events Sent rows o w more a).0
+  begins_asked Sent rows o w more a =
+      begins_both (read_events a.read.readings first w link a.now a.read.are_read).0 (tried_events w a.now after o a.tried).0
+      (begins_read a.read.readings first w link a.now a.read.are_read) (begins_tried w a.now after o a.tried)
 
   -- How a run ended, after these rows and the one refused: as where replies of the agents are all that came, or by an error, where errors may come too.
   abbrev IsHonestEnd : Agents → (rows refused : List VarBind) → WalkEnd → Type 0
@@ -93,12 +110,11 @@ module _ {L : Type 0} (codec : Codec) (facts : LinkFacts L) (tries : ℕ) (first
         ] in
         elim (sooner sent_it.0 sent_it.1) [
           | inl same ↦ subst (λ (d : List ℕ). IsReplyFrom agents d r ⊎ IsResponseFrom agents d m) same sent_it.2
-          | inr v ↦
-              let other = subst (λ (d : List ℕ). IsReplyFrom agents d r ⊎ IsResponseFrom agents d m) v.4 sent_it.2 in
-              let same : pos v.0.id ≡ pos w.id =
-              sym (any_reply codec agents good v.0 v.1 v.2 r m spelt other).response.id_is ∙ response.id_is in
-              let equal : v.0.id ≡ w.id = cc in
-              absurd (omega (arith, equal, v.3))
+          | inr low ↦
+              let l = lower_reply codec agents good w.id sent_it.0 r m low spelt sent_it.2 in
+              let same : pos l.0 ≡ pos w.id = sym l.1 ∙ response.id_is in
+              let equal : l.0 ≡ w.id = cc in
+              absurd (omega (arith, equal, l.2))
         ]
 
     -- what a reply that was read did, given a step that is no stray: it ended the walk where it said an error
@@ -168,8 +184,8 @@ module _ {L : Type 0} (codec : Codec) (facts : LinkFacts L) (tries : ℕ) (first
             events = s.events ++ (a.1.0 ++ came tt r ∷ []);
             earlier = λ d one. elim (one_append (tried s.events) (tried (a.1.0 ++ came tt r ∷ [])) d
                 (subst (λ (ds : List (List ℕ)). OneOf ds d) (tried-append s.events (a.1.0 ++ came tt r ∷ [])) one)) [
-                  | inl o ↦ before_more w u walker (waits w given s) less d (s.earlier d o)
-                  | inr o ↦ before_more w u walker (waits w given s) less d (inl (by_front a.1.0 a.1.2 r d o))
+                  | inl o ↦ before_more w u walker less d (s.earlier d o)
+                  | inr o ↦ before_more w u walker less d (inl (by_front a.1.0 a.1.2 r d o))
                 ];
             honestly = on.honestly;
             anyhow = on.anyhow.2;
@@ -282,6 +298,7 @@ module _ {L : Type 0} (codec : Codec) (facts : LinkFacts L) (tries : ℕ) (first
       record {
         events = e.0;
         in_turn = e.1;
+        begins = begins_asked Sent rows o w more a;
         replied = λ agents good replies.
             let h : IsHonestEnd agents rows refused end = elim (honestly agents good (λ m. Unit {0}) ⊥ (λ m. inl tt) replies) [
               | inl honest ↦ honest

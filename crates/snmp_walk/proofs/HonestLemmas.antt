@@ -1,12 +1,13 @@
 -- An agent's reply to the waiting request is an honest one.
 use Rattle.std.proofs.{lemmas.Grind.common_steps, lemmas.Int.ints, lemmas.List.nil_from_length}
 use Rattle.std.proofs.Common.{◌≡◌, ◌≢◌, ◌≤ℤ◌, ◌⊎◌, inl, inr, ℕ, zero, ◌^◌, ◌<◌, ◌≤◌, List, [], ◌∷◌, ◌++◌, length, refl, sym, ◌∙◌, ap, subst, arith, ℤ}
-use Rattle.std.proofs.Common.{pos, negsuc, length-append, append-nil, true, false}
+use Rattle.std.proofs.Common.{pos, negsuc, length-append, append-nil, replicate, true, false}
 use Rattle.std.specs.{Prelude.FitsSigned, Prelude.unsigned_abs, Int.w32, List.list_any}
 use Rattle.snmp_wire.specs.declared.kind.Kind.TheVariants as kind
 use Rattle.snmp_wire.specs.{Message.VarBind, Message.Message, Message.null_value, Name.asking, Spelling.Spells, Canon.canon, Range.IsMessageInRange}
 use Rattle.snmp_walk.specs.{private.Codec.Codec, declared.mode.Method.Method, declared.mode.Phase.Phase, private.Taken.is_over, Judged.IsResponseTo}
 use Rattle.snmp_walk.specs.{Names.is_end, Run.IsFull, Run.IsFullReply, private.Heard.IsAsked, private.Heard.IsEarlier, Tries.IsNotAwaited}
+use Rattle.snmp_walk.specs.{private.Heard.IsSentBefore, Ran.AreOfLowerIds, Request.IsOfLowerId}
 use Rattle.snmp_walk.specs.{Tries.IsTried, declared.link.Link.Ghosts as LinkFacts, Responses.IsResponseFrom, Responses.MayRespond, Walker.Walker}
 use Rattle.snmp_walk.specs.{Walker.HasRange, Walker.IsMethod, Walker.IsWalker, Request.request_of, Request.request_kind, Request.request_repetitions}
 use Rattle.snmp_walk.specs.{Request.asked_for, Standing.IsChain, Standing.IsGetContent, Standing.IsLarge, Standing.IsReplyContent, Standing.IsReplyTo}
@@ -18,6 +19,7 @@ use Rattle.snmp_walk.specs.declared.mode.Method.TheVariants as method
 use Rattle.snmp_walk.specs.declared.mode.Phase.TheVariants as phase
 use Rattle.snmp_walk.specs.Link.{Agents, OneOf, agent_in, full_response, AreLawful, IsNextFrom, IsGotFrom, IsTooLarge, IsReplyFrom}
 use Rattle.snmp_walk.proofs.{RequestLemmas.name_short, RowLemmas.view_of, RoomLemmas.longer_full, LostLemmas.reply_of}
+use Rattle.snmp_walk.proofs.{MemberLemmas.one_append, MemberLemmas.one_same}
 use Rattle.snmp_walk.proofs.BulkLemmas.{IsOneBulk, one_bulk, chain_front, chain_by}
 use Rattle.snmp_walk.specs.Link as outcome
 use Rattle.snmp_walk.specs.Responses as sending
@@ -322,25 +324,91 @@ any_reply codec agents lawful w good waits reply m spelt (inr h) =
           (of_community codec (request_of w) ranged no_set agents m h) m (may_be codec (request_of w) ranged no_set agents m h);
     }
 
+-- ---- what was sent before
+
+lower_own : (q : Message) → IsMessageInRange q → (q.kind ≡ kind.SetRequest → ⊥) → (number next : ℕ) → q.id ≡ pos number → number < next
+    → (d : List ℕ) → d ≡ canon q → IsOfLowerId next d
+lower_own q ranged no_set number next id_is less d e = record {
+  request = q;
+  in_range = ranged;
+  no_set = no_set;
+  number = number;
+  id_is = id_is;
+  lower = less;
+  encoding = e;
+}
+
+lower_more : (id next : ℕ) (d : List ℕ) → id ≤ next → IsOfLowerId id d → IsOfLowerId next d
+lower_more id next d more low =
+    lower_own low.request low.in_range low.no_set low.number next low.id_is (omega (arith, low.lower, more)) d low.encoding
+
+pub all_lower_more : (sent : List (List ℕ)) (id next : ℕ) → id ≤ next → AreOfLowerIds sent id → AreOfLowerIds sent next
+all_lower_more sent id next more low d one = lower_more id next d more (low d one)
+
+-- sends of one request more
+pub all_lower_sent : (q : Message) → IsMessageInRange q → (q.kind ≡ kind.SetRequest → ⊥) → (number next : ℕ) → q.id ≡ pos number → number < next
+    → (sent after : List (List ℕ)) (times : ℕ) → after ≡ sent ++ replicate times (canon q) → AreOfLowerIds sent next → AreOfLowerIds after next
+all_lower_sent q ranged no_set number next id_is less sent after times e low d one =
+    elim (one_append sent (replicate times (canon q)) d (subst (λ (ds : List (List ℕ)). OneOf ds d) e one)) [
+      | inl before ↦ low d before
+      | inr now ↦ lower_own q ranged no_set number next id_is less d (one_same times (canon q) d now)
+    ]
+
+lower_before : (w : Walker) (next : ℕ) → IsWalker w → w.id < next → (d : List ℕ) → IsSentBefore w d → IsOfLowerId next d
+lower_before w next good less d (inl e) = lower_own (request_of w) (request_in_range w good) (set_phase w.phase w.method) w.id next refl less d e
+lower_before w next good less d (inr low) = lower_more w.id next d (omega (arith, less)) low
+
+pub before_more : (w v : Walker) → IsWalker w → w.id < v.id → (d : List ℕ) → IsSentBefore w d → IsSentBefore v d
+before_more w v good less d before = inr (lower_before w v.id good less d before)
+
+-- all that was sent, with the sends of the waiting request, has ids below the next
+pub all_lower_after : (w : Walker) (sent after : List (List ℕ)) (times next : ℕ) → IsWalker w → w.id < next
+    → after ≡ sent ++ replicate times (canon (request_of w)) → IsEarlier sent w → AreOfLowerIds after next
+all_lower_after w sent after times next good less e earlier =
+    all_lower_sent (request_of w) (request_in_range w good) (set_phase w.phase w.method) w.id next refl less sent after times e
+    (λ d one. lower_before w next good less d (earlier d one))
+
+pub earlier_more : (w v : Walker) (sent later : List (List ℕ)) (times : ℕ) → IsWalker w → w.id < v.id
+    → later ≡ sent ++ replicate times (canon (request_of w)) → IsEarlier sent w → IsEarlier later v
+earlier_more w v sent later times good less e h d one = grind (arith, common_steps, one_append, before_more, one_same)
+
+pub earlier_first : (sent : List (List ℕ)) (w : Walker) → AreOfLowerIds sent w.id → IsEarlier sent w
+earlier_first sent w low d one = inr (low d one)
+
 -- ---- what an honest reply is to the walk that waits for it
 
 -- by the one message that the octets spell
 pub one_spelt : Codec → (m n : Message) (octets : List ℕ) → Spells m octets → Spells n octets → m ≡ n
 one_spelt codec m n octets a b = (codec.one m n octets octets [] [] a b refl).0
 
--- where what was sent before are requests of this walk, the replies to the waiting one alone are awaited
+-- a reply to a request of a lower id has that id
+pub lower_reply : Codec → (agents : Agents) → AreLawful agents → (id : ℕ) (d r : List ℕ) (m : Message) → IsOfLowerId id d → Spells m r
+    → IsReplyFrom agents d r ⊎ IsResponseFrom agents d m → (n : ℕ) × (m.id ≡ pos n) × (n < id)
+lower_reply codec agents lawful id d r m low spelt (inl h) =
+    let a = answered_by codec low.request low.in_range low.no_set agents lawful r (subst (λ (x : List ℕ). IsReplyFrom agents x r) low.encoding h) in
+    (low.number, ap (λ (x : Message). x.id) (one_spelt codec m a.message r spelt a.spelt ∙ a.is) ∙ low.id_is, low.lower)
+lower_reply codec agents lawful id d r m low spelt (inr h) =
+    let from = subst (λ (x : List ℕ). IsResponseFrom agents x m) low.encoding h in
+    let is = form codec low.request low.in_range low.no_set agents m from (may_be codec low.request low.in_range low.no_set agents m from) in
+    (low.number, ap (λ (x : Message). x.id) is.3 ∙ low.id_is, low.lower)
+
+-- so it isn't awaited
+pub lower_not_awaited : Codec → (agents : Agents) → AreLawful agents → (community : List ℕ) (id : ℕ) (d r : List ℕ) → IsOfLowerId id d
+    → IsReplyFrom agents d r → IsNotAwaited community id r
+lower_not_awaited codec agents lawful community id d r low reply m spelt response =
+    let l = lower_reply codec agents lawful id d r m low spelt (inl reply) in
+    let same : pos l.0 ≡ pos id = sym l.1 ∙ response.id_is in
+    let equal : l.0 ≡ id = cc in
+    omega (arith, equal, l.2)
+
+-- where what was sent before are requests of lower ids, the replies to the waiting one alone are awaited
 pub asked_of : Codec → (agents : Agents) (sent : List (List ℕ)) (w : Walker) → AreLawful agents → IsWalker w → is_over w.phase ≡ false → IsEarlier sent w
     → IsAsked agents (IsNotAwaited w.community w.id) (canon (request_of w)) sent
 asked_of codec agents sent w lawful good waits earlier = record {
   own = λ octets reply other. let given = honest_reply codec agents lawful w good waits octets reply in other given.0 given.1 given.2.response;
   others = λ d one. elim (earlier d one) [
     | inl e ↦ inl e
-    | inr v ↦ inr (λ octets reply m spelt response.
-        let given = honest_reply codec agents lawful v.0 v.1 v.2 octets (subst (λ (x : List ℕ). IsReplyFrom agents x octets) v.4 reply) in
-        let same : pos v.0.id ≡ pos w.id =
-        sym given.2.response.id_is ∙ ap (λ (n : Message). n.id) (one_spelt codec given.0 m octets given.1 spelt) ∙ response.id_is in
-        let equal : v.0.id ≡ w.id = cc in
-        omega (arith, equal, v.3))
+    | inr low ↦ inr (λ octets reply. lower_not_awaited codec agents lawful w.community w.id d octets low reply)
   ];
 }
 

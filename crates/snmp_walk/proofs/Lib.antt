@@ -34,3 +34,4 @@ pub mod GetFactLemmas
 pub mod FreshLemmas
 pub mod NetworkLemmas
 mod GivenLemmas
+pub mod LooseLemmas

@@ -1,18 +1,21 @@
 -- What comes to a walk over a faithful network.
 use Rattle.std.proofs.Common.{◌≡◌, inl, inr, ℕ, List, [], ◌∷◌, ◌++◌, refl, sym, ◌∙◌, ap, subst, append_assoc, append-nil, flat_map, arith, length}
-use Rattle.std.proofs.Common.{map, Option, Some, None, Ok, take}
+use Rattle.std.proofs.Common.{map, Option, Some, None, Ok, Err, take}
+use Rattle.std.specs.Prelude.{Result}
 use Rattle.std.specs.{List.AllByRecursion, Prelude.IfSome, Prelude.IfNone}
 use Rattle.std.proofs.{lemmas.List.Elements.recursion_from_All, lemmas.List.Elements.All-nil, lemmas.Grind.common_steps}
 use Rattle.snmp_agent.specs.Event.{Event, came, silence, receive_failed, sent, send_failed, InTurn}
 use Rattle.snmp_agent.specs.Serving.{IsTurn, TurnDone, AreTurns}
+use Rattle.snmp_agent.specs.Reply.{IsReply, IsDropped}
 use Rattle.snmp_agent.specs.{declared.server.Turn.Turn, table.Table.MibView, Reply.Agent, declared.server.Served.Served}
 use Rattle.snmp_agent.specs.declared.server.Turn.TheVariants as turn
 use Rattle.snmp_wire.specs.{Message.Message, Message.VarBind, Spelling.Spells}
 use Rattle.snmp_walk.specs.Link.{Agents, OneOf, IsReplyFrom, agent_in, Outcome}
 use Rattle.snmp_walk.proofs.MemberLemmas.{one_left, one_there, split_at, one_append}
 use Rattle.snmp_walk.specs.Network.{Happening, at_walk, at_agents, of_walk, of_agents, tried, AreReplies, IsFaithful, Service, AreServices, AreServed}
-use Rattle.snmp_walk.specs.Network.{IsServedThen, event_of_got}
-use Rattle.snmp_walk.specs.{declared.link.Link.Ghosts as LinkFacts, Ran.IsWalkedOver, Walker.Walker, declared.end.WalkEnd.WalkEnd}
+use Rattle.snmp_walk.specs.Network.{event_of_got, requests_by, RepliesTo}
+use Rattle.snmp_walk.specs.{Traffic.Gives, Traffic.received, declared.end.LinkFault.LinkFault}
+use Rattle.snmp_walk.specs.{declared.link.Link.Ghosts as LinkFacts, Network.BeginWithSend, Ran.IsWalkedOver, Walker.Walker, declared.end.WalkEnd.WalkEnd}
 use Rattle.snmp_walk.specs.Link as outcome
 use Rattle.snmp_walk.specs.Tries.{InTurn, Happens, Sends, Brings, EndsTry, IsTry, AreTried}
 
@@ -164,6 +167,45 @@ pub in_turn-append : {L X : Type 0} (step : L → X → L → Type 0) (xs ys : L
 in_turn-append step [] ys old between new h k = subst (λ l. InTurn step l ys new) h k
 in_turn-append step (x ∷ xs) ys old between new h k = (h.0, h.1, in_turn-append step xs ys h.0 between new h.2 k)
 
+-- the first of these events is a send
+abbrev IsSendFirst : List (Event (Unit {0})) → Type 0
+IsSendFirst [] = ⊥
+IsSendFirst (sent peer d ∷ more) = Unit {0}
+IsSendFirst (send_failed peer d ∷ more) = Unit {0}
+IsSendFirst (_ ∷ more) = ⊥
+
+begins_of : (events : List (Event (Unit {0}))) → IsSendFirst events → BeginWithSend events
+begins_of [] h = absurd h
+begins_of (sent peer d ∷ more) h = tt
+begins_of (send_failed peer d ∷ more) h = tt
+begins_of (came peer d ∷ more) h = h
+begins_of (silence ∷ more) h = h
+begins_of (receive_failed ∷ more) h = h
+
+begins_on : (events more : List (Event (Unit {0}))) → IsSendFirst events → BeginWithSend (events ++ more)
+begins_on [] more h = absurd h
+begins_on (sent peer d ∷ events) more h = tt
+begins_on (send_failed peer d ∷ events) more h = tt
+begins_on (came peer d ∷ events) more h = h
+begins_on (silence ∷ events) more h = h
+begins_on (receive_failed ∷ events) more h = h
+
+pub begins_both : (events more : List (Event (Unit {0}))) → BeginWithSend events → BeginWithSend more → BeginWithSend (events ++ more)
+begins_both [] more h k = k
+begins_both (sent peer d ∷ events) more h k = tt
+begins_both (send_failed peer d ∷ events) more h k = tt
+begins_both (came peer d ∷ events) more h k = h
+begins_both (silence ∷ events) more h k = h
+begins_both (receive_failed ∷ events) more h k = h
+
+send_after : (events more : List (Event (Unit {0}))) → BeginWithSend events → IsSendFirst more → IsSendFirst (events ++ more)
+send_after [] more h k = k
+send_after (sent peer d ∷ events) more h k = tt
+send_after (send_failed peer d ∷ events) more h k = tt
+send_after (came peer d ∷ events) more h k = h
+send_after (silence ∷ events) more h k = h
+send_after (receive_failed ∷ events) more h k = h
+
 module _ {L : Type 0} (facts : LinkFacts L) (q : List ℕ) where
   -- this happened, and no other datagram than this one was sent in it
   abbrev pub Grows : L → L → Type 0
@@ -173,7 +215,14 @@ module _ {L : Type 0} (facts : LinkFacts L) (q : List ℕ) where
   grows_none old = ([], refl, λ d one. absurd one)
 
   pub grows_on : (old between new : L) → Grows old between → Grows between new → Grows old new
-  grows_on old between new a b = grind (arith, common_steps, in_turn-append, one_append, tried-append)
+  grows_on old between new a b = (
+    a.0 ++ b.0,
+    in_turn-append (Happens facts) a.0 b.0 old between new a.1 b.1,
+    λ d one. elim (one_append (tried a.0) (tried b.0) d (subst (λ (ds : List (List ℕ)). OneOf ds d) (tried-append a.0 b.0) one)) [
+      | inl o ↦ a.2 d o
+      | inr o ↦ b.2 d o
+    ],
+  )
 
   brought : (old new : L) (d : List ℕ) → Brings facts old d new → Grows old new
   brought old new d h = (came tt d ∷ [], (new, h.0, refl), λ e one. absurd one)
@@ -201,7 +250,7 @@ module _ {L : Type 0} (facts : LinkFacts L) (q : List ℕ) where
         grows_on old t.received.last new (up_to old new strays o t) (over_try (length strays) t.received.last new o t.received.over)
 
     pub missed_tries : (received : List (List (List ℕ))) (old new : L) → InTurn (IsTry facts Other q outcome.missed) old received new → Grows old new
-    missed_tries [] old new h = subst (λ (l : L). Grows old l) (sym h) (grows_none old)
+    missed_tries [] old new h = ([], h, λ d one. absurd one)
     missed_tries (strays ∷ more) old new h =
         grows_on old h.0 new (one_try old h.0 strays outcome.missed h.1) (missed_tries more h.0 new h.2)
 
@@ -227,6 +276,29 @@ module _ {L : Type 0} (facts : LinkFacts L) (q : List ℕ) where
         let g = missed_tries missed.received old before missed.are_missed in
         (g.0 ++ send_failed tt q ∷ [], in_turn-append (Happens facts) g.0 (send_failed tt q ∷ []) old before new g.1 (new, fails.0, refl))
 
+    -- they begin with a send
+    begins_missed : (received : List (List (List ℕ))) (old new : L) (h : InTurn (IsTry facts Other q outcome.missed) old received new)
+        → BeginWithSend (missed_tries received old new h).0
+    unfolding missed_tries grows_on one_try up_to sent_once
+    begins_missed [] old new h = tt
+    begins_missed (strays ∷ more) old new h = tt
+
+    pub begins_tries : (tries : ℕ) (old new : L) (o : Outcome) (h : AreTried facts Other q tries old o new) → BeginWithSend (all_tries tries old new o h).0
+    unfolding answered_tries missed_tries grows_on one_try up_to sent_once
+    begins_tries tries old new outcome.missed h = begins_missed h.received old new h.are_missed
+    begins_tries tries old new (outcome.answered r) (earlier, few, before, missed, inl (strays, t)) =
+        let m = missed_tries missed.received old before missed.are_missed in
+        let u = up_to before new strays (outcome.answered r) t in
+        begins_on (m.0 ++ u.0) (came tt r ∷ []) (send_after m.0 u.0 (begins_missed missed.received old before missed.are_missed) tt)
+    begins_tries tries old new (outcome.answered r) (earlier, few, before, missed, inr (same, fails)) = let never : ⊥ = cc in absurd never
+    begins_tries tries old new outcome.cut_off (earlier, few, before, missed, inl (strays, t)) =
+        let m = missed_tries missed.received old before missed.are_missed in
+        let u = one_try before new strays outcome.cut_off t in
+        begins_of (m.0 ++ u.0) (send_after m.0 u.0 (begins_missed missed.received old before missed.are_missed) tt)
+    begins_tries tries old new outcome.cut_off (earlier, few, before, missed, inr (is, fails)) =
+        let m = missed_tries missed.received old before missed.are_missed in
+        begins_of (m.0 ++ send_failed tt q ∷ []) (send_after m.0 (send_failed tt q ∷ []) (begins_missed missed.received old before missed.are_missed) tt)
+
 -- ---- the agent's turns and the walk's receives, on one network
 
 module _ {N Peer : Type 0} (happens : N → Event Peer → N → Type 0) (carries : N → Happening Peer → N → Type 0)
@@ -235,9 +307,9 @@ module _ {N Peer : Type 0} (happens : N → Event Peer → N → Type 0) (carrie
   turns_carried [] old new h = h
   turns_carried (e ∷ events) old new h = (h.0, at_end old h.0 e h.1, turns_carried events h.0 new h.2)
 
-  pub then_is : (agent : Agent) (e : Event (Unit {0})) (turns : ℕ) (served : Served) (events : List (Event Peer)) (old between new : N)
-      → AreTurns agent turns served events → InTurn happens old events between → carries between (at_walk e) new → IsServedThen carries agent old e new
-  then_is agent e turns served events old between new are first last = grind (arith, common_steps, in_turn-append, turns_carried)
+  pub chain_of : (events : List (Event Peer)) (e : Event (Unit {0})) (old between new : N) → InTurn happens old events between
+      → carries between (at_walk e) new → InTurn carries old (map at_agents events ++ at_walk e ∷ []) new
+  chain_of events e old between new first last = grind (arith, common_steps, in_turn-append, turns_carried)
 
 pub by_some : (got : Option ℕ) (buffer : List ℕ) (P : Event (Unit {0}) → Type 0) → P (event_of_got (Ok got) buffer) → IfSome got (λ n. P (came tt (take n buffer)))
 by_some None buffer P h = tt
@@ -259,7 +331,13 @@ module _ {Peer : Type 0} where
 no_turns : {Peer : Type 0} (agent : Agent) → AreTurns {Peer = Peer} agent 0 (record { replies = 0; dropped = 0; idle = 0; faults = 0 }) []
 no_turns {Peer} agent = record { done = []; each = All-nil (λ (u : TurnDone Peer). IsTurn agent u.turn u.events); count = refl; by_kind = refl; in_order = refl }
 
-module _ {W N Peer : Type 0} (net : W → N) (agent_at : W → Agent) (carries : N → Happening Peer → N → Type 0) where
+-- the agent had so many turns, and then this happened at the walk's end
+abbrev pub IsServedThen : {N Peer : Type 0} → (carries : N → Happening Peer → N → Type 0) → Agent → (turns : ℕ) → N → Event (Unit {0}) → N → Type 0
+IsServedThen {N} {Peer} carries agent turns old e new =
+    (served : Served) × (events : List (Event Peer)) × AreTurns agent turns served events
+    × InTurn carries old (map at_agents events ++ at_walk e ∷ []) new
+
+module _ {W N Peer : Type 0} (net : W → N) (agent_at : W → Agent) (carries : N → Happening Peer → N → Type 0) (turn_count : N → ℕ) where
   -- what one event at the link is on the network
   record Part (old new : W) (e : Event (Unit {0})) : Type 0 where
     same : agent_at new ≡ agent_at old
@@ -288,35 +366,37 @@ module _ {W N Peer : Type 0} (net : W → N) (agent_at : W → Agent) (carries :
     are_turns = no_turns (agent_at old);
   }
 
-  then_part : (old new : W) (e : Event (Unit {0})) → (agent_at new ≡ agent_at old) × IsServedThen carries (agent_at old) (net old) e (net new) → Part old new e
-  then_part old new e (same, (turns, served, events, are, chain)) = record {
+  then_part : (old new : W) (e : Event (Unit {0}))
+      → (agent_at new ≡ agent_at old) × IsServedThen carries (agent_at old) (turn_count (net old)) (net old) e (net new) → Part old new e
+  then_part old new e (same, (served, events, are, chain)) = record {
     same = same;
     run = map at_agents events ++ at_walk e ∷ [];
     chain = chain;
     seen = of_walk-append (map at_agents events) (at_walk e ∷ []) ∙ ap (λ es. es ++ e ∷ []) (walk_of_agents events);
-    turns = turns;
+    turns = turn_count (net old);
     served = served;
-    are_turns = subst (AreTurns (agent_at old) turns served)
+    are_turns = subst (AreTurns (agent_at old) (turn_count (net old)) served)
         (sym (of_agents-append (map at_agents events) (at_walk e ∷ []) ∙ append-nil (of_agents (map at_agents events)) ∙ agents_of_agents events)) are;
   }
 
 module _ {W N Peer : Type 0} (facts : LinkFacts W) (net : W → N) (agent_at : W → Agent) (carries : N → Happening Peer → N → Type 0)
+    (turn_count : N → ℕ)
     (sends : (old new : W) (d : List ℕ) → facts.sends old d new → (agent_at new ≡ agent_at old) × carries (net old) (at_walk (sent tt d)) (net new))
     (fails : (old new : W) (d : List ℕ) → facts.send_fails old d new → (agent_at new ≡ agent_at old) × carries (net old) (at_walk (send_failed tt d)) (net new))
     (brings : (old new : W) (d : List ℕ) → facts.brings old d new
-    → (agent_at new ≡ agent_at old) × IsServedThen carries (agent_at old) (net old) (came tt d) (net new))
-    (silent : (old new : W) → facts.is_silent old new → (agent_at new ≡ agent_at old) × IsServedThen carries (agent_at old) (net old) silence (net new))
+    → (agent_at new ≡ agent_at old) × IsServedThen carries (agent_at old) (turn_count (net old)) (net old) (came tt d) (net new))
+    (silent : (old new : W) → facts.is_silent old new → (agent_at new ≡ agent_at old) × IsServedThen carries (agent_at old) (turn_count (net old)) (net old) silence (net new))
     (receives : (old new : W) → facts.receive_fails old new
-    → (agent_at new ≡ agent_at old) × IsServedThen carries (agent_at old) (net old) receive_failed (net new)) where
-  part : (old new : W) (e : Event (Unit {0})) → Happens facts old e new → Part net agent_at carries old new e
-  part old new (sent p d) h = once net agent_at carries old new (sent p d) (sends old new d h)
-  part old new (send_failed p d) h = once net agent_at carries old new (send_failed p d) (fails old new d h)
-  part old new (came p d) h = then_part net agent_at carries old new (came p d) (brings old new d h)
-  part old new silence h = then_part net agent_at carries old new silence (silent old new h)
-  part old new receive_failed h = then_part net agent_at carries old new receive_failed (receives old new h)
+    → (agent_at new ≡ agent_at old) × IsServedThen carries (agent_at old) (turn_count (net old)) (net old) receive_failed (net new)) where
+  part : (old new : W) (e : Event (Unit {0})) → Happens facts old e new → Part net agent_at carries turn_count old new e
+  part old new (sent p d) h = once net agent_at carries turn_count old new (sent p d) (sends old new d h)
+  part old new (send_failed p d) h = once net agent_at carries turn_count old new (send_failed p d) (fails old new d h)
+  part old new (came p d) h = then_part net agent_at carries turn_count old new (came p d) (brings old new d h)
+  part old new silence h = then_part net agent_at carries turn_count old new silence (silent old new h)
+  part old new receive_failed h = then_part net agent_at carries turn_count old new receive_failed (receives old new h)
 
   pub whole : (agents : Agents) (view : MibView) → OneOf agents.tables view → (events : List (Event (Unit {0}))) (old new : W)
-      → agent_at old ≡ agent_in agents view → InTurn (Happens facts) old events new → Whole net agent_at carries agents old new events
+      → agent_at old ≡ agent_in agents view → InTurn (Happens facts) old events new → Whole net agent_at carries turn_count agents old new events
   whole agents view one [] old new is h = grind (arith, common_steps)
   whole agents view one (e ∷ events) old new is h =
       let p = part old h.0 e h.1 in
@@ -336,14 +416,61 @@ module _ {W N Peer : Type 0} (facts : LinkFacts W) (net : W → N) (agent_at : W
 -- all that happened at a link in a walk
 pub all_of : {W N Peer : Type 0} {facts : LinkFacts W} {link after : W} {tries : ℕ} {first : Walker} {given refused : List VarBind} {end : WalkEnd}
     → (w : IsWalkedOver facts link after tries first given refused end) (net : W → N) (agent_at : W → Agent) (carries : N → Happening Peer → N → Type 0)
-    → ((old new : W) (d : List ℕ) → facts.sends old d new → (agent_at new ≡ agent_at old) × carries (net old) (at_walk (sent tt d)) (net new))
+    (turn_count : N → ℕ) → ((old new : W) (d : List ℕ) → facts.sends old d new → (agent_at new ≡ agent_at old) × carries (net old) (at_walk (sent tt d)) (net new))
     → ((old new : W) (d : List ℕ) → facts.send_fails old d new → (agent_at new ≡ agent_at old) × carries (net old) (at_walk (send_failed tt d)) (net new))
     → ((old new : W) (d : List ℕ) → facts.brings old d new
-    → (agent_at new ≡ agent_at old) × IsServedThen carries (agent_at old) (net old) (came tt d) (net new))
-    → ((old new : W) → facts.is_silent old new → (agent_at new ≡ agent_at old) × IsServedThen carries (agent_at old) (net old) silence (net new))
+    → (agent_at new ≡ agent_at old) × IsServedThen carries (agent_at old) (turn_count (net old)) (net old) (came tt d) (net new))
+    → ((old new : W) → facts.is_silent old new → (agent_at new ≡ agent_at old) × IsServedThen carries (agent_at old) (turn_count (net old)) (net old) silence (net new))
     → ((old new : W) → facts.receive_fails old new
-    → (agent_at new ≡ agent_at old) × IsServedThen carries (agent_at old) (net old) receive_failed (net new))
+    → (agent_at new ≡ agent_at old) × IsServedThen carries (agent_at old) (turn_count (net old)) (net old) receive_failed (net new))
     → (agents : Agents) (view : MibView) → OneOf agents.tables view
-    → agent_at link ≡ agent_in agents view → Whole net agent_at carries agents link after w.happened.events
-all_of {W} {N} {Peer} {facts} {link} {after} w net agent_at carries sends fails brings silent receives agents view one is =
+    → agent_at link ≡ agent_in agents view → Whole net agent_at carries turn_count agents link after w.happened.events
+all_of {W} {N} {Peer} {facts} {link} {after} w net agent_at carries turn_count sends fails brings silent receives agents view one is =
     grind (arith, common_steps, whole)
+
+-- ---- what a network stores
+
+-- nothing is sent by the agent's turns, nor by a receive of the walk
+pub got_none : (Peer : Type 0) (result : Result (Option ℕ) LinkFault) (buffer : List ℕ)
+    → requests_by {Peer = Peer} (at_walk (event_of_got result buffer)) ≡ []
+got_none Peer (Ok (Some n)) buffer = refl
+got_none Peer (Ok None) buffer = refl
+got_none Peer (Err e) buffer = refl
+
+sent_by_agents : {Peer : Type 0} (events : List (Event Peer)) (e : Event (Unit {0})) → requests_by {Peer = Peer} (at_walk e) ≡ []
+    → flat_map requests_by (map at_agents events ++ at_walk e ∷ []) ≡ []
+sent_by_agents {Peer} [] e none = append-nil (requests_by {Peer = Peer} (at_walk e)) ∙ none
+sent_by_agents {Peer} (f ∷ events) e none = sent_by_agents {Peer = Peer} events e none
+
+module _ {N Peer : Type 0} (carries : N → Happening Peer → N → Type 0) (sent_of : N → List (List ℕ))
+    (sending : (old new : N) (e : Happening Peer) → carries old e new → sent_of new ≡ sent_of old ++ requests_by e) where
+  all_sent : (run : List (Happening Peer)) (old new : N) → InTurn carries old run new → sent_of new ≡ sent_of old ++ flat_map requests_by run
+  all_sent [] old new h = ap sent_of h ∙ sym (append-nil (sent_of old))
+  all_sent (e ∷ run) old new h =
+      all_sent run h.0 new h.2 ∙ ap (λ (ds : List (List ℕ)). ds ++ flat_map requests_by run) (sending old h.0 e h.1)
+      ∙ append_assoc (sent_of old) (requests_by e) (flat_map requests_by run)
+
+  -- a receive leaves it as it was
+  pub same_sent : (events : List (Event Peer)) (e : Event (Unit {0})) (old new : N) → requests_by {Peer = Peer} (at_walk e) ≡ []
+      → InTurn carries old (map at_agents events ++ at_walk e ∷ []) new → sent_of new ≡ sent_of old
+  same_sent events e old new none h =
+      all_sent (map at_agents events ++ at_walk e ∷ []) old new h ∙ ap (λ (ds : List (List ℕ)). sent_of old ++ ds) (sent_by_agents {Peer = Peer} events e none)
+      ∙ append-nil (sent_of old)
+
+-- what holds of a network still holds after all that happens on it
+pub still_so : {N Peer : Type 0} (carries : N → Happening Peer → N → Type 0) (Holds : N → Type 0)
+    → ((old new : N) (e : Happening Peer) → Holds old → carries old e new → Holds new)
+    → (run : List (Happening Peer)) (old new : N) → Holds old → InTurn carries old run new → Holds new
+still_so carries Holds on [] old new it h = subst Holds (sym h) it
+still_so carries Holds on (e ∷ run) old new it h = still_so carries Holds on run h.0 new (on old h.0 e it h.1) h.2
+
+-- what the agents return for the latest datagram is what their one agent replies to it
+pub gives_of : (agents : Agents) (view : MibView) → OneOf agents.tables view → (agent : Agent) → agent ≡ agent_in agents view
+    → (request : Option (List ℕ)) (got : Option ℕ) (buffer : List ℕ) → RepliesTo agent request (event_of_got (Ok got) buffer)
+    → Gives agents request (received got buffer)
+gives_of agents view one agent is request (Some n) buffer h =
+    subst (λ (q : Option (List ℕ)). Gives agents q (Some (take n buffer))) (sym h.1) (view, one, subst (λ (a : Agent). IsReply a h.0 (take n buffer)) is h.2)
+gives_of agents view one agent is request None buffer (inl none) = subst (λ (q : Option (List ℕ)). Gives agents q None) (sym none) refl
+gives_of agents view one agent is request None buffer (inr h) =
+    subst (λ (q : Option (List ℕ)). Gives agents q None) (sym h.2)
+    (record { view = view; one = one; why = h.1; dropped = subst (λ (a : Agent). IsDropped a h.0 h.1) is h.3 })

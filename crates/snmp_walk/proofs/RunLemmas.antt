@@ -4,6 +4,7 @@ use Rattle.std.proofs.Common.{◌≡◌, inl, inr, ℕ, ◌+◌, ◌^◌, ◌<�
 use Rattle.std.proofs.Common.{append_assoc, Option, Some, None, replicate}
 use Rattle.std.specs.Prelude.{◌≢◌, not, Result, Ok, Err}
 use Rattle.snmp_wire.specs.{Canon.canon, Message.VarBind, Message.Message, Spelling.Spells}
+use Rattle.std.proofs.Common.{length-append}
 use Rattle.snmp_walk.specs.declared.mode.Phase.TheVariants as phase
 use Rattle.snmp_walk.specs.{declared.end.WalkEnd.WalkEnd, declared.end.SinkFault.SinkFault, declared.rows.Step.Step, Walker.Walker, Walker.IsWalker}
 use Rattle.snmp_walk.specs.{Request.request_of, Judged.MeansBy, private.Taken.awaits, private.Taken.is_over, private.Taken.take_of, Link.Agents}
@@ -11,7 +12,7 @@ use Rattle.snmp_walk.specs.{Link.AreLawful, Link.IsNextFrom, Link.IsGotFrom, Lin
 use Rattle.snmp_walk.specs.{Run.IsFullReply, Read.rows_in, Read.Delivers, Read.IsReadAs, Read.Tells, Read.all_given, Read.is_refused}
 use Rattle.snmp_walk.specs.{private.Course.Heard, private.Course.heard_of, declared.tries.Course.Course, declared.end.LinkFault.LinkFault}
 use Rattle.snmp_walk.specs.{private.Heard.IsEarlier, private.Codec.Codec, declared.link.Link.Ghosts as LinkFacts, Moved.IsMovedByTries, Ran.IsRun}
-use Rattle.snmp_walk.specs.{Ran.IsWalkedOver, Ran.IsFreshAndHonest, Tries.AreTried, Tries.IsNotAwaited, Tries.IsTried}
+use Rattle.snmp_walk.specs.{Ran.IsWalkedOver, Ran.AreOfLowerIds, Ran.IsHonestFrom, Tries.AreTried, Tries.IsNotAwaited, Tries.IsTried}
 use Rattle.snmp_walk.specs.declared.end.WalkEnd.TheVariants as ending
 use Rattle.snmp_walk.specs.declared.rows.Step.TheVariants as step
 use Rattle.snmp_walk.specs.Standing.{IsPartOfWalk, Reaches, Ends, Advances, Rises, Named, IsReplyEnd, CountsAll, AdvancesAnyhow, IsReplyTo}
@@ -29,7 +30,8 @@ use Rattle.snmp_walk.proofs.{FullLemmas.fast_on, SinkLemmas.given-append, JoinLe
 use Rattle.snmp_walk.proofs.MoveLemmas.{sent_all, IsSent, moved_of, sent_of, tries_as, Suits, agrees}
 use Rattle.snmp_walk.proofs.StandingLemmas.{taken, part_of_stage, part_of_step, waiting, Small, taken_any, rising_answers}
 use Rattle.snmp_walk.proofs.FactLemmas.{counted_few, facts as facts_of, send_facts}
-use Rattle.snmp_walk.proofs.SendLemmas.{Sends, sends_more, earlier_first, earlier_more, HasMoved, moved_first, moved_more, moved_fine}
+use Rattle.snmp_walk.proofs.SendLemmas.{Sends, sends_more, HasMoved, moved_first, moved_more, moved_fine}
+use Rattle.snmp_walk.proofs.{HonestLemmas.all_lower_after, HonestLemmas.earlier_first, HonestLemmas.earlier_more, SwiftLemmas.few_asked}
 
 -- what replies end with leaves the sink as it was given
 took_reply : {S : Type 0} (takes : S → VarBind → Result (Unit {0}) SinkFault → S → Type 0) (before after : S) (rows : List VarBind) (why : WalkEnd)
@@ -76,9 +78,9 @@ module _ {S L : Type 0} (facts : LinkFacts L) (takes : S → VarBind → Result 
     pub stands : Reaches Rises Named first w given
     pub read : HasRead (IsTried facts tries) first link w here given
     pub has_moved : HasMoved facts link tries first given w.id ⊥ here
-    pub honestly : IsFreshAndHonest facts link → Reaches (IsNextFrom (facts.agents link)) (IsGotFrom (facts.agents link)) first w given
-    pub earlier : facts.keeps link → (facts.traffic link).sent ≡ [] → IsEarlier (facts.traffic here).sent w
-    pub fast : IsFreshAndHonest facts link → IsFast (IsNextFrom (facts.agents link)) (IsGotFrom (facts.agents link))
+    pub honestly : IsHonestFrom facts first.id link → Reaches (IsNextFrom (facts.agents link)) (IsGotFrom (facts.agents link)) first w given
+    pub earlier : facts.keeps link → AreOfLowerIds (facts.traffic link).sent first.id → IsEarlier (facts.traffic here).sent w
+    pub fast : IsHonestFrom facts first.id link → IsFast (IsNextFrom (facts.agents link)) (IsGotFrom (facts.agents link))
         (AreRoomy (facts.agents link) has_moved.by.requests) first given w.id w.phase
 
   pub runs_first : IsFresh first → Runs link first before
@@ -122,7 +124,7 @@ module _ {S L : Type 0} {facts : LinkFacts L} {takes : S → VarBind → Result 
   abbrev Tried : Outcome → Type 0
   Tried what = IsTried facts tries w here what after
 
-  laws : IsFreshAndHonest facts link → AreLawfulReplies Next Got
+  laws : IsHonestFrom facts first.id link → AreLawfulReplies Next Got
   laws h = views_answer agents (lawful link h.0).views
 
   waits : is_over w.phase ≡ false
@@ -137,7 +139,7 @@ module _ {S L : Type 0} {facts : LinkFacts L} {takes : S → VarBind → Result 
   tried_by {q} {what} {other} is same h = grind (arith, common_steps)
 
   -- the link is honest still, and what was sent was so by this walk
-  asked : IsFreshAndHonest facts link → facts.honest here × IsEarlier (facts.traffic here).sent w
+  asked : IsHonestFrom facts first.id link → facts.honest here × IsEarlier (facts.traffic here).sent w
   asked h = (r.has_moved.by.moved.honest h.0, r.earlier (keeping link h.0) h.1)
 
   moves : (what : Outcome) {failed : Type 0} → (what ≡ outcome.cut_off → failed) → (failed → what ≡ outcome.cut_off) → Tried what
@@ -158,12 +160,12 @@ module _ {S L : Type 0} {facts : LinkFacts L} {takes : S → VarBind → Result 
     any = taken_any first w r.given (after_precedes codec) m
         (and_from (not (is_over w.phase)) (awaits w.community w.id m) (ap not waits) awaited) r.stands
 
-    honest_reply : IsFreshAndHonest facts link → IsReplyTo Next Got (IsTooLarge agents) w m × IsFullReply agents w m
+    honest_reply : IsHonestFrom facts first.id link → IsReplyTo Next Got (IsTooLarge agents) w m × IsFullReply agents w m
     honest_reply h =
         subst (λ (a : Agents). IsReplyTo (IsNextFrom a) (IsGotFrom a) (IsTooLarge a) w m × IsFullReply a w m) r.has_moved.by.moved.agents
         (from_of facts keeping codec tries w here after (lawful here) good waits m d tried spelt ((response_to_decided w.community w.id m).0 awaited) (asked h).0 (asked h).1)
 
-    honest_step : IsFreshAndHonest facts link → Advances Next Got (IsTooLarge agents) first w r.given (take_of w m).0 (take_of w m).1
+    honest_step : IsHonestFrom facts first.id link → Advances Next Got (IsTooLarge agents) first w r.given (take_of w m).0 (take_of w m).1
     honest_step h = taken Next Got (IsTooLarge agents) (laws h) first r.given w m (r.honestly h) (honest_reply h).0
 
     -- one more turn
@@ -173,7 +175,7 @@ module _ {S L : Type 0} {facts : LinkFacts L} {takes : S → VarBind → Result 
         let x = sent_on (outcome.answered d) tried in
         let stood = subst (λ (u : Walker). AdvancesAnyhow first w r.given (step.Rows rows) u) (sym f)
         (subst (λ (st : Step). AdvancesAnyhow first w r.given st (take_of w m).1) e any) in
-        let on : IsFreshAndHonest facts link → Reaches Next Got first v (r.given ++ rows) =
+        let on : IsHonestFrom facts first.id link → Reaches Next Got first v (r.given ++ rows) =
         λ h. subst (λ (u : Walker). Reaches Next Got first u (r.given ++ rows)) (sym f)
         (subst (λ (st : Step). Advances Next Got (IsTooLarge agents) first w r.given st (take_of w m).1) e (honest_step h)) in
         let tries_of = moves (outcome.answered d) (λ e. let never : ⊥ = cc in never) (λ f. absurd f) tried in
@@ -188,7 +190,7 @@ module _ {S L : Type 0} {facts : LinkFacts L} {takes : S → VarBind → Result 
                 (means_by codec.less w d m spelt _ _ (sym e) f);
             has_moved = record { by = moved.by; ids = stood.0 ∙ moved.ids; short = moved.short };
             honestly = on;
-            earlier = λ k none. earlier_more w v (facts.traffic here).sent (facts.traffic after).sent (x k).0 good waits (omega (arith, stood.0)) (x k).2
+            earlier = λ k none. earlier_more w v (facts.traffic here).sent (facts.traffic after).sent (x k).0 good (omega (arith, stood.0)) (x k).2
                 (r.earlier k none);
             fast = λ h.
                 let reply = honest_reply h in
@@ -211,7 +213,7 @@ module _ {S L : Type 0} {facts : LinkFacts L} {takes : S → VarBind → Result 
   last_sent what end suits tried keeps = grind (arith, common_steps, sent_on, agrees)
 
   -- what is known where no reply came
-  no_reply : Tried outcome.missed → IsFreshAndHonest facts link → IsUnreplied w
+  no_reply : Tried outcome.missed → IsHonestFrom facts first.id link → IsUnreplied w
   no_reply tried h =
       let q : List ℕ = canon (request_of w) in
       let asked_here = asked_of codec (facts.agents here) (facts.traffic here).sent w (lawful here (asked h).0) good waits (asked h).1 in
@@ -232,7 +234,7 @@ module _ {S L : Type 0} {facts : LinkFacts L} {takes : S → VarBind → Result 
     part : IsPartOfWalk Rises Named first (all ++ refused)
     counted : CountsAll end all
     reason : IsEndOfRun (IsAskedLast (IsTried facts tries) (IsSentLast end) first link all after) refused end
-    honestly : IsFreshAndHonest facts link → IsPartOfWalk Next Got first (all ++ refused) × IsLawfulEnd agents IsUnreplied first all end
+    honestly : IsHonestFrom facts first.id link → IsPartOfWalk Next Got first (all ++ refused) × IsLawfulEnd agents IsUnreplied first all end
         × IsEndedBy agents IsUnreplied (IsLastSent tries end (facts.traffic after)) first all end
 
   module _ (what : Outcome) (end : WalkEnd) (suits : Suits what end) (tried : Tried what) where
@@ -249,7 +251,7 @@ module _ {S L : Type 0} {facts : LinkFacts L} {takes : S → VarBind → Result 
       tried = tried;
     }
 
-    ended_by : (more all : List VarBind) → all ≡ r.given ++ more → (h : IsFreshAndHonest facts link)
+    ended_by : (more all : List VarBind) → all ≡ r.given ++ more → (h : IsHonestFrom facts first.id link)
         → (IsReplyEnd end → Ends Next Got (IsTooLarge agents) first w all end) → BringsNone end more → (end ≡ ending.NoResponse → IsUnreplied w)
         → IsEndedBy agents IsUnreplied (IsLastSent tries end (facts.traffic after)) first all end
     ended_by more all parts h last none silent = record {
@@ -274,7 +276,7 @@ module _ {S L : Type 0} {facts : LinkFacts L} {takes : S → VarBind → Result 
         let a = agrees what end suits in
         let moved = moved_on rows (moves what a.0 a.1 tried) in
         let x = sent_on what tried in
-        let fine_in : IsFreshAndHonest facts link → (k : ℕ) → HasFew Next first k → IsReadyForAll (facts.ready link) tries k → end ≢ ending.Link =
+        let fine_in : IsHonestFrom facts first.id link → (k : ℕ) → HasFew Next first k → IsReadyForAll (facts.ready link) tries k → end ≢ ending.Link =
         λ h k bound ready. moved_fine facts tries first all (w.id + 1) moved k
         (omega (arith, few_in Next Got first k bound w r.given (r.honestly h), gets_one first.mode)) ready in
         record {
@@ -298,7 +300,7 @@ module _ {S L : Type 0} {facts : LinkFacts L} {takes : S → VarBind → Result 
                   are_tries = r.has_moved.by.are_tries;
                   ids = r.has_moved.ids;
                 } in
-                send_facts codec agents (IsFreshAndHonest facts link) (AreRoomy agents requests) tries (facts.traffic link) (facts.traffic after) first w all
+                send_facts codec agents (IsHonestFrom facts first.id link) (AreRoomy agents requests) tries (facts.traffic link) (facts.traffic after) first w all
                 r.given end fresh good
                 (sends_more tries (x k).0 first w r.given rows (facts.traffic link) (facts.traffic here) (facts.traffic after) good r.stands sends (x k).1 (x k).2)
                 (λ h.
@@ -313,6 +315,10 @@ module _ {S L : Type 0} {facts : LinkFacts L} {takes : S → VarBind → Result 
                 shown.0 shown.1 shown.2;
             ready = λ h k counts ready. fine_in h k (counted_few codec agents (lawful link h.0).views first fresh k counts) ready;
             moved = moved.by;
+            later = λ k low.
+                subst (AreOfLowerIds (facts.traffic after).sent) (omega (arith, moved.ids))
+                (all_lower_after w (facts.traffic here).sent (facts.traffic after).sent (x k).0 (w.id + 1) good (omega arith) (x k).2 (r.earlier k low));
+            few_of_rows = let few = few_asked Rises Named first w r.given r.stands in omega (arith, few, moved.ids, length-append r.given rows);
             happened = given_by codec facts tries first fresh link after (IsSentLast end) all done.refused end takes before t done.sink done.reason;
           };
         }
@@ -386,8 +392,8 @@ module _ {S L : Type 0} {facts : LinkFacts L} {takes : S → VarBind → Result 
   -- and without one
   ran_none : (what : Outcome) (why : WalkEnd) (suits : Suits what why) (tried : Tried what) → IsFresh first → (IsReplyEnd why → ⊥) → CountsAll why r.given
       → IsEndOfRun (IsAskedLast (IsTried facts tries) (IsSentLast why) first link r.given after) [] why → Took takes before r.given [] why s
-      → BringsNone why [] → (IsFreshAndHonest facts link → why ≡ ending.NoResponse → IsUnreplied w)
-      → (IsFreshAndHonest facts link → IsLawfulEnd agents IsUnreplied first r.given why)
+      → BringsNone why [] → (IsHonestFrom facts first.id link → why ≡ ending.NoResponse → IsUnreplied w)
+      → (IsHonestFrom facts first.id link → IsLawfulEnd agents IsUnreplied first r.given why)
       → Ran why s
   ran_none what why suits tried fresh none counts reason sink no_rows silent lawful_end =
       ran what why suits tried fresh [] s (subst (λ (g : List VarBind). IsOver g why s) (sym (append-nil r.given)) (record {

@@ -1,14 +1,14 @@
 -- What a run sends, request by request.
 use Rattle.std.proofs.{lemmas.Grind.common_steps, Math.Nat.mul-le-mul_left, Math.Nat.mul-le-mul_right, lemmas.List.length-replicate}
-use Rattle.std.proofs.Common.{◌≡◌, ◌⊎◌, inl, inr, ℕ, ◌+◌, ◌^◌, ◌<◌, ◌≤◌, false, List, [], ◌∷◌, ◌++◌, length, replicate, refl, sym, ◌∙◌, ap, subst}
+use Rattle.std.proofs.Common.{◌≡◌, ◌⊎◌, inl, inr, ℕ, ◌+◌, ◌^◌, ◌<◌, ◌≤◌, List, [], ◌∷◌, ◌++◌, length, replicate, refl, sym, ◌∙◌, ap, subst}
 use Rattle.std.proofs.Common.{arith, append-nil, append_assoc, length-append, ◌-◌, ◌*◌}
 use Rattle.snmp_wire.specs.{Message.VarBind, Canon.canon}
-use Rattle.snmp_walk.specs.{declared.mode.Phase.Phase, Trail.last_name, Walker.Walker, Walker.IsWalker, Request.request_of, private.Taken.is_over}
-use Rattle.snmp_walk.specs.{Link.OneOf, Traffic.Traffic, private.Heard.IsSentBefore, private.Heard.IsEarlier, Standing.IsStage, Standing.IsPaced}
+use Rattle.snmp_walk.specs.{declared.mode.Phase.Phase, Trail.last_name, Walker.Walker, Walker.IsWalker, Request.request_of}
+use Rattle.snmp_walk.specs.{Traffic.Traffic, Standing.IsStage, Standing.IsPaced}
 use Rattle.snmp_walk.specs.{Standing.Reaches, Standing.Rises, Standing.Named, Moves.octets_in, declared.link.Link.Ghosts as LinkFacts}
 use Rattle.snmp_walk.specs.declared.mode.Phase.TheVariants as phase
 use Rattle.snmp_walk.specs.Run.{Try, sent_by, IsNameIn, AsksFor, Asks, AreTries, IsEachSent}
-use Rattle.snmp_walk.proofs.MemberLemmas.{one_append, one_same}
+use Rattle.snmp_walk.proofs.MemberLemmas.{one_append}
 use Rattle.snmp_walk.specs.Moved.{IsMoved, IsMovedByTries, IsMovedByRequests}
 use Rattle.snmp_walk.proofs.MoveLemmas.{by_equal, moves_none, moves_on, octets-append, octets-replicate}
 
@@ -86,19 +86,6 @@ sends_more tries times first w given rows old now later good stands h few sent =
           (tries_more tries first given rows first.id h.requests h.are_tries) h.ids good.id few (asks_now first w given rows stands);
       ids = omega (arith, h.ids, length-append h.requests (t ∷ []));
     }
-
--- ---- what was sent before
-
-pub before_more : (w v : Walker) → IsWalker w → is_over w.phase ≡ false → w.id < v.id → (d : List ℕ) → IsSentBefore w d → IsSentBefore v d
-before_more w v good waits less d (inl e) = inr (w, good, waits, less, e)
-before_more w v good waits less d (inr u) = inr (u.0, u.1, u.2, omega (arith, u.3, less), u.4)
-
-pub earlier_more : (w v : Walker) (sent later : List (List ℕ)) (times : ℕ) → IsWalker w → is_over w.phase ≡ false → w.id < v.id
-    → later ≡ sent ++ replicate times (canon (request_of w)) → IsEarlier sent w → IsEarlier later v
-earlier_more w v sent later times good waits less e h d one = grind (arith, common_steps, one_append, before_more, one_same)
-
-pub earlier_first : (sent : List (List ℕ)) (w : Walker) → sent ≡ [] → IsEarlier sent w
-earlier_first sent w none d one = absurd (subst (λ (s : List (List ℕ)). OneOf s d) none one)
 
 -- ---- what a run tries to send over any link, request by request
 

@@ -44,6 +44,11 @@ pub few_in : (Next Got : List ℕ → VarBind → Type 0) (first : Walker) (k : 
     → Reaches Next Got first w given → w.id ≤ first.id + k + gets first.mode
 few_in Next Got first k bound w given h = grind (arith, common_steps, opening_is_get, few_replies)
 
+-- there is one for each row given at most, and a Get
+pub few_asked : (Next Got : List ℕ → VarBind → Type 0) (first w : Walker) (given : List VarBind) → Reaches Next Got first w given
+    → w.id ≤ first.id + length given + gets first.mode
+few_asked Next Got first w given h = grind (arith, common_steps, opening_is_get, few_replies)
+
 -- over one table a trail is a beginning of the rest
 pub trail_in_rest : (agents : Agents) (first : Walker) (view : MibView) (answer : VarBind) → IsOneTable (variables view) answer (IsNextFrom agents)
     (IsGotFrom agents) first

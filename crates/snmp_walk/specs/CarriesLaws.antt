@@ -1,13 +1,22 @@
--- A network in memory makes nothing up and alters nothing, for proofs.
-use Rattle.std.specs.Prelude.{◌≡◌, ◌⊎◌, ℕ, zero, suc, List, [], ◌∷◌, ◌++◌, Some}
-use Rattle.std.specs.List.{slice_get}
-use Rattle.std.proofs.Common.{inl, inr, ap, refl, subst}
-use Rattle.snmp_agent.specs.Event.{InTurn, came, sent, send_failed}
-use Rattle.snmp_walk.specs.{Link.OneOf, Traffic.datagram_at}
-use Rattle.snmp_walk.specs.MemoryNetwork.{Carries, IsNew, replies_by, replies_of, requests_by}
+-- A network in memory makes nothing up and alters nothing, and without deliveries it is prompt: for
+-- proofs.
+use Rattle.std.specs.Prelude.{◌≡◌, ◌⊎◌, ◌+◌, ℕ, zero, suc, List, [], ◌∷◌, ◌++◌, length, map}
+use Rattle.std.specs.Prelude.{Option, Some, None, flat_map}
+use Rattle.std.specs.List.{AllByRecursion, slice_get}
+use Rattle.std.proofs.Common.{inl, inr, ap, refl, subst, sym, ◌∙◌, append-nil}
+use Rattle.std.proofs.lemmas.List.Elements.{recursion_from_All}
+use Rattle.snmp_agent.specs.Event.{Event, InTurn, came, receive_failed, send_failed, sent, silence}
+use Rattle.snmp_agent.specs.{Reply.Agent, Reply.IsReply}
+use Rattle.snmp_agent.specs.Serving.{AreTurns, IsTurn, TurnDone}
+use Rattle.snmp_agent.specs.{declared.server.Served.Served, declared.server.Turn.Turn}
+use Rattle.snmp_agent.specs.declared.server.Turn.TheVariants as turn
+use Rattle.snmp_walk.specs.{Link.OneOf, Traffic.datagram_at, Traffic.latest}
+use Rattle.snmp_walk.specs.MemoryNetwork.{Carries, IsNew, IsNextReply, IsNextRequest, IsPrompt}
+use Rattle.snmp_walk.specs.MemoryNetwork.{Uses, ahead_of, leading_requests, replies_by, replies_of}
 use Rattle.snmp_walk.specs.MemoryNetwork.{requests_of}
-use Rattle.snmp_walk.specs.Network.{Happening, IsFaithful, IsTriedTo, at_agents, at_walk, of_walk}
-use Rattle.snmp_walk.specs.Network.{tried}
+use Rattle.snmp_walk.specs.Network.{Happening, IsFaithful, IsTriedTo, RepliesTo, at_agents, at_walk}
+use Rattle.snmp_walk.specs.Network.{of_walk, requests_by, tried}
+use Rattle.snmp_walk.specs.declared.memory_network.Delivery.{Delivery}
 use Rattle.snmp_walk.specs.declared.memory_network.MemoryNetwork.{MemoryNetwork}
 
 -- what happened on the network, in turn
@@ -108,3 +117,185 @@ faithful_in_memory first last run new h = record {
         | inr sent_it ↦ sent_it
       ];
 }
+
+-- ---- without deliveries
+
+module _ (old : MemoryNetwork) (none : IsPrompt old) where
+  next_request : (number : ℕ) (left : List Delivery)
+      → IsNextRequest (requests_of old) (ahead_of old) number left
+      → (number ≡ length (requests_of old)) × (left ≡ [])
+  next_request number left h =
+      subst (λ (ahead : List Delivery). IsNextRequest (requests_of old) ahead number left) none h
+
+  next_reply : (next : Option ℕ) (left : List Delivery)
+      → IsNextReply old.answer (ahead_of old) next left → (next ≡ old.answer) × (left ≡ [])
+  next_reply next left h =
+      subst (λ (ahead : List Delivery). IsNextReply old.answer ahead next left) none h
+
+  left_none : (e : Happening (Unit {0})) (left : List Delivery) → Uses old e left → left ≡ []
+  left_none (at_walk (came peer d)) left h = (next_reply (Some h.0) left h.1).1
+  left_none (at_walk silence) left h = (next_reply (Some h.0) left h.1).1
+  left_none (at_walk receive_failed) left h = (next_reply h.0 left h.1).1
+  left_none (at_walk (sent peer d)) left h = h ∙ none
+  left_none (at_walk (send_failed peer d)) left h = h ∙ none
+  left_none (at_agents (came peer d)) left h = (next_request h.0 left h.1).1
+  left_none (at_agents silence) left h = (next_request h.0 left h.1).1
+  left_none (at_agents receive_failed) left h = (next_request h.0 left h.1).1
+  left_none (at_agents (sent peer d)) left h = h ∙ none
+  left_none (at_agents (send_failed peer d)) left h = h ∙ none
+
+pub still_prompt_in_memory : (old new : MemoryNetwork) (e : Happening (Unit {0})) → IsPrompt old
+    → Carries old e new → IsPrompt new
+still_prompt_in_memory old new e none h = left_none old none e (ahead_of new) h.used
+
+-- the datagram whose number is the number of all is the latest
+module _ (d : Option (List ℕ)) where
+  latest_found : (ds : List (List ℕ)) → datagram_at ds (length ds) ≡ d → latest ds ≡ d
+  latest_found [] found = found
+  latest_found (x ∷ []) found = found
+  latest_found (x ∷ y ∷ ds) found = latest_found (y ∷ ds) found
+
+module _ (d : List ℕ) where
+  latest_sent : (ds : List (List ℕ)) → latest (ds ++ d ∷ []) ≡ Some d
+  latest_sent [] = refl
+  latest_sent (x ∷ []) = refl
+  latest_sent (x ∷ y ∷ ds) = latest_sent (y ∷ ds)
+
+-- what the walk receives after a turn of the agent
+module _ (between new : MemoryNetwork) (none : IsPrompt between) (agent : Agent)
+    (request : Option (List ℕ)) where
+  number_is : (number : ℕ) → IsNextReply between.answer (ahead_of between) (Some number) (ahead_of new)
+      → Some number ≡ between.answer
+  number_is number h = (next_reply between none (Some number) (ahead_of new) h).0
+
+  -- in which it sent nothing,
+  after_nothing : (e : Event (Unit {0})) → between.answer ≡ Some 0 → RepliesTo agent request silence
+      → Carries between (at_walk e) new → RepliesTo agent request e
+  after_nothing (came peer d) is silent h =
+      let found : datagram_at (replies_of between) h.used.0 ≡ Some d = h.used.2 in
+      let same : Some h.used.0 ≡ Some 0 = number_is h.used.0 h.used.1 ∙ is in
+      let zeroth : h.used.0 ≡ 0 = cc in
+      let no : ⊥ = let f = subst (λ (n : ℕ). datagram_at (replies_of between) n ≡ Some d) zeroth found in cc in
+      absurd no
+  after_nothing silence is silent h = silent
+  after_nothing receive_failed is silent h = tt
+  after_nothing (sent peer d) is silent h = tt
+  after_nothing (send_failed peer d) is silent h = tt
+
+  -- in which it sent this reply,
+  after_reply : (e : Event (Unit {0})) (before : List (List ℕ)) (d r : List ℕ) → request ≡ Some d
+      → IsReply agent d r → replies_of between ≡ before ++ r ∷ []
+      → between.answer ≡ Some (length (replies_of between))
+      → Carries between (at_walk e) new → RepliesTo agent request e
+  after_reply (came peer x) before d r asked replies are is h =
+      let same : Some h.used.0 ≡ Some (length (replies_of between)) = number_is h.used.0 h.used.1 ∙ is in
+      let last : h.used.0 ≡ length (replies_of between) = cc in
+      let found : datagram_at (replies_of between) (length (replies_of between)) ≡ Some x =
+      subst (λ (n : ℕ). datagram_at (replies_of between) n ≡ Some x) last h.used.2 in
+      let r_is : latest (replies_of between) ≡ Some r = ap latest are ∙ latest_sent r before in
+      let both : Some r ≡ Some x = sym r_is ∙ latest_found (Some x) (replies_of between) found in
+      let reply : r ≡ x = cc in
+      (d, asked, subst (λ (y : List ℕ). IsReply agent d y) reply replies)
+  after_reply silence before d r asked replies are is h =
+      let same : Some h.used.0 ≡ Some (length (replies_of between)) = number_is h.used.0 h.used.1 ∙ is in
+      let last : h.used.0 ≡ length (replies_of between) = cc in
+      let found : datagram_at (replies_of between) (length (replies_of between)) ≡ None =
+      subst (λ (n : ℕ). datagram_at (replies_of between) n ≡ None) last h.used.2 in
+      let r_is : latest (replies_of between) ≡ Some r = ap latest are ∙ latest_sent r before in
+      let both : Some r ≡ None = sym r_is ∙ latest_found None (replies_of between) found in
+      let no : ⊥ = cc in
+      absurd no
+  after_reply receive_failed before d r asked replies are is h = tt
+  after_reply (sent peer x) before d r asked replies are is h = tt
+  after_reply (send_failed peer x) before d r asked replies are is h = tt
+
+  -- and which failed
+  after_fault : (e : Event (Unit {0})) → between.answer ≡ None → Carries between (at_walk e) new
+      → RepliesTo agent request e
+  after_fault (came peer d) is h =
+      let same : Some h.used.0 ≡ None = number_is h.used.0 h.used.1 ∙ is in
+      let no : ⊥ = cc in
+      absurd no
+  after_fault silence is h =
+      let same : Some h.used.0 ≡ None = number_is h.used.0 h.used.1 ∙ is in
+      let no : ⊥ = cc in
+      absurd no
+  after_fault receive_failed is h = tt
+  after_fault (sent peer d) is h = tt
+  after_fault (send_failed peer d) is h = tt
+
+module _ (old new : MemoryNetwork) (none : IsPrompt old) (agent : Agent) (e : Event (Unit {0})) where
+  -- the agent received the latest datagram, if any was sent
+  received : (mid : MemoryNetwork) (peer : Unit {0}) (d : List ℕ)
+      → Carries old (at_agents (came peer d)) mid → latest (requests_of old) ≡ Some d
+  received mid peer d h =
+      let number = (next_request old none h.used.0 (ahead_of mid) h.used.1).0 in
+      latest_found (Some d) (requests_of old)
+      (subst (λ (n : ℕ). datagram_at (requests_of old) n ≡ Some d) number h.used.2)
+
+  unsent : (mid : MemoryNetwork) → Carries old (at_agents silence) mid
+      → latest (requests_of old) ≡ None
+  unsent mid h =
+      let number = (next_request old none h.used.0 (ahead_of mid) h.used.1).0 in
+      latest_found None (requests_of old)
+      (subst (λ (n : ℕ). datagram_at (requests_of old) n ≡ None) number h.used.2)
+
+  still : (mid : MemoryNetwork) (f : Happening (Unit {0})) → Carries old f mid → IsPrompt mid
+  still mid f h = still_prompt_in_memory old mid f none h
+
+  after_turn : (t : Turn) (events : List (Event (Unit {0}))) → IsTurn agent t events
+      → InTurn Carries old (map at_agents events ++ at_walk e ∷ []) new
+      → RepliesTo agent (latest (requests_of old)) e
+  after_turn turn.Replied events turned run =
+      let chain : InTurn Carries old (at_agents (came turned.0 turned.1) ∷ at_agents (sent turned.0 turned.2) ∷ at_walk e ∷ []) new =
+      subst (λ (es : List (Event (Unit {0}))). InTurn Carries old (map at_agents es ++ at_walk e ∷ []) new) turned.4 run in
+      let mid = chain.0 in
+      let between = chain.2.0 in
+      let none_mid = still mid (at_agents (came turned.0 turned.1)) chain.1 in
+      let none_between = still_prompt_in_memory mid between (at_agents (sent turned.0 turned.2)) none_mid chain.2.1 in
+      after_reply between chain.2.2.0 none_between agent (latest (requests_of old)) e (replies_of mid) turned.1 turned.2
+      (received mid turned.0 turned.1 chain.1) turned.3 chain.2.1.replies chain.2.1.answer chain.2.2.1
+  after_turn turn.Dropped events turned run =
+      let chain : InTurn Carries old (at_agents (came turned.0 turned.1) ∷ at_walk e ∷ []) new =
+      subst (λ (es : List (Event (Unit {0}))). InTurn Carries old (map at_agents es ++ at_walk e ∷ []) new) turned.4 run in
+      after_nothing chain.0 chain.2.0 (still chain.0 (at_agents (came turned.0 turned.1)) chain.1) agent (latest (requests_of old)) e
+      chain.1.answer (inr (turned.1, turned.2, received chain.0 turned.0 turned.1 chain.1, turned.3)) chain.2.1
+  after_turn turn.Idle events turned run =
+      let chain : InTurn Carries old (at_agents silence ∷ at_walk e ∷ []) new =
+      subst (λ (es : List (Event (Unit {0}))). InTurn Carries old (map at_agents es ++ at_walk e ∷ []) new) turned run in
+      after_nothing chain.0 chain.2.0 (still chain.0 (at_agents silence) chain.1) agent (latest (requests_of old)) e chain.1.answer
+      (inl (unsent chain.0 chain.1)) chain.2.1
+  after_turn turn.Failed events (inl turned) run =
+      let chain : InTurn Carries old (at_agents receive_failed ∷ at_walk e ∷ []) new =
+      subst (λ (es : List (Event (Unit {0}))). InTurn Carries old (map at_agents es ++ at_walk e ∷ []) new) turned run in
+      after_fault chain.0 chain.2.0 (still chain.0 (at_agents receive_failed) chain.1) agent (latest (requests_of old)) e chain.1.answer
+      chain.2.1
+  after_turn turn.Failed events (inr turned) run =
+      let chain : InTurn Carries old (at_agents (came turned.0 turned.1) ∷ at_agents (send_failed turned.0 turned.2) ∷ at_walk e ∷ []) new =
+      subst (λ (es : List (Event (Unit {0}))). InTurn Carries old (map at_agents es ++ at_walk e ∷ []) new) turned.4 run in
+      let mid = chain.0 in
+      let between = chain.2.0 in
+      let none_between = still_prompt_in_memory mid between (at_agents (send_failed turned.0 turned.2))
+      (still mid (at_agents (came turned.0 turned.1)) chain.1) chain.2.1 in
+      after_fault between chain.2.2.0 none_between agent (latest (requests_of old)) e chain.2.1.answer chain.2.2.1
+
+  after_turns : (done : List (TurnDone (Unit {0}))) → length done ≡ 1
+      → AllByRecursion (λ (t : TurnDone (Unit {0})). IsTurn agent t.turn t.events) done
+      → InTurn Carries old (map at_agents (flat_map (λ (t : TurnDone (Unit {0})). t.events) done) ++ at_walk e ∷ []) new
+      → RepliesTo agent (latest (requests_of old)) e
+  after_turns [] one each run = let no : ⊥ = cc in absurd no
+  after_turns (t ∷ []) one each run =
+      after_turn t.turn t.events each.0
+      (subst (λ (es : List (Event (Unit {0}))). InTurn Carries old (map at_agents es ++ at_walk e ∷ []) new) (append-nil t.events) run)
+  after_turns (t ∷ u ∷ done) one each run = let no : ⊥ = cc in absurd no
+
+pub prompt_in_memory : (old new : MemoryNetwork) (agent : Agent) (served : Served)
+    (events : List (Event (Unit {0}))) (e : Event (Unit {0})) → IsPrompt old
+    → AreTurns agent (leading_requests (ahead_of old) + 1) served events
+    → InTurn Carries old (map at_agents events ++ at_walk e ∷ []) new
+    → RepliesTo agent (latest (requests_of old)) e
+prompt_in_memory old new agent served events e none are run =
+    let one : length are.done ≡ 1 =
+    are.count ∙ ap (λ (ahead : List Delivery). leading_requests ahead + 1) none in
+    after_turns old new none agent e are.done one (recursion_from_All _ _ are.each)
+    (subst (λ (es : List (Event (Unit {0}))). InTurn Carries old (map at_agents es ++ at_walk e ∷ []) new) are.in_order run)

@@ -3,7 +3,7 @@ use Rattle.std.specs.Prelude.{◌≡◌, ℕ, ◌+◌, ◌*◌, ◌≤◌, ◌<�
 use Rattle.std.specs.Prelude.{flat_map, replicate, Option}
 use Rattle.snmp_walk.specs.{declared.mode.Mode.Mode, Traffic.Traffic, Traffic.Lost}
 use Rattle.snmp_walk.specs.{declared.end.WalkEnd.WalkEnd, declared.rows.Step.Step, Read.rows_in}
-use Rattle.snmp_walk.specs.{Ordered.AreOrdered, Walk.walk_from, Judged.MeansBy}
+use Rattle.snmp_walk.specs.{Ordered.AreOrdered, Walk.rest_of, Walk.walk_from, Judged.MeansBy}
 use Rattle.snmp_walk.specs.{Walker.Walker, Walker.IsWalker}
 use Rattle.snmp_walk.specs.declared.mode.Mode.TheVariants as mode
 use Rattle.snmp_walk.specs.Run.{Try, sent_by, AreTries, IsEachSent}
@@ -218,6 +218,13 @@ pub record GivenFacts (agents : Agents) (Silent : Walker → Type 0) (first : Wa
   pub all_at_done : (view : MibView) (got : VarBind) → agents.tables ≡ view ∷ []
       → IsGet view first.asked got → IsDone end
       → rows ≡ walk_at first view got
+  -- Without its root's Get a walk gives the rows after the name that it begins from: a beginning of
+  -- them, and all of them if it is done.
+  pub rest_beginning : (view : MibView) → agents.tables ≡ view ∷ [] → first.mode ≡ mode.NoLast
+      → (more : List VarBind)
+      × (rest_of first.root first.asked (variables view) ≡ (rows ++ refused) ++ more)
+  pub rest_at_done : (view : MibView) → agents.tables ≡ view ∷ [] → first.mode ≡ mode.NoLast
+      → IsDone end → rows ≡ rest_of first.root first.asked (variables view)
   -- over several tables each binding given is that of one of them
   pub from_tables : AreFromTables agents first (rows ++ refused)
   -- each name of the walk that all tables have, and that doesn't come after the last name given, is
@@ -235,8 +242,8 @@ pub record GivenFacts (agents : Agents) (Silent : Walker → Type 0) (first : Wa
   pub done_unless_lost : (k : ℕ) → CountsNames agents first k → HasRoomInEach agents first
       → HasIdsFor first k → IsDoneOrCutOff end
 
--- What is promised of a run over an honest link over which nothing was sent before. It gave these
--- rows to the sink, and then the one that was refused, if any was.
+-- What is promised of a run over an honest link, over which earlier runs had lower ids. It gave
+-- these rows to the sink, and then the one that was refused, if any was.
 pub record WalkFacts (agents : Agents) (tries : ℕ) (old : Traffic) (first : Walker)
     (rows refused : List VarBind) (end : WalkEnd) (new : Traffic) : Type 0 where
   -- each reply was that of one of the agents to the request that waited, and where none came the
@@ -259,7 +266,7 @@ gets mode.NoLast = 0
 gets _ = 1
 
 -- What is promised of the requests of a run that gave these rows, over a link that keeps the list
--- of the datagrams sent. `honest` says that the link is honest and nothing was sent over it before.
+-- of the datagrams sent. `honest` says that the link is honest, and earlier runs had lower ids.
 pub record SendFacts (agents : Agents) (honest : Type 0) (tries : ℕ) (old : Traffic)
     (first : Walker) (rows : List VarBind) (end : WalkEnd) (new : Traffic) : Type 0 where
   pub requests : List Try

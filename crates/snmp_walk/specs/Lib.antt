@@ -22,8 +22,10 @@ pub mod Get
 pub mod Facts
 pub mod Network
 pub mod Ran
+pub mod Served
 pub mod Arena
 pub mod Memory
 pub mod MemoryNetwork
 pub mod CarriesLaws
+pub mod Loose
 pub mod private

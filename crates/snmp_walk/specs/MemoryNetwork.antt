@@ -1,7 +1,8 @@
 -- What happens on a network in memory.
-use Rattle.std.specs.Prelude.{◌≡◌, ◌<◌, ℕ, List, [], ◌∷◌, ◌++◌, length, drop, Some, None}
-use Rattle.snmp_agent.specs.Event.{came, silence, receive_failed, sent}
-use Rattle.snmp_walk.specs.{Network.Happening, Network.at_walk, Network.at_agents}
+use Rattle.std.specs.Prelude.{◌≡◌, ◌+◌, ◌<◌, ℕ, List, [], ◌∷◌, ◌++◌, length, drop, Option, Some}
+use Rattle.std.specs.Prelude.{None}
+use Rattle.snmp_agent.specs.Event.{came, silence, receive_failed, sent, send_failed}
+use Rattle.snmp_walk.specs.Network.{Happening, at_agents, at_walk, requests_by}
 use Rattle.snmp_walk.specs.{Traffic.datagram_at, declared.memory_network.Delivery.Delivery}
 use Rattle.snmp_walk.specs.declared.memory_network.Delivery.TheVariants as delivery
 use Rattle.snmp_walk.specs.declared.memory_network.MemoryNetwork.{MemoryNetwork}
@@ -26,19 +27,23 @@ IsNextRequest requests [] number left = (number ≡ length requests) × (left �
 IsNextRequest requests (delivery.Request k ∷ more) number left = (number ≡ k) × (left ≡ more)
 IsNextRequest requests ahead number left = (number ≡ 0) × (left ≡ ahead)
 
--- and so does the walk
-abbrev pub IsNextReply : (replies : List (List ℕ)) → (ahead : List Delivery) → (number : ℕ)
+-- The walk receives the datagram of this number, or none if that is 0, or its receive fails if there
+-- is no number; then these deliveries are left. After the last it is what the agent's last turn
+-- answered.
+abbrev pub IsNextReply : (answer : Option ℕ) → (ahead : List Delivery) → (next : Option ℕ)
     → (left : List Delivery) → Type 0
-IsNextReply replies [] number left = (number ≡ length replies) × (left ≡ [])
-IsNextReply replies (delivery.Reply k ∷ more) number left = (number ≡ k) × (left ≡ more)
-IsNextReply replies (delivery.Nothing ∷ more) number left = (number ≡ 0) × (left ≡ more)
-IsNextReply replies ahead number left = (number ≡ 0) × (left ≡ ahead)
+IsNextReply answer [] next left = (next ≡ answer) × (left ≡ [])
+IsNextReply answer (delivery.Reply k ∷ more) next left = (next ≡ Some k) × (left ≡ more)
+IsNextReply answer (delivery.Nothing ∷ more) next left = (next ≡ Some 0) × (left ≡ more)
+IsNextReply answer ahead next left = (next ≡ Some 0) × (left ≡ ahead)
 
--- the datagrams that the walk sent by this, and those that the agent sent
-abbrev pub requests_by : Happening (Unit {0}) → List (List ℕ)
-requests_by (at_walk (sent peer d)) = d ∷ []
-requests_by _ = []
+-- how many of the deliveries come before the first that isn't a request
+abbrev pub leading_requests : List Delivery → ℕ
+leading_requests [] = 0
+leading_requests (delivery.Request k ∷ more) = leading_requests more + 1
+leading_requests _ = 0
 
+-- the datagrams that the agent sent by this
 abbrev pub replies_by : Happening (Unit {0}) → List (List ℕ)
 replies_by (at_agents (sent peer d)) = d ∷ []
 replies_by _ = []
@@ -48,13 +53,13 @@ replies_by _ = []
 -- longer than any over UDP. A send uses none.
 abbrev pub Uses : MemoryNetwork → Happening (Unit {0}) → (left : List Delivery) → Type 0
 Uses old (at_walk (came peer d)) left =
-    (number : ℕ) × IsNextReply (replies_of old) (ahead_of old) number left
+    (number : ℕ) × IsNextReply old.answer (ahead_of old) (Some number) left
     × (datagram_at (replies_of old) number ≡ Some d)
 Uses old (at_walk silence) left =
-    (number : ℕ) × IsNextReply (replies_of old) (ahead_of old) number left
+    (number : ℕ) × IsNextReply old.answer (ahead_of old) (Some number) left
     × (datagram_at (replies_of old) number ≡ None)
 Uses old (at_walk receive_failed) left =
-    (number : ℕ) × IsNextReply (replies_of old) (ahead_of old) number left
+    (next : Option ℕ) × IsNextReply old.answer (ahead_of old) next left
 Uses old (at_agents (came peer d)) left =
     (number : ℕ) × IsNextRequest (requests_of old) (ahead_of old) number left
     × (datagram_at (requests_of old) number ≡ Some d)
@@ -66,14 +71,28 @@ Uses old (at_agents receive_failed) left =
     × (d : List ℕ) × (datagram_at (requests_of old) number ≡ Some d) × (65507 < length d)
 Uses old _ left = left ≡ ahead_of old
 
+-- the number of the reply that the agent sent in its last turn, 0 if it sent none, and none if its
+-- receive or its send failed; `count` is the number of all replies so far
+abbrev pub answer_after : (count : ℕ) → Happening (Unit {0}) → (answer : Option ℕ) → Option ℕ
+answer_after count (at_walk e) answer = answer
+answer_after count (at_agents (sent peer d)) answer = Some count
+answer_after count (at_agents (send_failed peer d)) answer = None
+answer_after count (at_agents receive_failed) answer = None
+answer_after count (at_agents _) answer = Some 0
+
 -- this may happen between the two states: what was sent so far is kept
 pub record Carries (old : MemoryNetwork) (e : Happening (Unit {0})) (new : MemoryNetwork) :
     Type 0 where
   pub requests : requests_of new ≡ requests_of old ++ requests_by e
   pub replies : replies_of new ≡ replies_of old ++ replies_by e
   pub used : Uses old e (ahead_of new)
+  pub answer : new.answer ≡ answer_after (length (replies_of new)) e old.answer
 
 -- nothing was sent yet
 pub record IsNew (network : MemoryNetwork) : Type 0 where
   pub requests : requests_of network ≡ []
   pub replies : replies_of network ≡ []
+
+-- no delivery is left, so that the network loses and delays nothing
+abbrev pub IsPrompt : MemoryNetwork → Type 0
+IsPrompt network = ahead_of network ≡ []

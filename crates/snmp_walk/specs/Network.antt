@@ -1,9 +1,10 @@
 -- A network between a walk and the agents that reply to it (RFC 3417, section 3), and what happens
 -- at its two ends.
-use Rattle.std.specs.Prelude.{pos, ◌≡◌, ◌⊎◌, ℕ, List, [], ◌∷◌, ◌++◌, flat_map, map, take, Option}
+use Rattle.std.specs.Prelude.{pos, ◌≡◌, ◌⊎◌, ℕ, List, [], ◌∷◌, ◌++◌, flat_map, take, Option}
 use Rattle.std.specs.Prelude.{Some, None, Result, Ok, Err}
-use Rattle.snmp_agent.specs.Event.{Event, InTurn, came, silence, receive_failed, sent, send_failed}
-use Rattle.snmp_agent.specs.{Reply.Agent, Serving.AreTurns, table.Table.MibView}
+use Rattle.snmp_agent.specs.Event.{Event, came, silence, receive_failed, sent, send_failed}
+use Rattle.snmp_agent.specs.{Reply.Agent, Reply.IsDropped, Reply.IsReply, Serving.AreTurns}
+use Rattle.snmp_agent.specs.{declared.config.Why.Why, table.Table.MibView}
 use Rattle.snmp_agent.specs.declared.server.Served.{Served}
 use Rattle.snmp_walk.specs.declared.end.LinkFault.{LinkFault}
 use Rattle.snmp_wire.specs.{Message.Message, Spelling.Spells}
@@ -34,6 +35,18 @@ tried [] = []
 tried (sent peer d ∷ more) = d ∷ tried more
 tried (send_failed peer d ∷ more) = d ∷ tried more
 tried (_ ∷ more) = tried more
+
+-- the datagrams that the walk sent by this
+abbrev pub requests_by : {Peer : Type 0} → Happening Peer → List (List ℕ)
+requests_by (at_walk (sent peer d)) = d ∷ []
+requests_by _ = []
+
+-- the first of these events, if there is one, is a send: nothing is received before
+abbrev pub BeginWithSend : List (Event (Unit {0})) → Type 0
+BeginWithSend [] = Unit {0}
+BeginWithSend (sent peer d ∷ more) = Unit {0}
+BeginWithSend (send_failed peer d ∷ more) = Unit {0}
+BeginWithSend _ = ⊥
 
 -- Each datagram that came to the walk, and encodes a message of this sort, is the reply of one of
 -- the agents to a datagram that the walk had tried to send before, or encodes another Response that
@@ -102,13 +115,10 @@ event_of_got (Ok (Some n)) buffer = came tt (take n buffer)
 event_of_got (Ok None) buffer = silence
 event_of_got (Err _) buffer = receive_failed
 
--- ---- for private functions
-
--- An agent served some turns, and then this happened at the walk's end: together they led from one
--- state of the network to the other. `carries` says what may happen between two of its states.
-abbrev pub IsServedThen : {N Peer : Type 0} → (carries : N → Happening Peer → N → Type 0) → Agent
-    → N → Event (Unit {0}) → N → Type 0
-IsServedThen {N} {Peer} carries agent old e new =
-    (turns : ℕ) × (served : Served) × (events : List (Event Peer))
-    × AreTurns agent turns served events
-    × InTurn carries old (map at_agents events ++ at_walk e ∷ []) new
+-- What a receive of the walk returned is what the agent has for this datagram, if there is one: its
+-- reply, or nothing if it drops the datagram. The receive may fail.
+abbrev pub RepliesTo : Agent → (request : Option (List ℕ)) → Event (Unit {0}) → Type 0
+RepliesTo agent request (came peer r) = (d : List ℕ) × (request ≡ Some d) × IsReply agent d r
+RepliesTo agent request silence = (request ≡ None)
+    ⊎ ((d : List ℕ) × (why : Why) × (request ≡ Some d) × IsDropped agent d why)
+RepliesTo agent request _ = Unit {0}

@@ -1,14 +1,16 @@
 -- What is known of a run over a link: of a walk, and of a Get of names.
-use Rattle.std.specs.Prelude.{◌≡◌, ◌≢◌, ◌⊎◌, ◌<◌, ◌≤◌, ◌++◌, ℕ, List, [], Result, replicate}
+use Rattle.std.specs.Prelude.{◌≡◌, ◌≢◌, ◌⊎◌, ◌<◌, ◌≤◌, ◌+◌, ◌++◌, ℕ, List, [], Result, length}
+use Rattle.std.specs.Prelude.{replicate}
 use Rattle.snmp_agent.specs.Event.{Event}
 use Rattle.snmp_wire.specs.{Canon.canon, Message.VarBind}
 use Rattle.snmp_walk.specs.{declared.end.SinkFault.SinkFault, declared.end.WalkEnd.WalkEnd}
-use Rattle.snmp_walk.specs.{Link.Agents, Link.AreLawful, Link.Outcome, Moved.IsMoved}
-use Rattle.snmp_walk.specs.{Moved.IsMovedByRequests, Network.AreReplies}
+use Rattle.snmp_walk.specs.{Link.Agents, Link.AreLawful, Link.OneOf, Link.Outcome, Moved.IsMoved}
+use Rattle.snmp_walk.specs.{Request.IsOfLowerId}
+use Rattle.snmp_walk.specs.{Moved.IsMovedByRequests, Network.AreReplies, Network.BeginWithSend}
 use Rattle.snmp_walk.specs.{Network.AreRepliesOrErrors, Sink.Took, Walker.Walker}
 use Rattle.snmp_walk.specs.declared.end.WalkEnd.TheVariants as ending
 use Rattle.snmp_walk.specs.declared.link.Link.{Ghosts as LinkFacts}
-use Rattle.snmp_walk.specs.Facts.{EndFacts, GivenFacts, IsLastSent, IsReadyForAll, SendFacts}
+use Rattle.snmp_walk.specs.Facts.{EndFacts, GivenFacts, IsLastSent, IsReadyForAll, SendFacts, gets}
 use Rattle.snmp_walk.specs.{Facts.WalkFacts, Tables.CountsNames}
 use Rattle.snmp_walk.specs.Get.{AreForNames, GetFacts, GotFacts, IsBrought, IsReasonOfGet}
 use Rattle.snmp_walk.specs.Get.{get_request}
@@ -25,9 +27,15 @@ pub record IsRun {S : Type 0} (takes : S → VarBind → Result (Unit {0}) SinkF
   pub took : Took takes before rows refused end after
   pub facts : Facts rows refused
 
--- the link is honest, and nothing was sent over it before
-abbrev pub IsFreshAndHonest : {W : Type 0} → LinkFacts W → W → Type 0
-IsFreshAndHonest {W} facts link = facts.honest link × ((facts.traffic link).sent ≡ [])
+-- each of these datagrams is a request with an id below this one
+abbrev pub AreOfLowerIds : List (List ℕ) → (id : ℕ) → Type 0
+AreOfLowerIds sent id = (datagram : List ℕ) → OneOf sent datagram → IsOfLowerId id datagram
+
+-- The link is honest, and what was sent over it before has ids below this one: nothing, or the
+-- requests of earlier runs. A run that begins with this id takes none of their late replies.
+abbrev pub IsHonestFrom : {W : Type 0} → LinkFacts W → (id : ℕ) → W → Type 0
+IsHonestFrom {W} facts id link =
+    facts.honest link × AreOfLowerIds (facts.traffic link).sent id
 
 -- how a run ended, an error being no more to it than a link that failed
 abbrev pub but_for_errors : WalkEnd → WalkEnd
@@ -42,6 +50,7 @@ pub record HasHappened {W : Type 0} (facts : LinkFacts W) (link after : W) (end 
     (Given : Agents → WalkEnd → Type 0) : Type 0 where
   pub events : List (Event (Unit {0}))
   pub in_turn : InTurn (Happens facts) link events after
+  pub begins : BeginWithSend events
   pub replied : (agents : Agents) → AreLawful agents → AreReplies agents events → Given agents end
   pub replied_or_failed : (agents : Agents) → AreLawful agents → AreRepliesOrErrors agents events
       → Given agents (but_for_errors end)
@@ -57,17 +66,22 @@ pub record IsWalkedOver {W : Type 0} (facts : LinkFacts W) (link after : W) (tri
       (λ w. facts.keeps link → IsLastSent tries end (facts.traffic after) w) first link given
       refused end after
   -- over a link that keeps what is sent: which requests were sent, and how many times
-  pub sent : facts.keeps link → SendFacts (facts.agents link) (IsFreshAndHonest facts link) tries
+  pub sent : facts.keeps link → SendFacts (facts.agents link) (IsHonestFrom facts first.id link) tries
       (facts.traffic link) first given end (facts.traffic after)
-  -- over an honest link over which nothing was sent before: what its agents gave,
-  pub judged : IsFreshAndHonest facts link
+  -- over an honest link, over which earlier runs had lower ids: what its agents gave,
+  pub judged : IsHonestFrom facts first.id link
       → WalkFacts (facts.agents link) tries (facts.traffic link) first given refused end
       (facts.traffic after)
   -- and that it doesn't fail where it is ready for all that is sent for the k names below the root
-  pub ready : IsFreshAndHonest facts link → (k : ℕ) → CountsNames (facts.agents link) first k
+  pub ready : IsHonestFrom facts first.id link → (k : ℕ) → CountsNames (facts.agents link) first k
       → IsReadyForAll (facts.ready link) tries k → end ≢ ending.Link
   -- its requests moved the link, which failed where the walk ends because of it
   pub moved : IsMovedByRequests facts tries first given link (end ≡ ending.Link) after
+  -- There is at most one of them for each row given, one more, and a Get.
+  pub few_of_rows : length moved.requests ≤ length given + 1 + gets first.mode
+  -- So a later run over the link may begin with the id after theirs.
+  pub later : facts.keeps link → AreOfLowerIds (facts.traffic link).sent first.id
+      → AreOfLowerIds (facts.traffic after).sent (first.id + length moved.requests)
   -- what happened over any link, and what it gave where replies of agents are all that came
   pub happened : HasHappened facts link after end
       (λ agents why. GivenFacts agents (λ w. Unit {0}) first given refused why)
@@ -87,7 +101,7 @@ pub record IsGotOver {W : Type 0} (facts : LinkFacts W) (link after : W) (tries 
   -- each end has its own reason in what came of the request
   pub reason : names ≢ [] → IsReasonOfGet (IsGetTried facts link after tries community id names)
       (IsBrought (IsGetTried facts link after tries community id names) (facts.agents link)
-      (IsFreshAndHonest facts link) community id names) names given refused end
+      (IsHonestFrom facts id link) community id names) names given refused end
   -- without names, and where the request is too long, the link stays as it was
   pub unasked : (names ≡ []) ⊎ (end ≡ ending.RequestTooLong) → after ≡ link
   -- over a link that keeps what is sent: the request alone, at most once for each try, and once at
@@ -97,8 +111,8 @@ pub record IsGotOver {W : Type 0} (facts : LinkFacts W) (link after : W) (tries 
       ++ replicate times (canon (get_request community id names)))
       × (end ≡ ending.NoResponse → times ≡ tries)
       × (names ≢ [] → end ≢ ending.RequestTooLong → end ≢ ending.Link → 0 < times)
-  -- over an honest link over which nothing was sent before: what its agents gave
-  pub judged : IsFreshAndHonest facts link → GetFacts (facts.agents link) tries
+  -- over an honest link, over which earlier runs had lower ids: what its agents gave
+  pub judged : IsHonestFrom facts id link → GetFacts (facts.agents link) tries
       (facts.traffic link) (get_request community id names) names given refused end
       (facts.traffic after)
   -- tries of the request moved the link, one at least where it is sent, and the link failed where
@@ -108,6 +122,9 @@ pub record IsGotOver {W : Type 0} (facts : LinkFacts W) (link after : W) (tries 
       × (receives : ℕ)
       × IsMoved facts link (replicate times (canon (get_request community id names))) receives
       (end ≡ ending.Link) after
+  -- a later run over the link may begin with the id after this one
+  pub later : facts.keeps link → AreOfLowerIds (facts.traffic link).sent id
+      → AreOfLowerIds (facts.traffic after).sent (id + 1)
   -- what happened over any link, and what it gave where replies of agents are all that came
   pub happened : HasHappened facts link after end
       (λ agents why. GotFacts agents (get_request community id names) names given refused why)

@@ -1,7 +1,8 @@
 -- Where a walk begins, and which request it sends (RFC 3416, section 4.2).
-use Rattle.std.specs.Prelude.{ℕ, ℤ, pos, unsigned_abs, List, [], ◌∷◌}
+use Rattle.std.specs.Prelude.{◌≡◌, ◌<◌, ℕ, ℤ, pos, unsigned_abs, List, [], ◌∷◌}
 use Rattle.snmp_oid.specs.Identifier.{wire}
-use Rattle.snmp_wire.specs.{declared.kind.Kind.Kind, Message.Message, Name.asking}
+use Rattle.snmp_wire.specs.{Canon.canon, declared.kind.Kind.Kind, Message.Message, Name.asking}
+use Rattle.snmp_wire.specs.{Range.IsMessageInRange}
 use Rattle.snmp_wire.specs.declared.kind.Kind.TheVariants as kind
 use Rattle.snmp_walk.specs.{declared.mode.Mode.Mode, declared.mode.Phase.Phase, Walker.Walker}
 use Rattle.snmp_walk.specs.declared.mode.Mode.TheVariants as mode
@@ -67,3 +68,14 @@ request_of w = record {
   b = request_repetitions w.phase w.method;
   bindings = asking w.asked ∷ [];
 }
+
+-- The datagram is the shortest encoding of a request with a lower id, as a run before sent. Its
+-- reply has that id too, so a late one isn't the reply to a request of this id or a higher one.
+pub record IsOfLowerId (id : ℕ) (datagram : List ℕ) : Type 0 where
+  pub request : Message
+  pub in_range : IsMessageInRange request
+  pub no_set : request.kind ≡ kind.SetRequest → ⊥
+  pub number : ℕ
+  pub id_is : request.id ≡ pos number
+  pub lower : number < id
+  pub encoding : datagram ≡ canon request

@@ -19,16 +19,29 @@ use snmp_wire::{
 use std::marker::Model;
 
 /// Gets the instances of these names: one Get of their wire forms is sent, at most `retries + 1`
-/// times, and the bindings of its reply are given to the sink in order (RFC 3416, section 4.2.1).
+/// times, and the bindings of its reply are passed to the sink in order (RFC 3416, section 4.2.1).
 ///
 /// The wire form of each name has an encoding (X.690, 8.19.4); the community has at most 255
-/// octets, and the id is at most 2147483647. Where there are no names, nothing is sent.
-/// `RequestTooLong` where the request has more than 65507 octets.
+/// octets, and the id is at most 2147483647. If there are no names, nothing is sent.
+/// `RequestTooLong` if the request has more than 65507 octets.
 ///
-/// Over any link: where each message that came is the reply of one of these agents, or another
-/// Response that RFC 3416 lets it send, to a datagram that was sent before, as over a network that
-/// alters nothing (`honest_networks`), what is given is a beginning of what Gets of the names give,
-/// and all of it where the Get is done; also where errors came, such as genErr.
+/// The clause `ran` says that the sink was passed some bindings, and perhaps refused one more
+/// (`IsRun`). What is known of these bindings and of the end are the fields of `IsGotOver`
+/// (`specs/Ran.antt`). Over any link:
+///
+/// - `named`: the names passed are those asked for, in order, and all of them if the Get is done.
+/// - `reason`: the end has its reason in what the link delivered.
+/// - `unasked`: without names, and if the request is too long, nothing is sent.
+/// - `moved`: the request is sent at most `retries + 1` times. The link failed if the end is `Link`.
+/// - `happened.replied`: if all that arrived are replies of some agents, as over a network that
+///   alters nothing (`honest_networks`), a beginning of what Gets of the names return is passed, and
+///   all of it if the Get is done.
+/// - `happened.replied_or_failed`: the same if errors may have arrived too, such as genErr.
+///
+/// Over a link that stores what is sent, `sent` says how often the request was sent, and `later`
+/// that a later run may begin with the id after this one. Over an honest link, one that delivers
+/// only replies of its agents, `judged` says the same as `happened.replied`, and when the Get is
+/// done, if the requests that were sent over it before have lower ids.
 // Not inlined: its buffer is on the stack, and a caller with several such calls would have room for
 // each of them.
 #[inline(never)]
@@ -43,7 +56,7 @@ pub fn run_get<L: Link, S: Sink>(
     requires wire { All (λ o. IsWire (wire o)) names.now }
     requires community { length community.now ≤ 255 }
     requires id { id < 2 ^ 31 }
-    ensures { IsRun S.takes sink.old result sink.new (λ given refused.
+    ensures ran { IsRun S.takes sink.old result sink.new (λ given refused.
         IsGotOver L.Link link.old link.new (retries + 1) community.now id names.now given refused
         result) }
 {

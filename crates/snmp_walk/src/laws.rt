@@ -1,5 +1,6 @@
 //! Laws of walks, as calls that do nothing. A proof of a crate above calls them.
-ghost use Rattle.std.specs.Prelude.{◌≡◌, ◌≤◌, ◌++◌, ◌∷◌, ◌↔◌, ℕ, List, length};
+ghost use Rattle.std.specs.Prelude.{◌≡◌, ◌≤◌, ◌++◌, ◌∷◌, [], ◌↔◌, ◌⊎◌, ℕ, List, length};
+ghost use Rattle.snmp_wire.specs.{Canon.canon, Spelling.Spells};
 ghost use Rattle.snmp_oid.specs.Identifier.{IsWire, IsBelow, Precedes, wire};
 ghost use Rattle.snmp_wire.specs.Message.{Message, VarBind};
 ghost use Rattle.snmp_agent.specs.table.Table.{MibView, IsMibView, IsRow, IsGet};
@@ -7,13 +8,20 @@ ghost use Rattle.snmp_agent.specs.table.Listing.{variables};
 ghost use Rattle.snmp_walk.specs.{declared.mode.Mode.Mode, declared.rows.Step.Step, Judged.Means};
 ghost use Rattle.snmp_walk.specs.{Walk.rows_below, Walk.walk_of, Walk.rest_of, private.Codec.Codec};
 ghost use Rattle.snmp_walk.specs.{Link.Agents, Link.OneOf, Ordered.AreOrdered, Ordered.IsResumable};
-ghost use Rattle.snmp_walk.specs.{Room.HasRoomForEach, Room.IsShort, Walker.Walker};
-ghost use Rattle.snmp_walk.specs.Network.{AreReplies, AreServed, Happening, IsFaithful, of_walk};
+ghost use Rattle.snmp_walk.specs.Loose.{agent_at, agents_at, last_sent, ways_left};
+ghost use Rattle.snmp_walk.specs.{Request.request_of, Room.HasRoomForEach, Room.IsShort};
+ghost use Rattle.snmp_walk.specs.{Walker.IsWalker, Walker.Walker};
+ghost use Rattle.snmp_walk.specs.Network.{AreReplies, AreRepliesOrErrors, AreServed, Happening};
+ghost use Rattle.snmp_walk.specs.Network.{IsFaithful, of_walk};
+ghost use Rattle.snmp_walk.specs.{declared.loose.LooseLink.LooseLink, Tries.Happens, Tries.InTurn};
+ghost use Rattle.snmp_agent.specs.Event.{Event};
 
+use crate::{Link, LooseLink, Way};
 use snmp_agent::{Endpoint, one_answer, shortest_reply};
 use snmp_oid::order;
 use snmp_wire::{
-    element_sizes, encoding_is_strict, message_sizes, one_spelling, pieces, strict_is_read,
+    element_sizes, encoding_is_strict, message_sizes, one_spelling, pieces, spelt_is_of_type,
+    strict_is_read,
 };
 
 /// The instances that a walk gives below its root are those of the table, in the order of their
@@ -59,6 +67,25 @@ pub fn short_rows_have_room()
         → ((p : VarBind) → IsRow view p → IsShort p.value) → HasRoomForEach agents view first }
 {}
 
+/// A request of a walk has at most 1,000 octets, and it is read as that request.
+pub fn requests_are_short()
+    ensures short { (w : Walker) → IsWalker w → length (canon (request_of w)) ≤ 1000 }
+    ensures read { (w : Walker) → IsWalker w → Spells (request_of w) (canon (request_of w)) }
+{
+    codec();
+}
+
+/// Of lists of bindings: which are in one that is joined of two, and that each part of one in order
+/// is in order.
+pub fn parts_of_lists()
+    ensures first { (xs ys : List VarBind) (p : VarBind) → OneOf xs p → OneOf (xs ++ ys) p }
+    ensures second { (xs ys : List VarBind) (p : VarBind) → OneOf ys p → OneOf (xs ++ ys) p }
+    ensures either { (xs ys : List VarBind) (p : VarBind) → OneOf (xs ++ ys) p
+        → OneOf xs p ⊎ OneOf ys p }
+    ensures ordered { (xs ys : List VarBind) → AreOrdered (xs ++ ys)
+        → AreOrdered xs × AreOrdered ys }
+{}
+
 /// By the rules of `specs/Judged.antt`, each message means just one thing to a walk.
 pub fn messages_mean()
     ensures found { (w : Walker) (m : Message) → (given : Step) × (new : Walker)
@@ -80,6 +107,25 @@ pub fn honest_networks<E: Endpoint>()
     ensures replies { (agents : Agents) (walker : E.Peer) (run : List (Happening E.Peer))
         → IsFaithful walker run → AreServed agents run → AreReplies agents (of_walk run) }
 {}
+
+/// Over a link to an agent that replies loosely, each message received is the agent's reply to a
+/// datagram that was sent before, or another Response that RFC 3416 lets it send to that, or has an
+/// error status. Nothing was sent over the link before.
+pub fn loose_replies()
+    ensures errors { (link after : LooseLink) (events : List (Event (Unit {0})))
+        → IsMibView (agent_at link).view → last_sent link ≡ []
+        → InTurn (Happens ⟦<LooseLink<'static> as Link>⟧) link events after
+        → AreRepliesOrErrors (agents_at link) events }
+    // If no way is genErr, no other error is received than those of replies.
+    ensures replies { (link after : LooseLink) (events : List (Event (Unit {0})))
+        → IsMibView (agent_at link).view → last_sent link ≡ []
+        → (OneOf (ways_left link) Way.GenErr → ⊥)
+        → InTurn (Happens ⟦<LooseLink<'static> as Link>⟧) link events after
+        → AreReplies (agents_at link) events }
+{
+    codec();
+    spelt_is_of_type();
+}
 
 /// What the crates below state of names, of messages and their encodings, of tables and replies.
 #[inline]

@@ -29,6 +29,7 @@ mod end;
 mod get;
 mod laws;
 mod link;
+mod loose;
 mod memory;
 mod memory_network;
 mod mode;
@@ -50,10 +51,11 @@ pub use run::run_walk;
 pub use sink::Sink;
 pub use walker::WalkCore;
 
-// Laws, which only proofs call, and a walk at one end of a network with the agent at the other,
-// which only tests run.
+// Laws, which only proofs call, and walks over networks and agents that only tests run.
 pub use laws::{
-    honest_networks, instances_below, messages_mean, rest_of_a_walk, short_rows_have_room,
+    honest_networks, instances_below, loose_replies, messages_mean, parts_of_lists,
+    requests_are_short, rest_of_a_walk, short_rows_have_room,
 };
+pub use loose::{LooseLink, Way, walk_loose};
 pub use memory_network::{Delivery, MemoryNetwork};
-pub use network::{Network, walk_served};
+pub use network::{Network, NetworkLink, walk_served};

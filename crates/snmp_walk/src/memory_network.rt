@@ -1,5 +1,5 @@
 //! A network in memory, which loses, repeats and delays datagrams by a list.
-ghost use Rattle.std.specs.Prelude.{◌≡◌, ◌≤◌, ◌++◌, ◌∷◌, [], ℕ, List, length, take, Some, None};
+ghost use Rattle.std.specs.Prelude.{◌≡◌, ◌≤◌, ◌+◌, ◌⊎◌, [], ℕ, List, length, take, Some, None};
 ghost use Rattle.std.specs.Prelude.{◌<◌, IfNone, IfOk, IfSome, OnOk, OnErr};
 ghost use Rattle.snmp_io.specs.Count.{HasRisen};
 
@@ -22,17 +22,21 @@ pub enum Delivery {
 
 /// A network in memory between a walk and an agent.
 ///
-/// It keeps what is sent at each end, and brings it to the other by the deliveries that it was made
-/// with, in turn. So a datagram that none of them names is lost, one that several name comes that
-/// often, and one that is named late is delayed. Where a delivery names a datagram that wasn't sent
-/// yet, nothing is received. After the last delivery the agent receives the latest datagram before
-/// each receive of the walk, and the walk the latest reply.
+/// It stores what is sent at each end, and delivers it to the other by the deliveries that it was
+/// made with, in turn. So a datagram that none of them names is lost, one that several name arrives
+/// that often, and one that is named late is delayed. If a delivery names a datagram that wasn't
+/// sent yet, nothing is received. After the last delivery nothing is lost: the agent receives the
+/// latest datagram before each receive of the walk, and the walk receives what the agent sent then,
+/// or nothing. If the agent's receive or send failed, so does the walk's receive.
 #[derive(Drop)]
 pub struct MemoryNetwork<'a> {
     deliveries: &'a [Delivery],
     used: usize,
     requests: Arena,
     replies: Arena,
+    /// The number of the reply that the agent sent in its last turn, 0 if it sent none, and None
+    /// if its receive or its send failed.
+    answer: Option<usize>,
     faults: u64,
 }
 
@@ -52,16 +56,25 @@ impl<'a> MemoryNetwork<'a> {
             used: 0,
             requests: Arena::new(alloc),
             replies: Arena::new(alloc),
+            answer: Some(0),
             faults: 0,
         }
     }
 
-    /// The number of the datagram that the agent receives, or 0 where that is none.
+    /// Returns the deliveries that are still to come.
+    fn ahead(&self) -> &'a [Delivery]
+        ensures { result.now ≡ ahead_of self.now }
+    {
+        &self.deliveries[self.used.min(self.deliveries.len())..]
+    }
+
+    /// Returns the number of the datagram that the agent receives, or 0 if that is none.
     fn next_request(&mut self) -> usize
         ensures used { IsNextRequest self.old.requests.datagrams (ahead_of self.old) result
             (ahead_of self.new) }
         ensures requests { self.new.requests ≡ self.old.requests }
         ensures replies { self.new.replies ≡ self.old.replies }
+        ensures answer { self.new.answer ≡ self.old.answer }
         ensures count { self.new.faults ≡ self.old.faults }
     {
         match self.deliveries.get(self.used) {
@@ -74,25 +87,26 @@ impl<'a> MemoryNetwork<'a> {
         }
     }
 
-    /// The number of the datagram that the walk receives, or 0 where that is none.
-    fn next_reply(&mut self) -> usize
-        ensures used { IsNextReply self.old.replies.datagrams (ahead_of self.old) result
-            (ahead_of self.new) }
+    /// Returns the number of the datagram that the walk receives, or 0 if that is none; or None if
+    /// its receive fails.
+    fn next_reply(&mut self) -> Option<usize>
+        ensures used { IsNextReply self.old.answer (ahead_of self.old) result (ahead_of self.new) }
         ensures requests { self.new.requests ≡ self.old.requests }
         ensures replies { self.new.replies ≡ self.old.replies }
+        ensures answer { self.new.answer ≡ self.old.answer }
         ensures count { self.new.faults ≡ self.old.faults }
     {
         match self.deliveries.get(self.used) {
             Some(Delivery::Reply(number)) => {
                 self.used += 1;
-                *number
+                Some(*number)
             }
             Some(Delivery::Nothing) => {
                 self.used += 1;
-                0
+                Some(0)
             }
-            Some(Delivery::Request(_)) => 0,
-            None => self.replies.len(),
+            Some(Delivery::Request(_)) => Some(0),
+            None => self.answer,
         }
     }
 
@@ -102,6 +116,7 @@ impl<'a> MemoryNetwork<'a> {
         ensures ahead { ahead_of self.new ≡ ahead_of self.old }
         ensures requests { self.new.requests ≡ self.old.requests }
         ensures replies { self.new.replies ≡ self.old.replies }
+        ensures answer { self.new.answer ≡ self.old.answer }
     {
         self.faults = self.faults.saturating_add(1);
     }
@@ -137,12 +152,14 @@ impl<'a> Endpoint for MemoryNetwork<'a> {
 
     fn receive(&mut self, buffer: &mut [u8]) -> Result<Option<(usize, ())>, EndpointFault> {
         let number = self.next_request();
+        self.answer = Some(0);
         let Some(datagram) = self.requests.datagram(number) else {
             return Ok(None);
         };
         match copy_to(datagram, buffer) {
             Some(length) => Ok(Some((length, ()))),
             None => {
+                self.answer = None;
                 self.count_fault();
                 Err(EndpointFault)
             }
@@ -151,8 +168,12 @@ impl<'a> Endpoint for MemoryNetwork<'a> {
 
     fn reply(&mut self, datagram: &[u8], _peer: ()) -> Result<(), EndpointFault> {
         match self.replies.push(datagram) {
-            Ok(()) => Ok(()),
+            Ok(()) => {
+                self.answer = Some(self.replies.len());
+                Ok(())
+            }
             Err(_) => {
+                self.answer = None;
                 self.count_fault();
                 Err(EndpointFault)
             }
@@ -165,12 +186,16 @@ impl<'a> Endpoint for MemoryNetwork<'a> {
 }
 
 impl<'a> Network for MemoryNetwork<'a> {
-    ghost use Rattle.std.specs.Prelude.{◌≡◌, ◌≤◌, [], List, length, IfOk, IfSome};
+    ghost use Rattle.std.specs.Prelude.{◌≡◌, ◌+◌, ◌≤◌, [], List, length, None, IfOk, IfSome};
+    ghost use Rattle.std.specs.Prelude.{OnErr, OnOk};
+    ghost use Rattle.snmp_io.specs.Count.{HasRisen};
     ghost use Rattle.snmp_agent.specs.Event.{InTurn};
     ghost use Rattle.snmp_walk.specs.Network.{Happening, at_walk, event_of_got, event_of_send};
-    ghost use Rattle.snmp_walk.specs.MemoryNetwork.{Carries, IsNew, replies_of};
+    ghost use Rattle.snmp_walk.specs.MemoryNetwork.{Carries, IsNew, IsPrompt, ahead_of, replies_of};
+    ghost use Rattle.snmp_walk.specs.MemoryNetwork.{leading_requests, requests_of};
     ghost use Rattle.snmp_walk.specs.Traffic.{datagram_at};
-    ghost use Rattle.snmp_walk.specs.CarriesLaws.{faithful_in_memory};
+    ghost use Rattle.snmp_walk.specs.CarriesLaws.{faithful_in_memory, prompt_in_memory};
+    ghost use Rattle.snmp_walk.specs.CarriesLaws.{still_prompt_in_memory};
 
     ghost carries = { Carries };
 
@@ -178,19 +203,36 @@ impl<'a> Network for MemoryNetwork<'a> {
 
     ghost walker = { λ _. tt };
 
+    ghost turn_count = { λ network. leading_requests (ahead_of network) + 1 };
+
+    ghost sent = { requests_of };
+
+    ghost is_prompt = { IsPrompt };
+
     ghost at_end = { λ old new e h. h };
 
     ghost faithful = { faithful_in_memory };
 
-    fn turns(&self) -> u64 {
-        let mut count = 0_u64;
-        'deliveries: for delivery in &self.deliveries[self.used.min(self.deliveries.len())..] {
+    ghost starts = { λ network h. h.requests };
+
+    ghost sending = { λ old new e h. h.requests };
+
+    ghost still_prompt = { still_prompt_in_memory };
+
+    ghost replying = { prompt_in_memory };
+
+    fn turns(&self) -> u64
+        ensures { result ≡ leading_requests (ahead_of self.now) + 1 }
+    {
+        let ahead = self.ahead();
+        let mut count = 1_u64;
+        'deliveries: for delivery in ahead {
             match delivery {
-                Delivery::Request(_) => count = count.saturating_add(1),
+                Delivery::Request(_) => count += 1,
                 _ => return count,
             }
         }
-        count.saturating_add(1)
+        count
     }
 
     fn send(&mut self, datagram: &[u8]) -> Result<(), LinkFault> {
@@ -205,12 +247,18 @@ impl<'a> Network for MemoryNetwork<'a> {
 
     fn receive_reply(&mut self, buffer: &mut [u8]) -> Result<Option<usize>, LinkFault>
         ensures length { IfOk result (λ got. IfSome got (λ n. n ≤ length buffer.old)) }
-        ensures came { Carries self.old (at_walk (event_of_got result buffer.new)) self.new }
-        ensures no_room { OnErr result ((number : ℕ) × (d : List ℕ)
+        ensures carries { Carries self.old (at_walk (event_of_got result buffer.new)) self.new }
+        ensures count { OnOk result (self.new.faults ≡ self.old.faults) }
+        ensures fault { OnErr result (HasRisen self.old.faults self.new.faults) }
+        ensures no_room { OnErr result (((ahead_of self.old ≡ []) × (self.old.answer ≡ None))
+            ⊎ ((number : ℕ) × (d : List ℕ)
             × (datagram_at (replies_of self.old) number ≡ Some d)
-            × (length buffer.old < length d)) }
+            × (length buffer.old < length d))) }
     {
-        let number = self.next_reply();
+        let Some(number) = self.next_reply() else {
+            self.count_fault();
+            return Err(LinkFault);
+        };
         let Some(datagram) = self.replies.datagram(number) else {
             return Ok(None);
         };

@@ -1,12 +1,9 @@
 //! A walk and the agent that replies to it, at the two ends of one network.
-ghost use Rattle.std.specs.Prelude.{◌≡◌, ◌≢◌, ◌≤◌, ◌++◌, ◌∷◌, [], ℕ, List, length, take, IsErr};
+ghost use Rattle.std.specs.Prelude.{◌≡◌, ◌≤◌, ◌+◌, length, take, IsErr};
 ghost use Rattle.std.specs.Prelude.{IfOk, IfSome, IfNone, OnOk, OnErr};
 ghost use Rattle.snmp_io.specs.Count.{HasRisen};
-ghost use Rattle.snmp_agent.specs.Reply.{agent_of};
-ghost use Rattle.snmp_agent.specs.Event.{came, sent, send_failed, silence, receive_failed};
-ghost use Rattle.snmp_walk.specs.Facts.{GivenFacts, IsFresh};
-ghost use Rattle.snmp_walk.specs.{Link.Agents, Memory.agents_over, Ran.IsRun};
-ghost use Rattle.snmp_walk.specs.Network.{AreServed, IsServedThen, of_walk};
+ghost use Rattle.snmp_walk.specs.{Facts.IsFresh, Link.AreLawful, Ran.IsRun};
+ghost use Rattle.snmp_walk.specs.Served.{IsWalkServed, agents_at};
 
 use crate::run::run_walk;
 use crate::{Link, LinkFault, Sink, WalkCore, WalkEnd};
@@ -14,13 +11,18 @@ use snmp_agent::{Config, Endpoint, Table, serve_at};
 
 /// A network between a walk and an agent, whose end of it is an endpoint.
 ///
-/// It may lose, repeat and delay datagrams, and bring them in another order, as UDP may (RFC 768);
-/// it makes none up and alters none.
+/// It may lose, repeat, delay and reorder datagrams, as UDP may (RFC 768). It makes none up and
+/// alters none.
 pub trait Network: Endpoint {
-    ghost use Rattle.std.specs.Prelude.{◌≡◌, ◌≤◌, ◌++◌, ◌∷◌, [], List, length, IfOk, IfSome};
+    ghost use Rattle.std.specs.Prelude.{◌≡◌, ◌≤◌, ◌++◌, ◌∷◌, [], ℕ, List, map, length, IfOk, IfSome};
+    ghost use Rattle.std.specs.Prelude.{OnErr, OnOk};
+    ghost use Rattle.snmp_io.specs.Count.{HasRisen};
     ghost use Rattle.snmp_agent.specs.Event.{Event, InTurn};
-    ghost use Rattle.snmp_walk.specs.Network.{Happening, IsFaithful, at_agents, at_walk};
-    ghost use Rattle.snmp_walk.specs.Network.{event_of_got, event_of_send};
+    ghost use Rattle.snmp_agent.specs.{Reply.Agent, Serving.AreTurns};
+    ghost use Rattle.snmp_agent.specs.declared.server.Served.{Served};
+    ghost use Rattle.snmp_walk.specs.Network.{Happening, IsFaithful, RepliesTo, at_agents, at_walk};
+    ghost use Rattle.snmp_walk.specs.Network.{event_of_got, event_of_send, requests_by};
+    ghost use Rattle.snmp_walk.specs.Traffic.{latest};
 
     /// Whether this may happen at one end in the first state, and leave the network in the last
     /// state.
@@ -32,84 +34,132 @@ pub trait Network: Endpoint {
     /// Who the walk is to the agent.
     ghost walker: { Self → Self.Peer };
 
-    /// How many turns the agent has before the walk's next receive is over.
-    fn turns(&self) -> u64;
+    /// The number of turns of the agent before the walk's next receive returns.
+    ghost turn_count: { Self → ℕ };
 
-    /// Sends a datagram of the walk to the agent.
+    /// The datagrams that the walk sent.
+    ghost sent: { Self → List (List ℕ) };
+
+    /// Whether the network loses and delays nothing from now on: after the agent's turns each
+    /// receive of the walk returns the agent's reply to the datagram that the walk sent last, or
+    /// nothing if the agent has no reply to it, or a fault.
+    ghost is_prompt: { Self → Type 0 };
+
+    /// Returns the number of turns of the agent before the walk's next receive returns.
+    fn turns(&self) -> u64
+        ensures { result ≡ turn_count self.now };
+
+    /// Sends a datagram of the walk to the agent. A fault is counted.
     fn send(&mut self, datagram: &[u8]) -> Result<(), LinkFault>
-        ensures { carries self.old (at_walk (event_of_send result datagram.now)) self.new };
+        ensures carries { carries self.old (at_walk (event_of_send result datagram.now)) self.new }
+        ensures count { OnOk result (Self.fault_count self.new ≡ Self.fault_count self.old) }
+        ensures fault { OnErr result
+            (HasRisen (Self.fault_count self.old) (Self.fault_count self.new)) };
 
-    /// Receives a datagram for the walk into the front of the buffer and returns its length, or
-    /// None where none comes in time. A datagram that has no room there is a fault.
+    /// Receives a datagram for the walk into the start of the buffer and returns its length, or
+    /// None if none arrives in time. A datagram that is longer than the buffer is a fault. A fault
+    /// is counted.
     fn receive_reply(&mut self, buffer: &mut [u8]) -> Result<Option<usize>, LinkFault>
         ensures length { IfOk result (λ got. IfSome got (λ n. n ≤ length buffer.old)) }
-        ensures came { carries self.old (at_walk (event_of_got result buffer.new)) self.new };
+        ensures carries { carries self.old (at_walk (event_of_got result buffer.new)) self.new }
+        ensures count { OnOk result (Self.fault_count self.new ≡ Self.fault_count self.old) }
+        ensures fault { OnErr result
+            (HasRisen (Self.fault_count self.old) (Self.fault_count self.new)) };
 
     /// What happens at the agent's endpoint happens on the network.
     ghost at_end: { (old new : Self) (e : Event Self.Peer) → Self.happens old e new
         → carries old (at_agents e) new };
 
-    /// What comes at an end was sent to it before, at the other.
+    /// A datagram that arrives at one end was sent at the other end before.
     ghost faithful: { (first last : Self) (run : List (Happening Self.Peer)) → is_new first
         → InTurn carries first run last → IsFaithful (walker first) run };
+
+    /// Over a new network the walk has sent nothing.
+    ghost starts: { (network : Self) → is_new network → sent network ≡ [] };
+
+    /// Nothing else is sent by the walk than what happens at its end.
+    ghost sending: { (old new : Self) (e : Happening Self.Peer) → carries old e new
+        → sent new ≡ sent old ++ requests_by e };
+
+    /// A prompt network stays prompt, whatever happens.
+    ghost still_prompt: { (old new : Self) (e : Happening Self.Peer) → is_prompt old
+        → carries old e new → is_prompt new };
+
+    /// A receive over a prompt network returns the agent's reply to the latest datagram.
+    ghost replying: { (old new : Self) (agent : Agent) (served : Served)
+        (events : List (Event Self.Peer)) (e : Event (Unit {0})) → is_prompt old
+        → AreTurns agent (turn_count old) served events
+        → InTurn carries old (map at_agents events ++ at_walk e ∷ []) new
+        → RepliesTo agent (latest (sent old)) e };
 }
 
 /// A link over a network to the agent that serves a table at its other end.
 #[derive(Drop)]
-struct NetworkLink<'a, N> {
+pub struct NetworkLink<'a, N> {
     network: N,
     table: &'a Table,
     config: Config<'a>,
     faults: u64,
 }
 
+impl<'a, N: Network> NetworkLink<'a, N> {
+    ghost use Rattle.std.specs.Prelude.{◌≡◌};
+    ghost use Rattle.snmp_walk.specs.{Link.AreLawful, Served.agents_at};
+
+    /// Returns the link over this network to the agent of this table.
+    pub fn new(network: N, table: &'a Table, config: Config<'a>) -> NetworkLink<'a, N>
+        ensures network { result.network ≡ network }
+        ensures table { result.table.now ≡ table.now }
+        ensures config { result.config ≡ config.entry }
+        ensures no_fault { result.faults ≡ 0 }
+        ensures lawful { AreLawful (agents_at result) }
+    {
+        table.is_mib_view();
+        NetworkLink {
+            network,
+            table,
+            config,
+            faults: 0,
+        }
+    }
+}
+
 impl<'a, N: Network> Link for NetworkLink<'a, N> {
     ghost use Rattle.std.specs.Prelude.{◌≡◌, [], ◌∷◌};
     ghost use Rattle.snmp_agent.specs.Event.{came, sent, send_failed, silence, receive_failed};
-    ghost use Rattle.snmp_agent.specs.Reply.{agent_of};
-    ghost use Rattle.snmp_walk.specs.Link.{Agents};
-    ghost use Rattle.snmp_walk.specs.Memory.{agents_over};
-    ghost use Rattle.snmp_walk.specs.Network.{IsServedThen, at_walk};
+    ghost use Rattle.snmp_walk.specs.Link.{AreLawful};
+    ghost use Rattle.snmp_walk.specs.Network.{at_walk};
+    ghost use Rattle.snmp_walk.specs.Served.{IsServedBy, SameAgent, agents_at};
     ghost use Rattle.snmp_walk.specs.Traffic.{Traffic};
 
-    ghost keeps = { λ _. ⊥ };
+    ghost keeps = { λ _. Unit {0} };
 
-    ghost honest = { λ _. ⊥ };
+    ghost honest = { λ link. N.is_prompt link.network × AreLawful (agents_at link) };
 
-    ghost agents = { λ link. agents_over (link.table.now ∷ []) link.config };
+    ghost agents = { agents_at };
 
-    ghost traffic = { λ _. record { sent = []; ahead = [] } };
+    // After each receive all that the network delivers is the reply to the latest datagram.
+    ghost traffic = { λ link. record { sent = N.sent link.network; ahead = [] } };
 
     ghost fault_count = { λ link. link.faults };
 
     ghost ready = { λ _ _ _. ⊥ };
 
-    ghost brings = { λ old d new.
-        (agent_of new.table.now new.config ≡ agent_of old.table.now old.config)
-        × IsServedThen N.carries (agent_of old.table.now old.config) old.network (came tt d)
-        new.network };
+    ghost brings = { λ old d new. IsServedBy N.carries N.turn_count old (came tt d) new };
 
-    ghost sends = { λ old d new.
-        (agent_of new.table.now new.config ≡ agent_of old.table.now old.config)
+    ghost sends = { λ old d new. SameAgent old new
         × N.carries old.network (at_walk (sent tt d)) new.network };
 
-    ghost send_fails = { λ old d new.
-        (agent_of new.table.now new.config ≡ agent_of old.table.now old.config)
+    ghost send_fails = { λ old d new. SameAgent old new
         × N.carries old.network (at_walk (send_failed tt d)) new.network };
 
-    ghost is_silent = { λ old new.
-        (agent_of new.table.now new.config ≡ agent_of old.table.now old.config)
-        × IsServedThen N.carries (agent_of old.table.now old.config) old.network silence
-        new.network };
+    ghost is_silent = { λ old new. IsServedBy N.carries N.turn_count old silence new };
 
-    ghost receive_fails = { λ old new.
-        (agent_of new.table.now new.config ≡ agent_of old.table.now old.config)
-        × IsServedThen N.carries (agent_of old.table.now old.config) old.network receive_failed
-        new.network };
+    ghost receive_fails = { λ old new. IsServedBy N.carries N.turn_count old receive_failed new };
 
-    ghost keeping = { λ _ h. h };
+    ghost keeping = { λ _ _. tt };
 
-    ghost lawful = { λ _ h. absurd h };
+    ghost lawful = { λ link h. h.1 };
 
     fn send(&mut self, datagram: &[u8]) -> Result<(), LinkFault> {
         match self.network.send(datagram) {
@@ -121,7 +171,7 @@ impl<'a, N: Network> Link for NetworkLink<'a, N> {
         }
     }
 
-    /// The agent serves its turns, and then the walk receives.
+    /// The agent has its turns, and then the walk receives.
     fn receive(&mut self, buffer: &mut [u8]) -> Result<Option<usize>, LinkFault> {
         let turns = self.network.turns();
         serve_at(&mut self.network, self.table, &self.config, turns);
@@ -139,29 +189,25 @@ impl<'a, N: Network> Link for NetworkLink<'a, N> {
     }
 }
 
-/// Walks over a network, at whose other end the agent serves the table: both programs at work.
+/// Walks over a network at whose other end the agent serves a table: both programs run.
 ///
-/// Whatever the network loses, repeats and delays, what is given is a beginning of the walk over
-/// that table, and all of it where the walk is done.
-pub fn walk_served<N: Network + Drop, S: Sink>(
-    network: N,
-    table: &Table,
-    config: Config<'_>,
+/// What [`run_walk`] promises of any link holds of this one: for example the walk ends with
+/// `NoResponse` only after `retries + 1` sends of one request, in each of which the agent had its
+/// turns. Whatever the network loses, repeats and delays, what is given is a beginning of the walk
+/// over that table, and all of it if the walk is done. Over a network that loses and delays
+/// nothing, the walk is done, unless the network or the sink fails.
+pub fn walk_served<'a, N: Network + Drop, S: Sink>(
+    link: &mut NetworkLink<'a, N>,
     core: WalkCore,
     retries: u32,
     sink: &mut S,
 ) -> WalkEnd
     requires fresh { IsFresh core }
-    requires new { N.is_new network }
-    ensures { IsRun S.takes sink.old result sink.new (λ rows refused. GivenFacts
-        (agents_over (table.now ∷ []) config.entry) (λ w. Unit {0}) core rows refused result) }
+    requires new { N.is_new link.old.network }
+    ensures ran { IsRun S.takes sink.old result sink.new (λ rows refused. IsWalkServed
+        ⟦<NetworkLink<'a, N> as Link>⟧ (agents_at link.old) (N.is_prompt link.old.network)
+        link.old link.new (retries + 1) core rows refused result) }
 {
-    table.is_mib_view();
-    let mut link = NetworkLink {
-        network,
-        table,
-        config,
-        faults: 0,
-    };
-    run_walk(&mut link, core, retries, sink)
+    link.table.is_mib_view();
+    run_walk(link, core, retries, sink)
 }

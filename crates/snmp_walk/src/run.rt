@@ -7,22 +7,39 @@ use crate::tries::{Course, exchange};
 use crate::{Link, Sink, WalkCore, WalkEnd};
 use snmp_wire::MAX_DATAGRAM;
 
-/// Walks over the link with a core that has taken no reply yet: each request is sent at most
-/// `retries + 1` times, and each binding of the walk is given to the sink as it comes.
+/// Walks over a link with a core that has taken no reply yet. Each request is sent at most
+/// `retries + 1` times, and each binding of the walk is passed to the sink as it arrives.
 ///
-/// Whatever the link brings, the walk ends, each way for its own reason, and the names given below
-/// the root rise. Over a fresh and honest link to the agent of one table, of the walk's community,
-/// whose messages have room for each single binding, and with enough ids for a request for each row
-/// and two more, it is done unless the link or the sink stops it or messages are lost. Where the
-/// table changes under the walk, a walk that is done has given each name that all the tables have
-/// once. Such a link that is ready for the tries of a request for each row and three more, of 1,000
-/// octets each, doesn't stop it.
+/// The clause `ran` says that the sink was passed some bindings, and perhaps refused one more
+/// (`IsRun`). What is known of these bindings and of the end are the fields of `IsWalkedOver`
+/// (`specs/Ran.antt`). Over any link:
 ///
-/// Over any link, also one that knows nothing of its agents: where each message that came is the
-/// reply of one of these agents, or another Response that RFC 3416 lets it send, to a datagram that
-/// was sent before, as over a network that alters nothing (`honest_networks`), what is given is a
-/// beginning of the walk, and all of it where the walk is done; also where errors came, such as
-/// genErr.
+/// - `part`: each name passed is the root or below it.
+/// - `ends.rising`: the names increase, so that each is passed once.
+/// - `ends.counted`: if the end is `Done(n)`, n bindings were passed.
+/// - `ends.reason`: the end has its reason in what the link delivered. For example `NoResponse`
+///   comes only after `retries + 1` sends of one request, none of which received its reply.
+/// - `moved`: the ids of the requests increase by one, and each request is sent 1 to `retries + 1`
+///   times, with at most 64 receives after a send. The link failed if the end is `Link`.
+/// - `few_of_rows`: there is at most one request for each row passed, one more, and a Get.
+/// - `happened.replied`: if all that arrived are replies of some agents, as over a network that
+///   alters nothing (`honest_networks`), a beginning of the walk over their table is passed, and all
+///   of it if the walk is done.
+/// - `happened.replied_or_failed`: the same if errors may have arrived too, such as genErr.
+///
+/// Over a link that stores what is sent:
+///
+/// - `sent`: which requests were sent, and how often.
+/// - `later`: a later walk over the link may begin with the id after those of this one.
+///
+/// Over an honest link, one that delivers only replies of its agents, if the requests that were sent
+/// over it before have lower ids:
+///
+/// - `judged.given`: the same as `happened.replied`. If the table changes during the walk, each name
+///   that all the tables have is passed once (`common_at_done`).
+/// - `judged.done_unless_stopped`: without losses the walk is done unless the link or the sink fails,
+///   if each binding has room in a message and there are enough ids.
+/// - `ready`: a link that is ready for all sends doesn't fail.
 // Not inlined: its buffers are on the stack, and a caller with several such calls would have room
 // for each of them.
 #[inline(never)]
@@ -33,7 +50,7 @@ pub fn run_walk<L: Link, S: Sink>(
     sink: &mut S,
 ) -> WalkEnd
     requires { IsFresh core }
-    ensures { IsRun S.takes sink.old result sink.new (λ rows refused.
+    ensures ran { IsRun S.takes sink.old result sink.new (λ rows refused.
         IsWalkedOver L.Link link.old link.new (retries + 1) core rows refused result) }
 {
     codec();

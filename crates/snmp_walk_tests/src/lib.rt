@@ -1,5 +1,5 @@
 //! Tests of walks: over links in memory with any deliveries and tables, over a network in memory,
-//! over an agent that lies, and over links and into sinks that fail.
+//! over agents that lie or reply loosely, and over links and into sinks that fail.
 #![tactic(auto)]
 
 #[cfg(test)]
@@ -8,6 +8,8 @@ mod faults;
 mod gets;
 #[cfg(test)]
 mod liar;
+#[cfg(test)]
+mod loose;
 #[cfg(test)]
 mod memory;
 #[cfg(test)]

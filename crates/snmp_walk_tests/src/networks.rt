@@ -6,7 +6,8 @@ use crate::runs::{ROOT, public, table_of, walk_of};
 use crate::sinks::Digits;
 use snmp_agent::{Endpoint, EndpointFault, Table};
 use snmp_walk::{
-    Delivery, LinkFault, MemoryNetwork, Method, Mode, Network, WalkCore, WalkEnd, walk_served,
+    Delivery, LinkFault, MemoryNetwork, Method, Mode, Network, NetworkLink, WalkCore, WalkEnd,
+    walk_served,
 };
 use std::alloc::Global;
 use std::process::Abort;
@@ -35,16 +36,9 @@ fn brings(
     requires { IsFresh core }
 {
     let network = MemoryNetwork::new(alloc, case.deliveries);
+    let mut link = NetworkLink::new(network, table, public(1472));
     let mut digits = Digits::new();
-    walk_served(
-        network,
-        table,
-        public(1472),
-        core,
-        case.retries,
-        &mut digits,
-    ) == *end
-        && digits.number == number
+    walk_served(&mut link, core, case.retries, &mut digits) == *end && digits.number == number
 }
 
 /// The walk over the network of these deliveries gives these integers and ends in this way.
@@ -153,24 +147,41 @@ fn nothing_comes_of_a_datagram_that_was_not_sent(rt: HostRuntime) {
     assert_walk(&rt, rt.alloc(), EARLY, 1, 123, &WalkEnd::Done(3));
 }
 
-/// Whether a datagram of three octets is a fault of a receive into two, and comes whole into three.
+#[test]
+fn the_agent_has_a_turn_for_each_request_that_is_delivered(rt: HostRuntime) {
+    const THREE_REQUESTS: &[Delivery] = &[
+        Delivery::Request(1),
+        Delivery::Request(1),
+        Delivery::Nothing,
+        Delivery::Request(1),
+    ];
+    assert!(&rt; MemoryNetwork::new(rt.alloc(), THREE_REQUESTS).turns() == 3);
+    assert!(&rt; MemoryNetwork::new(rt.alloc(), &[]).turns() == 1);
+}
+
+/// Returns whether a datagram of three octets is a fault of a receive into two, and arrives whole
+/// into three.
 fn comes_whole(network: &mut MemoryNetwork<'_>) -> bool {
     let mut short = [0; 2];
     let mut exact = [0; 3];
     network.receive(&mut short) == Err(EndpointFault)
         && network.faults() == 1
+        // Without deliveries a fault of the agent is one of the walk too.
+        && network.receive_reply(&mut exact) == Err(LinkFault)
+        && network.faults() == 2
         && network.receive(&mut exact) == Ok(Some((3, ())))
         && exact == [7, 8, 9]
+        && network.receive_reply(&mut exact) == Ok(None)
+        && network.reply(&[4, 5, 6], ()).is_ok()
         && network.receive_reply(&mut short) == Err(LinkFault)
         && network.receive_reply(&mut exact) == Ok(Some(3))
         && exact == [4, 5, 6]
-        && network.faults() == 2
+        && network.faults() == 3
 }
 
 #[test]
 fn a_datagram_that_has_no_room_is_a_fault(rt: HostRuntime) {
     let mut network = MemoryNetwork::new(rt.alloc(), &[]);
     assert!(&rt; network.send(&[7, 8, 9]).is_ok());
-    assert!(&rt; network.reply(&[4, 5, 6], ()).is_ok());
     assert!(&rt; comes_whole(&mut network));
 }

@@ -32,10 +32,11 @@ turns-smaller g c =
 pub returns-in-Ok-Some-Ends : goal.returns-in-Ok-Some-Ends
 returns-in-Ok-Some-Ends g c =
     let is = c.in-Ok-Some-Ends in
-    turn g (goal.at.returns-in-Ok-Some-Ends g c).After-exchange _ (is.is ∙ ap Ok (is.field-0-is ∙ ap Some is.field-0-0-is))
+    record { ran = turn g (goal.at.returns-in-Ok-Some-Ends g c).After-exchange _ (is.is ∙ ap Ok (is.field-0-is ∙ ap Some is.field-0-0-is)) }
 
 pub returns-in-Ok-None : goal.returns-in-Ok-None
-returns-in-Ok-None g c = turn g (goal.at.returns-in-Ok-None g c).After-exchange _ (c.in-Ok-None.is ∙ ap Ok c.in-Ok-None.field-0-is)
+returns-in-Ok-None g c =
+    record { ran = turn g (goal.at.returns-in-Ok-None g c).After-exchange _ (c.in-Ok-None.is ∙ ap Ok c.in-Ok-None.field-0-is) }
 
 pub returns-in-Err : goal.returns-in-Err
-returns-in-Err g c = turn g (goal.at.returns-in-Err g c).After-exchange _ c.in-Err.is
+returns-in-Err g c = record { ran = turn g (goal.at.returns-in-Err g c).After-exchange _ c.in-Err.is }
