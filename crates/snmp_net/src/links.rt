@@ -11,8 +11,9 @@ use snmp_walk::{Link, LinkFault};
 /// A walk's promises rest on the facts of the link that it opens. Of the machine's own links
 /// nothing is known.
 pub trait Links {
-    /// A link to an agent.
-    type Wire: Link + Drop;
+    /// A link to an agent. It can't be dropped: the caller of `open` has to close it, so `closes`
+    /// says in which state it was at its end.
+    type Wire: Link;
 
     /// Where an agent receives requests and sends its replies.
     type Door: Drop;
@@ -20,6 +21,10 @@ pub trait Links {
     /// Whether in the first state this link may be opened to this port of this host, over which a
     /// receive waits this many seconds, and the network is left in the last state.
     ghost opens: { Self → (host : List ℕ) → (port seconds : ℕ) → Self.Wire → Self → Type 0 };
+
+    /// Whether in the first state this link may be closed, and the network is left in the last
+    /// state.
+    ghost closes: { Self → Self.Wire → Self → Type 0 };
 
     /// Whether in the first state this door may be opened at this port of this host, and the
     /// network is left in the last state.
@@ -46,6 +51,11 @@ pub trait Links {
         ensures count { OnOk result (fault_count self.new ≡ fault_count self.old) }
         ensures failed { OnErr result (fails self.old self.new) }
         ensures fault { OnErr result (HasRisen (fault_count self.old) (fault_count self.new)) };
+
+    /// Closes a link.
+    fn close(&mut self, wire: Self::Wire)
+        ensures closed { closes self.old wire self.new }
+        ensures count { fault_count self.new ≡ fault_count self.old };
 
     /// Opens a door at a UDP port of a host. A fault is counted.
     fn bind(&mut self, host: &str, port: u16) -> Result<Self::Door, LinkFault>

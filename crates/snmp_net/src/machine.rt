@@ -42,6 +42,8 @@ impl<N: Net> Links for MachineLinks<N> {
 
     ghost opens = { λ _ _ _ _ _ _. Unit {0} };
 
+    ghost closes = { λ _ _ _. Unit {0} };
+
     ghost binds = { λ _ _ _ _ _. Unit {0} };
 
     ghost serves = { λ _ _ _ _ _ _ _. Unit {0} };
@@ -56,6 +58,8 @@ impl<N: Net> Links for MachineLinks<N> {
             Err(_) => Err(self.fault()),
         }
     }
+
+    fn close(&mut self, _wire: UdpLink) {}
 
     fn bind(&mut self, host: &str, port: u16) -> Result<UdpSocket, LinkFault> {
         match bound(&self.net, host, port) {

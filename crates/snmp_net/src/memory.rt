@@ -77,6 +77,8 @@ impl<'a> Links for MemoryLinks<'a> {
     ghost opens = { λ old host port _ link new.
         OpensTo old.agents.now host port link × (new ≡ old) };
 
+    ghost closes = { λ old _ new. new ≡ old };
+
     ghost binds = { λ old host port door new.
         BindsAt old.agents.now old.requests.now host port door × (new ≡ old) };
 
@@ -98,6 +100,8 @@ impl<'a> Links for MemoryLinks<'a> {
             None => Err(self.fault()),
         }
     }
+
+    fn close(&mut self, _wire: MemoryLink<'a>) {}
 
     fn bind(&mut self, host: &str, port: u16) -> Result<MemoryDoor<'a>, LinkFault> {
         match agent_at(self.agents, host, port) {
