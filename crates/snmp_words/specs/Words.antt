@@ -237,9 +237,18 @@ abbrev pub HasFaultOf : UsageError → Kinds → Type 0
 HasFaultOf Memory faults = ⊤
 HasFaultOf (Parse text help) faults = (k : ErrorKind) × IsAmong k faults × (help ≡ asks_help k)
 
--- the words ask for help, or for the version
-abbrev pub AskForHelp : List Text → Type 0
-AskForHelp words = (k : ErrorKind) × IsAmong k (faults_of words) × (asks_help k ≡ true)
+-- how a text for the user ends: that of a mistake with the words for help
+abbrev pub end_of_text : (help : Bool) → Text
+end_of_text true = codes "\n"
+end_of_text false = codes "--help'.\n"
+
+abbrev pub IsTextFor : (help : Bool) → Text → Type 0
+IsTextFor help text = (front : Text) × (text ≡ front ++ end_of_text help)
+
+-- its text, if it has one, ends so
+abbrev pub IsForUser : UsageError → Type 0
+IsForUser Memory = ⊤
+IsForUser (Parse text help) = IsTextFor help (string_bytes text)
 
 -- ---- the words of a walk
 

@@ -25,8 +25,8 @@ mod options;
 ghost use Rattle.std.specs.Prelude.{◌≡◌, [], List, ℕ, true, IfErr, IfOk, OnOk};
 ghost use Rattle.clap.specs.{Walk.Text, Walk.texts, Words.kind_of};
 ghost use Rattle.snmp_words.specs.Command.{faults_of, is_taken};
-ghost use Rattle.snmp_words.specs.Words.{HasFaultOf, StandsFor, StateJob, Stated, job_words};
-ghost use Rattle.snmp_words.specs.Words.{snmpwalk, walk_line, words_of_walk};
+ghost use Rattle.snmp_words.specs.Words.{HasFaultOf, IsForUser, StandsFor, StateJob, Stated};
+ghost use Rattle.snmp_words.specs.Words.{job_words, snmpwalk, walk_line, words_of_walk};
 ghost use Rattle.snmp_words.specs.declared.UsageError.TheVariants.{Memory};
 
 use clap::error::ErrorKind;
@@ -66,6 +66,7 @@ pub fn read_words<'a>(alloc: Global, words: &'a [&'a str]) -> Result<Job<'a>, Us
     ensures taken { IfErr result (λ e.
         is_taken (texts words.entry.now) ≡ true → e ≡ Memory) }
     ensures refused { IfErr result (λ e. HasFaultOf e (faults_of (texts words.entry.now))) }
+    ensures text { IfErr result IsForUser }
 {
     let command = snmp_command(alloc)?;
     match command.try_get_matches_from(words) {
@@ -110,6 +111,7 @@ pub fn faultless_words_state_a_job()
 fn usage_error(alloc: Global, error: &clap::Error, words: &[&str]) -> UsageError
     ensures memory { kind_of error.now ≡ ErrorKind.OutOfMemory → result ≡ Memory }
     ensures refusal { StandsFor result (kind_of error.now) }
+    ensures text { IsForUser result }
 {
     if matches!(error.kind(), ErrorKind::OutOfMemory) {
         return UsageError::Memory;

@@ -1,5 +1,9 @@
 //! What is printed where words give no job: the text of the parser, with what to write in place of
 //! a word of Net-SNMP, what a value should be, and the help to read.
+ghost use Rattle.std.specs.Prelude.{IfOk, false, string_bytes, true};
+ghost use Rattle.clap.specs.Words.{kind_of};
+ghost use Rattle.snmp_words.specs.Words.{IsTextFor, asks_help};
+
 use crate::command::VERSION;
 use clap::error::ErrorKind;
 use std::alloc::{AllocError, Global};
@@ -135,16 +139,30 @@ pub(crate) fn text_of(
     alloc: Global,
     error: &clap::Error,
     words: &[&str],
-) -> Result<String, AllocError> {
+) -> Result<String, AllocError>
+    ensures { IfOk result (λ text.
+        IsTextFor (asks_help (kind_of error.now)) (string_bytes text)) }
+{
     match error.kind() {
-        ErrorKind::DisplayHelp => format!(in alloc; "{error}"),
-        ErrorKind::DisplayVersion => format!(in alloc; "snmp {VERSION}\n"),
+        ErrorKind::DisplayHelp => with_newline(format!(in alloc; "{error}")?),
+        ErrorKind::DisplayVersion => with_newline(format!(in alloc; "snmp {VERSION}")?),
         kind => {
             let text = format!(in alloc; "{error}")?;
             let version = tip_on_version(words);
             explained(alloc, text.as_str(), command_of(kind, words), version)
         }
     }
+}
+
+/// The text with a newline at its end, if it has none.
+fn with_newline(mut text: String) -> Result<String, AllocError>
+    ensures { IfOk result (λ text. IsTextFor true (string_bytes text)) }
+{
+    if text.ends_with('\n') {
+        text.pop();
+    }
+    text.push_str("\n")?;
+    Ok(text)
 }
 
 /// The command that the words begin with; None where the parser refused the first word as a
@@ -165,7 +183,9 @@ fn explained(
     text: &str,
     command: Option<&str>,
     version: Option<&str>,
-) -> Result<String, AllocError> {
+) -> Result<String, AllocError>
+    ensures { IfOk result (λ text. IsTextFor false (string_bytes text)) }
+{
     let (mistake, rest) = text.split_once("\n\n").unwrap_or((text, ""));
     let (tips, rest) = tips_before(rest);
     let usage = rest
