@@ -11,7 +11,7 @@ use Rattle.snmp_agent.specs.{table.Exact.HasOne, table.Listing.variables}
 use Rattle.snmp_agent.specs.table.Table.{MibView, IsMibView, IsGet, IsRow}
 use Rattle.snmp_walk.specs.Facts.{GivenFacts, HasNone, IsDone, IsDoneOrStopped, IsLawfulEnd, WalkFacts, walk_at}
 use Rattle.snmp_walk.specs.Get.{GetFacts, IsEndOfGet, IsLostGet, IsTooBig}
-use Rattle.snmp_walk.specs.{Link.Agents, Link.IsUnanswered, Link.OneOf, Names.comes_after, Ran.IsFreshAndHonest, Traffic.Lost, Traffic.Traffic}
+use Rattle.snmp_walk.specs.{Link.Agents, Link.IsUnanswered, Link.OneOf, Names.comes_after, Ran.IsHonestFrom, Traffic.Lost, Traffic.Traffic}
 use Rattle.snmp_walk.specs.{Walker.Walker, declared.end.WalkEnd.WalkEnd, declared.link.Link.Ghosts as LinkFacts, declared.mode.Mode.Mode}
 use Rattle.snmp_walk.specs.{Room.HasRoomForEach, Tables.HasRoomInEach, Tables.of_table}
 use Rattle.snmp_walk.specs.Walk.{or_only, rest_of, rows_below, rows_named, walk_from, walk_of}
@@ -191,14 +191,19 @@ module _ (below : BelowAreRows) (left : LeftAreRows) (one_get : (view : MibView)
       }
 
   -- the run of a question over a link in memory
-  module _ {W : Type 0} (facts : LinkFacts W) (link after : W) (tries : ℕ) (some : 0 < tries) (plan : Plan) (honest : IsFreshAndHonest facts link)
-      (agents : facts.agents link ≡ agent_over plan view) (none : (facts.traffic link).ahead ≡ []) (given refused : List VarBind) (end : WalkEnd) where
+  module _ {W : Type 0} (facts : LinkFacts W) (link after : W) (tries : ℕ) (some : 0 < tries) (plan : Plan)
+      (honest : facts.honest link × ((facts.traffic link).sent ≡ [])) (agents : facts.agents link ≡ agent_over plan view)
+      (none : (facts.traffic link).ahead ≡ []) (given refused : List VarBind) (end : WalkEnd) where
+    from_first : (id : ℕ) → IsHonestFrom facts id link
+    from_first id = (honest.0, λ d one. absurd (subst (λ (sent : List (List ℕ)). OneOf sent d) honest.1 one))
+
     pub is_asked : (question : Question) → IsAskedOver facts link after tries plan question given refused end
         → IsAsked plan question view given refused (end_in_memory end)
     is_asked (names os) run =
         is_got plan tries (facts.traffic link) (facts.traffic after) given refused end none some os
-        (subst (λ (a : Agents). GetFacts a tries (facts.traffic link) (request_for plan os) os given refused end (facts.traffic after)) agents (run.judged honest))
+        (subst (λ (a : Agents). GetFacts a tries (facts.traffic link) (request_for plan os) os given refused end (facts.traffic after)) agents
+        (run.judged (from_first _)))
     is_asked (subtree w) run =
         is_walked plan tries (facts.traffic link) (facts.traffic after) given refused end none w
         (subst (λ (a : Agents). WalkFacts a tries (facts.traffic link) (first_of plan.community w) given refused end (facts.traffic after)) agents
-        (run.judged honest))
+        (run.judged (from_first _)))

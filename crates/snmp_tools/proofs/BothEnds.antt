@@ -19,7 +19,7 @@ use Rattle.snmp_tools.specs.serve.Outcome as serve
 use Rattle.snmp_tools.specs.{serve.Outcome.IsServedBy, serve.Outcome.IsServeOutcome, serve.Outcome.listening_line, serve.Service.IsPlaced}
 use Rattle.snmp_tools.specs.{serve.Service.served_agent, serve.TableFile.HasTable, load.Loaded.LoadFacts, Headline.IsWholeText, Message.Fault}
 use Rattle.snmp_tools.specs.{load.Loaded.AreLoaded, Seen.Seen, Done.IsServeRun, Outcome.IsOutcome, Outcome.IsOutcomeBy, Outcome.IsRun}
-use Rattle.snmp_tools.specs.{Outcome.IsShown, Answer.AreRowsOf, Answer.Counts, Answer.HasFacts, Answer.IsAskedOver}
+use Rattle.snmp_tools.specs.{Outcome.IsShownOver, Answer.AreRowsOf, Answer.Counts, Answer.IsAskedOver}
 use Rattle.snmp_tools.specs.BothEnds as ends
 use Rattle.snmp_tools.specs.BothEnds.{AreEndsOfOneRun, IsAskOfServer, IsAtAsker, IsAtServer, PrintsServed, ServesInTurn, events_of}
 use Rattle.snmp_tools.specs.Outcome as outcome
@@ -199,15 +199,26 @@ module _ (below : BelowAreRows) (left : LeftAreRows) (one_get : (view : MibView)
   ask_not_0 : (why : Fault) → run.fault ≡ Some why → status ≢ 0
   ask_not_0 why is zero_status = grind (arith, common_steps, no_fault_at_0)
 
-  nothing_asked : (why : Fault) → after.out ≡ before.out → run.fault ≡ Some why → Both
-  nothing_asked why same is = record {
+  -- nothing was asked
+  abbrev Unasked : Type 0
+  Unasked = IsAtAsker net wire words ask.mib ask.plan before after status []
+
+  nothing_asked : (why : Fault) → (status ≢ 0 → Unasked) → after.out ≡ before.out → run.fault ≡ Some why → Both
+  nothing_asked why end same is = record {
     asked = [];
-    at_asker = ends.unasked refl same (ask_not_0 why is);
+    at_asker = end (ask_not_0 why is);
     served = served_end.0;
     at_server = served_end.1;
     front_written = λ ends_are. ([], rows, [], refl, inl refl, nothing_taken before.out after.out [] same);
     all_written_at_status_0 = λ ends_are zero_status. absurd (ask_not_0 why is zero_status);
   }
+
+  -- no link was opened
+  not_opened : (why : Fault) → (after.links ≡ before.links) ⊎ net.fails before.links after.links → after.out ≡ before.out → run.fault ≡ Some why → Both
+  not_opened why left same is = nothing_asked why (λ not_0. ends.not_linked refl left same not_0) same is
+
+  unchanged : (why : Fault) → AskEnd ≡ record before { err = run.warned } → run.fault ≡ Some why → Both
+  unchanged why same is = not_opened why (inl (ap (λ (s : Seen N). s.links) same)) (ap (λ (s : Seen N). s.out) same) is
 
   module _ (mib : Contents) (mib_is : ask.mib ≡ mib) (plan : Plan) (for : IsPlanFor words before.files mib plan) where
     plan_is : ask.plan ≡ plan
@@ -228,8 +239,7 @@ module _ (below : BelowAreRows) (left : LeftAreRows) (one_get : (view : MibView)
     no_file path over = let agents : udp ask.host ask.port ≡ table path = sym ask.over ∙ ap (λ (p : Plan). p.agent) plan_is ∙ over in cc
 
     module _ (host : List ℕ) (port : ℕ) (over : plan.agent ≡ udp host port)
-        (shown : IsShown (HasFacts (λ link. net.opens before.links host port words.asking.seconds link after.links) wire (words.asking.retries + 1) plan)
-        mib plan words.asking.agent before.out after.out run.fault) where
+        (shown : IsShownOver net wire words mib plan host port before after run.fault) where
       abbrev happened : List (Event (Unit {0}))
       happened =
           events_of wire shown.facts.link shown.facts.after (words.asking.retries + 1) plan plan.question shown.given shown.refused shown.end
@@ -268,15 +278,19 @@ module _ (below : BelowAreRows) (left : LeftAreRows) (one_get : (view : MibView)
       }
 
   told_by : (mib : Contents) → ask.mib ≡ mib → IsOutcomeBy net wire words mib (record before { err = run.warned }) AskEnd run.fault → Both
-  told_by mib same_mib (outcome.refused why refusal same is) = nothing_asked why (ap (λ (s : Seen N). s.out) same) is
-  told_by mib same_mib (outcome.not_begun why last plan for (inl (path, over, same)) is) = nothing_asked why (ap (λ (s : Seen N). s.out) same) is
-  told_by mib same_mib (outcome.not_begun why last plan for (inr (host, port, over, opened)) is) = grind (arith, common_steps, nothing_asked)
+  told_by mib same_mib (outcome.refused why refusal same is) = unchanged why same is
+  told_by mib same_mib (outcome.not_begun why last plan for (inl (path, over, same)) is) = unchanged why same is
+  told_by mib same_mib (outcome.not_begun why last plan for (inr (host, port, over, opened)) is) =
+      let agent : ask.plan.agent ≡ udp host port = ap (λ (p : Plan). p.agent) (plan_is mib same_mib plan for) ∙ over in
+      let same : after.out ≡ before.out = ap (λ (s : Seen N). s.out) opened.unchanged in
+      nothing_asked why (λ not_0. ends.not_asked refl host port agent opened.link opened.unused same not_0) same is
   told_by mib same_mib (outcome.asked plan path view for over states sent printed same) = absurd (no_file mib same_mib plan for path over)
-  told_by mib same_mib (outcome.not_linked plan host port for over fails risen same is) = nothing_asked _ same is
+  told_by mib same_mib (outcome.not_linked plan host port for over fails risen same is) = not_opened _ (inr fails) same is
   told_by mib same_mib (outcome.asked_over plan host port for over sent shown same) = over_link mib same_mib plan for host port over shown
 
   both_ends : IsOutcome net wire Loads words before AskEnd run.fault → Both
-  both_ends (outcome.not_loaded why early same is) = nothing_asked why (ap (λ (s : Seen N). s.out) same) is
+  both_ends (outcome.not_loaded why early same is) =
+      not_opened why (inl (ap (λ (s : Seen N). s.links) same)) (ap (λ (s : Seen N). s.out) same) is
   both_ends (outcome.loaded mib warnings loading made written by) =
       told_by mib (one_load one_list one_tree before.files words.asking.mibs ask.mib mib ask.warnings warnings ask.known loading).0 by
 

@@ -1,13 +1,17 @@
 -- What is promised of a job, by what it wrote and reported.
-use Rattle.std.proofs.Common.{◌≡◌, ℕ, true, false, List, Option, Some, refl, sym, subst, inl, inr, codes}
+use Rattle.std.proofs.Common.{arith, ◌≡◌, ◌≢◌, ℕ, Bool, true, false, List, [], Option, Some, Result, Ok, Err, IfOk, IfErr, OnOk, refl, sym, subst, inl, inr, codes}
+use Rattle.std.proofs.lemmas.Grind.{common_steps}
+use Rattle.std.specs.{Prelude.String, declared.alloc.Global.Global}
 use Rattle.snmp_agent.specs.declared.table.error.TableError.{TableError}
 use Rattle.snmp_agent.specs.declared.table.error.TableError.TheVariants as table_error
 use Rattle.snmp_agent.specs.{table.Format.Names, table.Stated.IsTableOf, table.Stated.IsFirstFault, table.Table.MibView}
 use Rattle.snmp_io.specs.{Files.Holdings, Output.IsWritten, Output.Stream}
 use Rattle.snmp_net.specs.declared.links.Links.{Ghosts as Network}
 use Rattle.snmp_walk.specs.declared.link.Link.{Ghosts as LinkFacts}
-use Rattle.snmp_words.specs.declared.job.Job.{Job}
-use Rattle.snmp_words.specs.Words.{StateJob, Stated, job_words, snmpbulkwalk, snmpd, snmpget, snmptranslate, snmpwalk}
+use Rattle.snmp_words.specs.{Command.faults_of, Command.is_taken, declared.job.Job.Job, declared.UsageError.UsageError}
+use Rattle.snmp_words.specs.declared.UsageError.TheVariants.{Memory, Parse}
+use Rattle.snmp_words.specs.Words.{HasFaultOf, IsForUser, StateJob, Stated, job_words, snmpbulkwalk, snmpd, snmpget, snmptranslate, snmpwalk}
+use Rattle.snmp_tools.specs.Usage.{AreFaultless, IsHelpOrMistake, ShowsError}
 use Rattle.snmp_tools.specs.serve.Outcome as serve
 use Rattle.snmp_tools.specs.{load.Loaded.LoadFacts, Done.IsAskDone, Done.IsJobDone, Done.IsJobOutcome, Message.Fault, Message.out_of_memory}
 use Rattle.snmp_tools.specs.{Question.AskWords, Question.of_get, Question.of_walk, Seen.Seen, Seen.seen}
@@ -15,6 +19,12 @@ use Rattle.snmp_tools.specs.translate.Outcome as translated
 use Rattle.snmp_tools.specs.Outcome.{IsOutcome, IsReported, not_loaded}
 use Rattle.snmp_tools.proofs.{Headlines.asked_done, Headlines.not_asked, Outcomes.no_fault_at_0, Plans.OneList, Plans.OneTree, Plans.plain_want}
 use Rattle.snmp_tools.proofs.{TableNames.OneMeaning, TranslationHeadlines.all_printed, TranslationHeadlines.front_printed}
+
+-- a mistake, or a request for help, isn't that of words without a fault
+no_error : (words : List (List ℕ)) (text : String Global) (help : Bool) → (is_taken words ≡ true → Parse text help ≡ Memory)
+    → HasFaultOf (Parse text help) (faults_of words) → AreFaultless words → ⊥
+no_error words text help taken refused (inl takes) = let memory = taken takes in let no : ⊥ = cc in no
+no_error words text help taken refused (inr none) = grind (arith, common_steps)
 
 -- words state one job
 abbrev pub OneJob : Type 0
@@ -107,3 +117,33 @@ module _ {N V D : Type 0} (net : Network N V D) (wire : LinkFacts V) (Loads : Lo
       outcome = serve.not_loaded out_of_memory (inl refl) refl refl;
       reported = (refl, inr told);
     }
+
+  -- the words were read as a job, which was done, or there was an error, which was shown
+  module _ (one : OneJob) (words : List (List ℕ)) (before : Seen N) (links : N) (out err : Stream) (status : ℕ) (read : Result Job UsageError)
+      (states : IfOk read (λ job. StateJob words (job_words job))) (faultless : OnOk read (faults_of words ≡ []))
+      (taken : IfErr read (λ e. is_taken words ≡ true → e ≡ Memory)) (refused : IfErr read (λ e. HasFaultOf e (faults_of words)))
+      (text : IfErr read IsForUser) (done : IfOk read (λ job. IsJobDone net wire Loads (job_words job) before (seen before.files links out err) status))
+      (told : IfErr read (λ e. (links ≡ before.links) × ShowsError e before.out out before.err err status)) where
+    pub job_is_done : (job : Stated) → AreFaultless words → StateJob words job → IsJobDone net wire Loads job before (seen before.files links out err) status
+    job_is_done job without stated = by_reading read states taken refused done told
+      where
+        by_reading : (r : Result Job UsageError) → IfOk r (λ j. StateJob words (job_words j)) → IfErr r (λ e. is_taken words ≡ true → e ≡ Memory)
+            → IfErr r (λ e. HasFaultOf e (faults_of words)) → IfOk r (λ j. IsJobDone net wire Loads (job_words j) before (seen before.files links out err) status)
+            → IfErr r (λ e. (links ≡ before.links) × ShowsError e before.out out before.err err status)
+            → IsJobDone net wire Loads job before (seen before.files links out err) status
+        by_reading (Ok j) s t f d e = of_words before (seen before.files links out err) status one words (job_words j) job s stated d
+        by_reading (Err Memory) s t f d (same_links, (same_out, written, one_status)) =
+            let P : N → Type 0 = λ n. IsJobDone net wire Loads job before (seen before.files n out err) status in
+            let Q : Stream → Type 0 = λ o. IsJobDone net wire Loads job before (seen before.files before.links o err) status in
+            let R : ℕ → Type 0 = λ k. IsJobDone net wire Loads job before (seen before.files before.links before.out err) k in
+            subst P (sym same_links) (subst Q (sym same_out) (subst R (sym one_status) (undone before.files before.links before.out before.err err written job)))
+        by_reading (Err (Parse text help)) s t f d e = absurd (no_error words text help t f without)
+
+    pub fault_is_told : faults_of words ≢ [] → (links ≡ before.links) × IsHelpOrMistake words before.out out before.err err status
+    fault_is_told faulty = by_reading read faultless refused text told
+      where
+        by_reading : (r : Result Job UsageError) → OnOk r (faults_of words ≡ []) → IfErr r (λ e. HasFaultOf e (faults_of words)) → IfErr r IsForUser
+            → IfErr r (λ e. (links ≡ before.links) × ShowsError e before.out out before.err err status)
+            → (links ≡ before.links) × IsHelpOrMistake words before.out out before.err err status
+        by_reading (Ok j) none f t e = absurd (faulty none)
+        by_reading (Err error) none f t e = (e.0, (error, f, t, e.1))

@@ -113,13 +113,14 @@ IsAskedOver {W} facts link after tries plan (names os) given refused end =
 IsAskedOver {W} facts link after tries plan (subtree w) given refused end =
     IsWalkedOver facts link after tries (first_of plan.community w) given refused end
 
--- What is known of the link that was opened, over which nothing was sent before, and of the run
--- over it.
-pub record HasFacts {W : Type 0} (Opens : W → Type 0) (facts : LinkFacts W) (tries : ℕ)
-    (plan : Plan) (given refused : List VarBind) (end : WalkEnd) : Type 0 where
+-- What is known of a link over which nothing was sent before, and of the run over it. `link` is its
+-- state before the run, and `after` the one after it. `Linked` says that it was opened in the first
+-- and closed in the second: nothing else happened over it.
+pub record HasFacts {W : Type 0} (Linked : (link after : W) → Type 0) (facts : LinkFacts W)
+    (tries : ℕ) (plan : Plan) (given refused : List VarBind) (end : WalkEnd) : Type 0 where
   pub link : W
   pub after : W
-  pub opened : Opens link
+  pub linked : Linked link after
   pub fresh : (facts.traffic link).sent ≡ []
   pub run : IsAskedOver facts link after tries plan plan.question given refused end
 

@@ -4,8 +4,8 @@
 -- `tool` promises `IsAskDone` of the words that ask and `IsServeRun` of those of snmpd (`Done`).
 -- From both follows `PrintsServed`. Its lines are those of `Headline`, and its premise about the
 -- network is `IsFaithful` (snmp_walk).
-use Rattle.std.specs.Prelude.{◌≡◌, ◌≢◌, ◌≤◌, ◌+◌, ℕ, false, List, [], length, codes, Option, Some}
-use Rattle.std.specs.Prelude.{None}
+use Rattle.std.specs.Prelude.{◌≡◌, ◌≢◌, ◌≤◌, ◌⊎◌, ◌+◌, ℕ, false, List, [], length, codes, Option}
+use Rattle.std.specs.Prelude.{Some, None}
 use Rattle.std.specs.{List.flat_map, Str.Lines.lines}
 use Rattle.smi_names.specs.declared.nodes.warning.Warning.{Warning}
 use Rattle.snmp_agent.specs.{Event.Event, Event.InTurn, Reply.Agent, Serving.AreTurns}
@@ -23,9 +23,10 @@ use Rattle.snmp_words.specs.Words.{ServeWords, StateJob, WalkWords, snmpd}
 use Rattle.snmp_tools.specs.serve.Outcome.{counts_line, listening_line}
 use Rattle.snmp_tools.specs.serve.Service.{IsPlaced, served_agent}
 use Rattle.snmp_tools.specs.{serve.TableFile.AreNamesIn, Lines.IsTextPrinted, Message.Fault}
-use Rattle.snmp_tools.specs.{load.Loaded.AreLoaded, Outcome.IsReported, Outcome.IsShown}
+use Rattle.snmp_tools.specs.{load.Loaded.AreLoaded, Outcome.IsLinked, Outcome.IsReported}
+use Rattle.snmp_tools.specs.{Outcome.IsShownOver}
 use Rattle.snmp_tools.specs.{RowText.row_line, Seen.Seen, TableWalk.AreWalked}
-use Rattle.snmp_tools.specs.Answer.{AreRowsOf, HasFacts, IsAskedOver}
+use Rattle.snmp_tools.specs.Answer.{AreRowsOf, IsAskedOver}
 use Rattle.snmp_tools.specs.Headline.{IsFrontWritten, IsWholeWritten}
 use Rattle.snmp_tools.specs.Question.{AskFor, AskWords, Plan, Question, names, of_walk as asking_of}
 use Rattle.snmp_tools.specs.Question.{subtree}
@@ -69,21 +70,24 @@ abbrev pub events_of : {W : Type 0} → (facts : LinkFacts W) → (link later : 
 events_of {W} facts link later tries plan (names os) given refused end run = run.happened.events
 events_of {W} facts link later tries plan (subtree w) given refused end run = run.happened.events
 
--- The end of the words that ask. A link was opened, the question was asked over it, and what that
--- run gave is what was printed: these events happened in that run, in turn, as the link says. Or
--- there were none, since no link was opened or nothing can be sent, and then nothing is printed, at
--- another status than 0.
+-- The end of the words that ask. A link was opened, the question was asked over it, the link was
+-- closed as the run left it, and the bindings of that run were printed: these events happened in it,
+-- in turn, as the link says. Or there were none: no link was opened, or one was opened and closed as
+-- it was, since a name can't be sent. Then nothing is printed, and the status isn't 0.
 pub data IsAtAsker {N V D : Type 0} (net : Network N V D) (wire : LinkFacts V) (words : AskWords)
     (mib : Contents) (plan : Plan) (before after : Seen N) (status : ℕ)
     (events : List (Event (Unit {0}))) : Type 0 where
-  unasked : events ≡ [] → after.out ≡ before.out → status ≢ 0
+  not_linked : events ≡ []
+      → (after.links ≡ before.links) ⊎ net.fails before.links after.links
+      → after.out ≡ before.out → status ≢ 0
+      → IsAtAsker net wire words mib plan before after status events
+  not_asked : events ≡ [] → (host : List ℕ) (port : ℕ) → plan.agent ≡ udp host port → (link : V)
+      → IsLinked net host port words.asking.seconds before.links link link after.links
+      → after.out ≡ before.out → status ≢ 0
       → IsAtAsker net wire words mib plan before after status events
   asked : (host : List ℕ) (port : ℕ) (fault : Option Fault) (warned : Stream)
       → plan.agent ≡ udp host port
-      → (shown : IsShown
-      (HasFacts
-      (λ link. net.opens before.links host port words.asking.seconds link after.links) wire
-      (words.asking.retries + 1) plan) mib plan words.asking.agent before.out after.out fault)
+      → (shown : IsShownOver net wire words mib plan host port before after fault)
       → IsReported fault warned after.err status
       → events ≡ events_of wire shown.facts.link shown.facts.after (words.asking.retries + 1) plan
       plan.question shown.given shown.refused shown.end shown.facts.run

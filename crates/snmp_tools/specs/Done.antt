@@ -1,11 +1,12 @@
 -- What is promised of a job, by the words that state it.
-use Rattle.std.specs.Prelude.{◌≡◌, ℕ, true, false, Option}
+use Rattle.std.specs.Prelude.{◌≡◌, ℕ, true, false, List, Option}
 use Rattle.snmp_io.specs.{Files.Holdings, Output.Stream}
 use Rattle.snmp_walk.specs.declared.link.Link.{Ghosts as LinkFacts}
 use Rattle.snmp_net.specs.declared.links.Links.{Ghosts as Network}
-use Rattle.snmp_words.specs.Words.{ServeWords, Stated, TranslateWords, snmpbulkwalk, snmpd, snmpget}
-use Rattle.snmp_words.specs.Words.{snmptranslate, snmpwalk}
-use Rattle.snmp_tools.specs.{load.Loaded.LoadFacts, Headline.WritesRowsOf, Message.Fault}
+use Rattle.snmp_words.specs.Words.{ServeWords, StateJob, Stated, TranslateWords, snmpbulkwalk}
+use Rattle.snmp_words.specs.Words.{snmpd, snmpget, snmptranslate, snmpwalk}
+use Rattle.snmp_tools.specs.{load.Loaded.LoadFacts, load.Loaded.any_load, Headline.WritesRowsOf}
+use Rattle.snmp_tools.specs.{Message.Fault, Usage.AreFaultless}
 use Rattle.snmp_tools.specs.{Outcome.IsOutcome, Outcome.IsReported, Outcome.IsRun, Seen.Seen}
 use Rattle.snmp_tools.specs.{serve.Outcome.IsServeOutcome, translate.Outcome.IsTranslateOutcome}
 use Rattle.snmp_tools.specs.Question.{AskWords, of_get, of_walk}
@@ -54,6 +55,12 @@ IsJobDone {N} {V} {D} net wire Loads (snmpbulkwalk words) before after status =
     IsAskDone net wire Loads (of_walk true words) before after status
 IsJobDone {N} {V} {D} net wire Loads (snmpd words) before after status =
     IsServeRun net Loads words before after status
+
+-- The words of a command line were done: the job that they state, if they have no fault.
+abbrev pub AreWordsDone : {N V D : Type 0} → Network N V D → LinkFacts V → (words : List (List ℕ))
+    → (before after : Seen N) → (status : ℕ) → Type 0
+AreWordsDone {N} {V} {D} net wire words before after status = (job : Stated) → AreFaultless words
+    → StateJob words job → IsJobDone net wire any_load job before after status
 
 -- ---- for private functions
 

@@ -39,17 +39,35 @@ pub record IsShown (Facts : (given refused : List VarBind) → WalkEnd → Type 
   pub lines : IsPrintedUpTo mib plan.letters before given refused end between
   pub finish : IsFinished agent end (counts_in plan.question) between after fault
 
--- one link was opened to a host and port, the network counted no fault, and else nothing changed
+-- One link was opened to a host and port, and closed: `link` is its state when it was opened, and
+-- `last` when it was closed. Nothing else changed the network between.
+pub record IsLinked {N V D : Type 0} (net : Network N V D) (host : List ℕ) (port seconds : ℕ)
+    (before : N) (link last : V) (after : N) : Type 0 where
+  pub between : N
+  pub opened : net.opens before host port seconds link between
+  pub closed : net.closes between last after
+
+-- One link was opened to a host and port, and closed as it was: nothing was sent or received over
+-- it. The network counted no fault, and nothing else changed.
 pub record HasOpened {N V D : Type 0} (net : Network N V D) (host : List ℕ) (port seconds : ℕ)
     (before after : Seen N) : Type 0 where
   pub link : V
-  pub opened : net.opens before.links host port seconds link after.links
+  pub unused : IsLinked net host port seconds before.links link link after.links
   pub count : net.fault_count after.links ≡ net.fault_count before.links
   pub unchanged : after ≡ record before { links = after.links }
 
+-- The question of the plan was asked over a link to this host and port, which was opened for it and
+-- closed as the run left it, and the bindings were printed.
+abbrev pub IsShownOver : {N V D : Type 0} → Network N V D → LinkFacts V → AskWords → Contents
+    → Plan → (host : List ℕ) → (port : ℕ) → (before after : Seen N) → Option Fault → Type 0
+IsShownOver {N} {V} {D} net wire words mib plan host port before after fault = IsShown
+    (HasFacts
+    (λ link last. IsLinked net host port words.asking.seconds before.links link last after.links)
+    wire (words.asking.retries + 1) plan) mib plan words.asking.agent before.out after.out fault
+
 -- What a job wrote by the names and types of its modules, and why it wasn't done, if it wasn't.
--- Where no agent is reached, or the agent is over a table, the network is left as it was. What
--- can't be sent isn't asked.
+-- Where no agent is reached, or the agent is over a table, the network is left as it was. If a name
+-- can't be sent, nothing is.
 pub data IsOutcomeBy {N V D : Type 0} (net : Network N V D) (wire : LinkFacts V) (words : AskWords)
     (mib : Contents) (before after : Seen N) (fault : Option Fault) : Type 0 where
   refused : (why : Fault) → IsLateRefusal words before.files mib why → after ≡ before
@@ -74,13 +92,10 @@ pub data IsOutcomeBy {N V D : Type 0} (net : Network N V D) (wire : LinkFacts V)
       → HasRisen (net.fault_count before.links) (net.fault_count after.links)
       → after.out ≡ before.out → fault ≡ Some (ended words.asking.agent ending.Link)
       → IsOutcomeBy net wire words mib before after fault
-  -- one link was opened, and asked over
+  -- one link was opened, asked over, and closed as the run left it
   asked_over : (plan : Plan) (host : List ℕ) (port : ℕ) → IsPlanFor words before.files mib plan
       → plan.agent ≡ udp host port → CanBeSent plan.question
-      → IsShown
-      (HasFacts
-      (λ link. net.opens before.links host port words.asking.seconds link after.links) wire
-      (words.asking.retries + 1) plan) mib plan words.asking.agent before.out after.out fault
+      → IsShownOver net wire words mib plan host port before after fault
       → net.fault_count after.links ≡ net.fault_count before.links
       → IsOutcomeBy net wire words mib before after fault
 

@@ -1,9 +1,9 @@
 -- Words that the command takes or has no fault to find in, and what is done with others.
-use Rattle.std.specs.Prelude.{◌≡◌, ◌⊎◌, ℕ, List, [], String, false, true, codes}
-use Rattle.std.specs.declared.alloc.Global.{Global}
+use Rattle.std.specs.Prelude.{◌≡◌, ◌⊎◌, ℕ, List, [], false, true, codes, string_bytes}
 use Rattle.snmp_io.specs.Output.{FailsWithin, IsWritten, Stream, extended}
-use Rattle.snmp_words.specs.{Command.faults_of, Command.is_taken, Words.AskForHelp}
-use Rattle.snmp_words.specs.{Words.HasFaultOf, declared.UsageError.TheVariants.Parse}
+use Rattle.snmp_words.specs.{Command.faults_of, Command.is_taken, Words.HasFaultOf}
+use Rattle.snmp_words.specs.{Words.IsForUser, declared.UsageError.UsageError}
+use Rattle.snmp_words.specs.declared.UsageError.TheVariants.{Memory, Parse}
 
 -- the command takes the words, or finds no fault in them
 abbrev pub AreFaultless : List (List ℕ) → Type 0
@@ -22,17 +22,19 @@ abbrev pub ReportsOnly : List ℕ → (before after err_before err_after : Strea
 ReportsOnly text before after err_before err_after status =
     (after ≡ before) × IsWritten err_before text err_after × (status ≡ 1)
 
--- one of the faults of the words is a mistake: an error that isn't help may stand for it
-abbrev pub HaveMistake : List (List ℕ) → Type 0
-HaveMistake words = (text : String Global) × HasFaultOf (Parse text false) (faults_of words)
+-- The error's own text is shown: that of help or of the version is printed, and that of a mistake
+-- is reported. Or memory ran out, and that is reported.
+abbrev pub ShowsError : UsageError → (before after err_before err_after : Stream) → ℕ → Type 0
+ShowsError Memory before after err_before err_after status =
+    ReportsOnly (codes "Out of memory.\n") before after err_before err_after status
+ShowsError (Parse text true) before after err_before err_after status =
+    PrintsHelp (string_bytes text) before after err_before err_after status
+ShowsError (Parse text false) before after err_before err_after status =
+    ReportsOnly (string_bytes text) before after err_before err_after status
 
--- memory ran out, as is reported; or the words have a mistake, for which a text is reported; or
--- they ask for help or for the version, which is printed
+-- an error is shown that the words may have: for one of their faults, or for want of memory
 abbrev pub IsHelpOrMistake : List (List ℕ) → (before after err_before err_after : Stream) → ℕ
     → Type 0
 IsHelpOrMistake words before after err_before err_after status =
-    ReportsOnly (codes "Out of memory.\n") before after err_before err_after status
-    ⊎ ((HaveMistake words × ((text : List ℕ)
-    × ReportsOnly text before after err_before err_after status))
-    ⊎ (AskForHelp words × ((text : List ℕ)
-    × PrintsHelp text before after err_before err_after status)))
+    (error : UsageError) × HasFaultOf error (faults_of words) × IsForUser error
+    × ShowsError error before after err_before err_after status

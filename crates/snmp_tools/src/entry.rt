@@ -1,18 +1,18 @@
 //! From words to status.
-ghost use Rattle.std.specs.Prelude.{◌≡◌, ◌≢◌, ℕ, List, [], codes};
+ghost use Rattle.std.specs.Prelude.{◌≡◌, ◌≢◌, ℕ, List, [], IfErr, IfOk};
 ghost use Rattle.std.specs.Str.Lines.{lines};
-ghost use Rattle.snmp_words.specs.{Command.faults_of, Words.StateJob, Words.Stated};
-ghost use Rattle.snmp_words.specs.Words.{texts_at};
-ghost use Rattle.snmp_tools.specs.{Done.IsJobDone, Seen.seen, load.Loaded.any_load};
+ghost use Rattle.snmp_words.specs.{Command.faults_of, Words.job_words, Words.texts_at};
+ghost use Rattle.snmp_tools.specs.{Done.AreWordsDone, Done.IsJobDone, Seen.seen};
+ghost use Rattle.snmp_tools.specs.{load.Loaded.any_load, Usage.IsHelpOrMistake};
+ghost use Rattle.snmp_tools.specs.{Usage.PrintsHelp, Usage.ShowsError};
 ghost use Rattle.snmp_tools.specs.TableWalk.{HoldsTableFile, PrintsRows, table_walk};
-ghost use Rattle.snmp_tools.specs.Usage.{AreFaultless, IsHelpOrMistake, PrintsHelp};
 
 use crate::job::run_job;
 use crate::laws::table_walks;
 use crate::messages::Messages;
 use snmp_io::{Files, Output, write_all};
 use snmp_net::Links;
-use snmp_words::{UsageError, one_job, read_words};
+use snmp_words::{Job, UsageError, one_job, read_words};
 use std::alloc::Global;
 
 /// Does what the words of a command line ask for, the program's name among them as the first, and
@@ -21,6 +21,11 @@ use std::alloc::Global;
 /// It is 0 where that was done, 2 where an agent replied with an error status, and 1 in any other
 /// case. A failure is one line on `err`, except that a mistake in the command line's syntax may
 /// take several.
+///
+/// [`run_job`] lists the records by which `done` says what a job does. `rows_printed` is a case of
+/// it in plain terms (`specs/TableWalk.antt`): what `snmpwalk -On table:PATH ROOT` prints.
+/// `help_or_mistake` is about all other words: the error that is shown (`ShowsError`) is one that
+/// [`read_words`] may return for them.
 pub fn tool<F: Files, L: Links, O: Output, E: Output>(
     alloc: Global,
     words: &[&str],
@@ -37,20 +42,38 @@ pub fn tool<F: Files, L: Links, O: Output, E: Output>(
         → PrintsRows (lines text) root (O.stream out.old) (O.stream out.new)
         (E.stream err.old) (E.stream err.new) result }
     // The job that the words state is done, or refused as its steps say.
-    ensures done { (job : Stated) → AreFaultless (texts_at words.now)
-        → StateJob (texts_at words.now) job
-        → IsJobDone L.Links L.Wire.Link any_load job
+    ensures done { AreWordsDone L.Links L.Wire.Link (texts_at words.now)
         (seen (F.text_at files.now) links.old (O.stream out.old) (E.stream err.old))
         (seen (F.text_at files.now) links.new (O.stream out.new) (E.stream err.new)) result }
-    // Words with a fault give status 1 and a message, or ask for help or the version, which is
-    // printed. The network stays as it was.
+    // If the words have faults, one of them is reported, with status 1; or they ask for help or the
+    // version, and that is printed. The network stays as it was.
     ensures help_or_mistake { faults_of (texts_at words.now) ≢ []
         → (links.new ≡ links.old) × IsHelpOrMistake (texts_at words.now)
         (O.stream out.old) (O.stream out.new) (E.stream err.old) (E.stream err.new) result }
 {
     table_walks();
     one_job();
-    match read_words(alloc, words) {
+    do_words(alloc, read_words(alloc, words), files, links, out, err)
+}
+
+/// Does the job that words state, or shows the error if they state none, and returns the exit
+/// status.
+fn do_words<F: Files, L: Links, O: Output, E: Output>(
+    alloc: Global,
+    read: Result<Job<'_>, UsageError>,
+    files: &F,
+    links: &mut L,
+    out: &mut O,
+    err: &mut E,
+) -> u8
+    ensures done { IfOk read.entry (λ job.
+        IsJobDone L.Links L.Wire.Link any_load (job_words job)
+        (seen (F.text_at files.now) links.old (O.stream out.old) (E.stream err.old))
+        (seen (F.text_at files.now) links.new (O.stream out.new) (E.stream err.new)) result) }
+    ensures shown { IfErr read.entry (λ error. (links.new ≡ links.old) × ShowsError error
+        (O.stream out.old) (O.stream out.new) (E.stream err.old) (E.stream err.new) result) }
+{
+    match read {
         Ok(job) => run_job(alloc, &job, files, links, out, err),
         Err(UsageError::Parse { text, help: true }) => print_help(&text, out, err),
         Err(UsageError::Parse { text, help: false }) => {

@@ -1,5 +1,6 @@
 //! A job: it is done, and what failed is reported.
-ghost use Rattle.std.specs.Prelude.{◌≡◌, ◌++◌, codes, IfOk};
+ghost use Rattle.std.specs.Prelude.{◌≡◌, ◌++◌, codes, IfOk, OnErr};
+ghost use Rattle.snmp_io.specs.Output.{IsWritten};
 ghost use Rattle.snmp_words.specs.Words.{job_words};
 ghost use Rattle.snmp_tools.specs.Done.{IsJobDone, IsJobOutcome};
 ghost use Rattle.snmp_tools.specs.Message.{fault_of, fault_message, outcome_of};
@@ -25,6 +26,19 @@ use std::alloc::{AllocError, Global};
 ///
 /// The lines of a reply are written to `out` together, as it comes. A failure is one line on `err`;
 /// an `err` that fails itself changes nothing else.
+///
+/// What `done` promises is in the fields of records (`specs/Done.antt`), by the command:
+///
+/// - snmpget, snmpwalk and snmpbulkwalk (`IsAskDone`): `outcome_reported` has each way in which the
+///   job may end: which step refused it, over which link it asked, what it printed, how it left the
+///   network, and what it reported. `rows_written` is about a table file whose text is known
+///   (`specs/Headline.antt`): whatever fails, only a first part of the lines is written
+///   (`front_written`); at status 0 all of them are (`all_written_at_status_0`); and the status is
+///   0 if nothing prevents it (`ends_at_status_0`).
+/// - snmptranslate (`IsTranslated`): `outcome` and `is_reported` are the same for it. Whatever
+///   fails, only a first part of the names' texts is printed (`front`), and at status 0 all of them
+///   are (`all_at_status_0`). The network stays as it was.
+/// - snmpd (`IsServeRun`): `outcome` and `reported`.
 pub fn run_job<F: Files, L: Links, O: Output, E: Output>(
     alloc: Global,
     job: &Job<'_>,
@@ -33,7 +47,7 @@ pub fn run_job<F: Files, L: Links, O: Output, E: Output>(
     out: &mut O,
     err: &mut E,
 ) -> u8
-    ensures { IsJobDone L.Links L.Wire.Link any_load (job_words job.now)
+    ensures done { IsJobDone L.Links L.Wire.Link any_load (job_words job.now)
         (seen (F.text_at files.now) links.old (O.stream out.old) (E.stream err.old))
         (seen (F.text_at files.now) links.new (O.stream out.new) (E.stream err.new)) result }
 {
@@ -85,17 +99,26 @@ fn try_job<'a, F: ModuleLoader<E>, L: Links, O: Output, E: Messages>(
     }
 }
 
-/// Reports on `err` why a job wasn't done, if it wasn't, and returns the exit status. Where memory
-/// for the message runs out, that is reported.
+/// Reports on `err` why a job wasn't done, if it wasn't, and returns the exit status.
 fn report<E: Messages>(alloc: Global, done: Result<(), Failure<'_>>, err: &mut E) -> u8
     ensures { IsReported (outcome_of done.entry) (E.stream err.old) (E.stream err.new) result }
 {
     let Err(failure) = done else { return 0 };
-    match message_line(alloc, &failure) {
+    tell_line(message_line(alloc, &failure), err);
+    failure.status()
+}
+
+/// Writes the line of a message, or that memory ran out for it.
+fn tell_line<E: Messages>(line: Result<Vec<u8>, AllocError>, err: &mut E)
+    ensures whole { IfOk line (λ text. IsWritten (E.stream err.old) text.items (E.stream err.new)) }
+    // `Out of memory.` is written in place of another message only if memory for that ran out.
+    ensures no_memory { OnErr line (
+        IsWritten (E.stream err.old) (codes "Out of memory.\n") (E.stream err.new)) }
+{
+    match line {
         Ok(text) => err.tell(&text),
         Err(_) => err.tell(b"Out of memory.\n"),
     }
-    failure.status()
 }
 
 /// The message of a failure, with its newline.

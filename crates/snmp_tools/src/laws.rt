@@ -19,6 +19,7 @@ use smi_show::{numbers_are_read, one_meaning};
 use smi_tree::{bare_tree, one_tree};
 use snmp_agent::{Endpoint, one_answer, one_table, table_of_lines, unmarked_table};
 use snmp_net::Links;
+use snmp_net::memory::{MemoryDoor, MemoryLinks};
 use snmp_walk::{honest_networks, instances_below, short_rows_have_room};
 use snmp_words::walks_are_taken;
 
@@ -59,8 +60,8 @@ pub(crate) fn table_walks()
 ///
 /// What the files hold is known, and snmpd has ended: where it served, it has served all its turns.
 /// Nothing is said of when status 0 comes. That snmpd serves in turn at its doors is what `M` says
-/// of them. Of the machine's own network nothing is known of its turns (its `serves` says nothing),
-/// so this is about networks that say what they serve, for example those in memory.
+/// of them, as links in memory do ([`memory_serves_in_turn`]). Of the machine's own network nothing
+/// is known of its turns (its `serves` says nothing).
 pub fn served_tables<L: Links, M: Links, D: Endpoint>()
     ensures printed { (endpoint_at : M.Door → D) (words : AskWords)
         (before after : Seen L) (status : ℕ) (serving : ServeWords)
@@ -82,6 +83,12 @@ pub fn served_tables<L: Links, M: Links, D: Endpoint>()
     one_meaning();
     honest_networks::<D>();
 }
+
+/// Links in memory serve in turn at each of their doors, which are endpoints themselves.
+pub fn memory_serves_in_turn()
+    ensures { ServesInTurn ⟦<MemoryLinks<'static> as Links>⟧ (λ door. door)
+        ⟦<MemoryDoor<'static> as Endpoint>⟧.happens }
+{}
 
 /// What `snmpwalk -On AGENT ROOT` asks for, where `snmpd` serves a table file to it: what the
 /// file's lines state below the root, or where that is nothing, what a Get of the root gives. What

@@ -47,4 +47,4 @@ pub use failure::Failure;
 pub use load::{FilesError, load_tree};
 
 // Laws: calls that do nothing, for proofs.
-pub use laws::{served_tables, served_walks_in_numbers};
+pub use laws::{memory_serves_in_turn, served_tables, served_walks_in_numbers};

@@ -46,7 +46,7 @@ pub fn load_tree<'a, F: Files, E: Output>(
 {
     let modules = read_modules(alloc, files, paths)?;
     let key = NameHash::of_key(files.hash_key());
-    let (tree, warnings) = Tree::load_with_key(alloc, key, modules)?;
+    let (tree, warnings) = Tree::load_with_key(alloc, key, modules)?.into_parts();
     let lines = warning_lines(alloc, &warnings)?;
     err.tell(&lines);
     Ok(tree)

@@ -82,7 +82,9 @@ fn ask_by<'a, F: Files, L: Links, O: Output>(
                 Ok(link) => link,
                 Err(_) => return Err(Failure::Ended(asking.agent, WalkEnd::Link)),
             };
-            let end = print_lines(&mut link, &plan, retries, tree, &mut text, out)?;
+            let printed = print_lines(&mut link, &plan, retries, tree, &mut text, out);
+            links.close(link);
+            let end = printed?;
             finish(end, &plan, asking.agent, &mut text, out)
         }
     }

@@ -1,8 +1,10 @@
 //! Which links the tools open, and all that they send over each.
+ghost use Rattle.std.specs.Prelude.{None, refl};
 
 use crate::run::{OF_THREE, THREE, THREE_LINES};
 use snmp_agent::{Config, Served, Table};
 use snmp_io::memory::{MemoryFiles, MemoryOutput};
+use snmp_io::{Output, OutputFault};
 use snmp_net::Links;
 use snmp_tools::tool;
 use snmp_walk::{Link, LinkFault, MemoryLink};
@@ -96,6 +98,8 @@ impl<'a> Links for Counting<'a> {
 
     ghost opens = { λ _ _ _ _ _ _. Unit {0} };
 
+    ghost closes = { λ _ _ _. Unit {0} };
+
     ghost binds = { λ _ _ _ _ _. Unit {0} };
 
     ghost serves = { λ _ _ _ _ _ _ _. Unit {0} };
@@ -117,6 +121,8 @@ impl<'a> Links for Counting<'a> {
             fault_count: 0,
         })
     }
+
+    fn close(&mut self, _wire: Expecting<'a>) {}
 
     fn bind(&mut self, _host: &str, _port: u16) -> Result<NoDoor, LinkFault> {
         self.asked = self.asked.saturating_add(1);
@@ -323,9 +329,106 @@ const NOTHING_SENT: &[Asking<'static>] = &[
         1,
         &[],
     ),
+    (
+        (
+            "snmp snmpwalk --after .1.50 device .1",
+            "",
+            "Name cannot be sent: .1.50\n",
+            1,
+        ),
+        1,
+        &[],
+    ),
+    (
+        (
+            "snmp snmpwalk --after .1.3.7 device .1.3.6",
+            "",
+            "Not below the root: .1.3.7\n",
+            1,
+        ),
+        1,
+        &[],
+    ),
+    (
+        (
+            "snmp snmpget device .1.3.6 .3",
+            "",
+            "Name cannot be sent: .3\n",
+            1,
+        ),
+        1,
+        &[],
+    ),
 ];
 
 #[test]
-fn without_an_agent_no_link_is_opened(rt: HostRuntime) -> Result<(), Fail> {
+fn without_an_agent_or_a_start_nothing_is_sent(rt: HostRuntime) -> Result<(), Fail> {
     assert_asks(&rt, rt.alloc(), &[], NOTHING_SENT)
+}
+
+/// An output that notes at each write how many datagrams were sent before it.
+#[derive(Drop)]
+struct Noting<'a> {
+    sent: &'a Cell<usize>,
+    notes: [usize; 4],
+    writes: usize,
+}
+
+impl Output for Noting<'_> {
+    ghost stream = { λ _. record { taken = None; faults = 0 } };
+
+    ghost after = { λ noting _. noting };
+
+    fn write(&mut self, piece: &[u8]) -> Result<usize, OutputFault> {
+        if let Some(note) = self.notes.get_mut(self.writes) {
+            *note = self.sent.get();
+            self.writes += 1;
+        }
+        Ok(piece.len())
+    }
+
+    fn faults(&self) -> u64 {
+        0
+    }
+
+    ghost after_takes = { λ _ _. refl };
+}
+
+/// Asserts at each write of the lines of the command line how many datagrams were sent before it.
+fn assert_notes(
+    rt: &impl Abort,
+    alloc: Global,
+    line: &str,
+    expected: &[&[u8]],
+    notes: [usize; 4],
+) -> Result<(), Fail> {
+    let table = Table::read(alloc, THREE)?;
+    let words: Vec<&str> = line.split(' ').collect(alloc)?;
+    let sent = Cell::new(0);
+    let mut links = Counting {
+        alloc,
+        table: &table,
+        expected,
+        sent: &sent,
+        deliveries: &[],
+        asked: 0,
+        fault_count: 0,
+    };
+    let mut out = Noting {
+        sent: &sent,
+        notes: [0; 4],
+        writes: 0,
+    };
+    let mut err = MemoryOutput::new(alloc);
+    let files = MemoryFiles { files: OF_THREE };
+    let status = tool(alloc, &words, &files, &mut links, &mut out, &mut err);
+    assert!(rt; status == 0 && out.notes == notes);
+    Ok(())
+}
+
+#[test]
+fn lines_are_written_before_the_next_request_is_sent(rt: HostRuntime) -> Result<(), Fail> {
+    let requests: &[&[u8]] = &[FROM_ROOT, FROM_FIRST, FROM_SECOND, FROM_LAST];
+    assert_notes(&rt, rt.alloc(), WALK, requests, [1, 2, 3, 0])?;
+    assert_notes(&rt, rt.alloc(), BULK_WALK, &[BULK], [1, 0, 0, 0])
 }

@@ -1,6 +1,6 @@
 //! Lines on an output: one for each binding of a walk or a Get, as its reply comes, and the count
 //! after them.
-ghost use Rattle.std.specs.Prelude.{◌≡◌, ◌+◌, ◌++◌, IfErr, IfOk, OnOk};
+ghost use Rattle.std.specs.Prelude.{◌≡◌, ◌+◌, ◌++◌, IfErr, IfOk, OnErr, OnOk};
 ghost use Rattle.snmp_io.specs.Output.{FailsWithin, extended};
 ghost use Rattle.snmp_tools.specs.Lines.{ArePrinted, IsTextPrinted, count_line, TakesLine};
 ghost use Rattle.snmp_tools.specs.{Answer.CanBeSent, Answer.IsAskedOver, Message.fault_of};
@@ -94,6 +94,7 @@ pub(crate) fn print_lines<'a, L: Link, O: Output>(
         (plan_of plan.now) (question_of plan.now.question) given refused end)) }
     ensures refused { IfErr result (λ e. BeginFails plan.now.question (fault_of e)
         × (O.stream out.new ≡ O.stream out.old)) }
+    ensures link_unchanged_on_error { OnErr result (link.new ≡ link.old) }
 {
     let mut printer = Printer {
         writer: LineWriter::new(tree),

@@ -1,5 +1,5 @@
 //! How the question of a plan is asked: its names must have an encoding.
-ghost use Rattle.std.specs.Prelude.{◌≡◌, ◌≤◌, ◌+◌, IfErr, IfOk, OnOk, length};
+ghost use Rattle.std.specs.Prelude.{◌≡◌, ◌≤◌, ◌+◌, IfErr, IfOk, OnErr, OnOk, length};
 ghost use Rattle.snmp_oid.specs.Identifier.{IsWire, wire};
 ghost use Rattle.snmp_walk.specs.{Facts.IsFresh, Ordered.IsUnsendable, Ran.IsRun};
 ghost use Rattle.snmp_tools.specs.Answer.{CanBeSent, IsAskedOver, first_of};
@@ -29,6 +29,8 @@ pub(crate) fn run_plan<'a, L: Link, S: Sink>(
         (question_of plan.now.question) given refused end)) }
     ensures refused { IfErr result (λ e. BeginFails plan.now.question (fault_of e)
         × (sink.new ≡ sink.old)) }
+    // If a name can't be sent, nothing is.
+    ensures link_unchanged_on_error { OnErr result (link.new ≡ link.old) }
 {
     let community = plan.orders.community;
     match &plan.question {

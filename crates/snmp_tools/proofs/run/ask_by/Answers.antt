@@ -1,4 +1,4 @@
-use Rattle.std.proofs.Common.{◌+◌, ap, arith, inl, inr, refl, subst}
+use Rattle.std.proofs.Common.{◌+◌, ◌∙◌, ap, arith, inl, inr, refl, subst}
 use Rattle.snmp_io.specs.Output.{Stream}
 use Rattle.snmp_net.specs.Address.{address_of, table, udp}
 use Rattle.snmp_walk.specs.{Traffic.Traffic, declared.end.WalkEnd.WalkEnd}
@@ -63,9 +63,14 @@ returns-in_err-end-in-Udp g c = λ err.
       over,
       record {
         link = c.in-Ok.link;
-        opened = c.in-Ok.ensures.opened;
-        count = c.in-Ok.ensures.count;
-        unchanged = ap (λ (s : Stream). seen (g.F.Files.text_at c.args.files.now) c.open.new.self s err) c.in_err-end-in-Udp.ensures.refused.1;
+        unused = record {
+          between = c.open.new.self;
+          opened = c.in-Ok.ensures.opened;
+          closed = subst (λ link. g.L.Links.closes c.open.new.self link c.close.new.self) c.in_err-end-in-Udp.ensures.link_unchanged_on_error
+              c.close.ensures.closed;
+        };
+        count = c.close.ensures.count ∙ c.in-Ok.ensures.count;
+        unchanged = ap (λ (s : Stream). seen (g.F.Files.text_at c.args.files.now) c.close.new.self s err) c.in_err-end-in-Udp.ensures.refused.1;
       },
     )) (outcome_err _ _ c.from_residual-in_err-end-in-Udp.ensures.1)
 
@@ -84,14 +89,14 @@ returns g c = λ err.
       given = printed.rows;
       refused = printed.refused;
       end = c.in_ok-end-in-Udp.end;
-      between = g.O.Output.stream c.print_lines-in-Udp.new.out;
+      between = g.O.Output.stream c.print_lines-printed.new.out;
       facts = record {
         link = c.in-Ok.link;
-        after = c.print_lines-in-Udp.new.link;
-        opened = c.in-Ok.ensures.opened;
+        after = c.print_lines-printed.new.link;
+        linked = record { between = c.open.new.self; opened = c.in-Ok.ensures.opened; closed = c.close.ensures.closed };
         fresh = c.in-Ok.ensures.fresh;
         run = printed.facts;
       };
       lines = printed.lines;
       finish = c.finish-in-Udp.ensures;
-    } c.in-Ok.ensures.count
+    } (c.close.ensures.count ∙ c.in-Ok.ensures.count)
