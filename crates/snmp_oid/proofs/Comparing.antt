@@ -1,11 +1,11 @@
--- Comparisons of numbers: a common front changes nothing, and the first pair that differs decides.
+-- Comparisons of lists of numbers: a common prefix changes nothing, and the first pair that differs decides.
 use Rattle.std.proofs.{lemmas.Grind.common_steps, lemmas.List.take-append-drop, lemmas.List.take_more, Math.Seq.drop-cons}
 use Rattle.std.proofs.Common.{◌≡◌, ℕ, suc, ◌+◌, ◌<◌, ◌≤◌, List, [], ◌∷◌, ◌++◌, length, take, drop, get_or, refl, sym, ◌∙◌, ap, arith, length-drop}
 use Rattle.std.specs.Ordering.{nat_cmp, ordering_then}
 use Rattle.std.specs.{Cmp.ranked, Cmp.nat_cmp_is, Cmp.Lexicographic.slice_cmp, declared.cmp.Ordering.Ordering}
 use Rattle.std.specs.declared.cmp.Ordering.TheVariants.{Less, Equal, Greater}
 
--- a common front changes nothing
+-- two lists compare as they do with a common prefix before them
 front_alike : (front o p : List ℕ) → slice_cmp nat_cmp o p ≡ slice_cmp nat_cmp (front ++ o) (front ++ p)
 front_alike [] o p = refl
 front_alike (n ∷ front) o p = rw (← nat_cmp_is n n Equal refl) (front_alike front o p)
@@ -21,7 +21,7 @@ decides_by n m rest Less is differ = refl
 decides_by n m rest Equal is differ = absurd (differ (ranked n m Equal is))
 decides_by n m rest Greater is differ = refl
 
--- the first pair that differs decides
+-- if o and p agree before index i and differ there, then their numbers at i compare as o and p do
 pub first_decides : (i : ℕ) (o p : List ℕ) → i < length o → i < length p → take i o ≡ take i p → (get_or o i 0 ≡ get_or p i 0 → ⊥)
     → nat_cmp (get_or o i 0) (get_or p i 0) ≡ slice_cmp nat_cmp o p
 first_decides i o p h k same differ =
@@ -31,12 +31,12 @@ first_decides i o p h k same differ =
     rw (drop-cons o i 0 h, drop-cons p i 0 k) (decides_by n m (slice_cmp nat_cmp (drop (suc i) o) (drop (suc i) p)) (nat_cmp n m) refl differ) in
     here ∙ behind_alike i o p same
 
--- one more equal pair
+-- if o and p agree before index i and at i, then they agree before i + 1
 pub one_more_alike : (i : ℕ) (o p : List ℕ) → i < length o → i < length p → take i o ≡ take i p → get_or o i 0 ≡ get_or p i 0
     → take (i + 1) o ≡ take (i + 1) p
 one_more_alike i o p h k same equal = grind (arith, common_steps, take_more)
 
--- where one ends and all is alike, the longer comes after
+-- if one list is a prefix of the other, then they compare as their lengths do
 ends : (n m both : ℕ) (s t : List ℕ) → length s + both ≡ n → length t + both ≡ m → (both < n → both < m → ⊥) → nat_cmp n m ≡ slice_cmp nat_cmp s t
 ends n m both [] [] e d h = sym (nat_cmp_is n m Equal (omega arith))
 ends n m both [] (y ∷ t) e d h = sym (nat_cmp_is n m Less (omega arith))
@@ -49,7 +49,7 @@ longer_after both o p h k end same =
     ends (length o) (length p) both (drop both o) (drop both p) (omega (arith, length-drop both o)) (omega (arith, length-drop both p)) end
     ∙ behind_alike both o p same
 
--- eight equal pairs
+-- if eight pairs of numbers are equal, then the first eight numbers are
 pub eight_alike : (o p : List ℕ) → 8 ≤ length o → 8 ≤ length p
     → (get_or o 0 0 ≡ get_or p 0 0) × (get_or o 1 0 ≡ get_or p 1 0) × (get_or o 2 0 ≡ get_or p 2 0) × (get_or o 3 0 ≡ get_or p 3 0)
     → (get_or o 4 0 ≡ get_or p 4 0) × (get_or o 5 0 ≡ get_or p 5 0) × (get_or o 6 0 ≡ get_or p 6 0) × (get_or o 7 0 ≡ get_or p 7 0)

@@ -1,4 +1,4 @@
--- Facts about dotted names, as the parts between their dots.
+-- Dotted names, as the parts between their dots.
 use Rattle.std.proofs.{lemmas.Grind.common_steps, lemmas.Bool.and_parts, lemmas.Bool.ne_eqb, lemmas.List.append-nil, lemmas.List.Sums.take_while-cons}
 use Rattle.std.proofs.Common.{◌≡◌, ◌≢◌, ℕ, true, false, not, ◌==◌, List, [], ◌∷◌, ◌++◌, length, All, Option, Some, None, MatchOption, refl, sym, ◌∙◌}
 use Rattle.std.proofs.Common.{ap, subst, arith}
@@ -11,19 +11,19 @@ use Rattle.snmp_oid.specs.Numeric.{dot, IsNumeral, IsDotted}
 abbrev pub parts : List ℕ → List (List ℕ)
 parts text = slice_split (λ octet. octet == dot) text
 
--- the parts that are left, where a text or nothing is
+-- the parts of what is left of a text, if anything is
 abbrev pub parts_left : Option (List ℕ) → List (List ℕ)
 parts_left None = []
 parts_left (Some here) = parts here
 
--- a numeral for each number
+-- each part is a numeral of the number at its index, and there are as many parts as numbers
 abbrev pub AreNumerals : List (List ℕ) → List ℕ → Type 0
 AreNumerals [] [] = Unit {0}
 AreNumerals [] (n ∷ ns) = ⊥
 AreNumerals (p ∷ ps) [] = ⊥
 AreNumerals (p ∷ ps) (n ∷ ns) = IsNumeral p n × AreNumerals ps ns
 
--- no octet is a dot
+-- no octet of the part is a dot
 abbrev pub HasNoDot : List ℕ → Type 0
 HasNoDot part = All (λ octet. octet ≢ dot) part
 
@@ -49,7 +49,7 @@ parts_of_last part free = slice_split_none (λ octet. octet == dot) part (tests_
 some_part : (text : List ℕ) → parts text ≢ []
 some_part text none = omega (arith, length-slice_split (λ octet. octet == dot) text, ap length none)
 
--- what is dotted has numerals for parts
+-- if a text is dotted, then its parts are numerals
 pub numerals_from_dotted : (o text : List ℕ) → IsDotted text o → AreNumerals (parts text) o
 numerals_from_dotted [] text h = absurd h
 numerals_from_dotted (n ∷ []) text h = rw (parts_of_last text (digits_have_no_dot text h.digits)) (h, tt)
@@ -66,12 +66,12 @@ joined_is_dotted (p ∷ q ∷ ps) [] some h = absurd h
 joined_is_dotted (p ∷ q ∷ ps) (n ∷ []) some h = absurd h.1
 joined_is_dotted (p ∷ q ∷ ps) (n ∷ m ∷ more) some h = (p, join_with_byte dot (q ∷ ps), refl, h.0, joined_is_dotted (q ∷ ps) (m ∷ more) (λ none. cc) h.1)
 
--- and the other way round
+-- if the parts of a text are numerals, then the text is dotted
 pub dotted_from_numerals : (o text : List ℕ) → AreNumerals (parts text) o → IsDotted text o
 dotted_from_numerals o text h =
     subst (λ (t : List ℕ). IsDotted t o) (join_with_byte-slice_split dot text) (joined_is_dotted (parts text) o (some_part text) h)
 
--- one list of numbers
+-- the parts are numerals of one list of numbers only
 pub same_numerals : (ps : List (List ℕ)) (o p : List ℕ) → AreNumerals ps o → AreNumerals ps p → o ≡ p
 same_numerals [] [] [] h g = refl
 same_numerals [] [] (m ∷ p) h g = absurd g
@@ -82,7 +82,7 @@ same_numerals (part ∷ ps) (n ∷ o) (m ∷ p) h g =
     let first : n ≡ m = sym h.0.value ∙ g.0.value in
     let rest : o ≡ p = same_numerals ps o p h.1 g.1 in cc
 
--- one more
+-- if a numeral follows the parts, then its number follows their numbers
 pub numerals_more : (ps : List (List ℕ)) (o : List ℕ) (part : List ℕ) (n : ℕ) → AreNumerals ps o → IsNumeral part n
     → AreNumerals (ps ++ part ∷ []) (o ++ n ∷ [])
 numerals_more [] [] part n h one = (one, tt)
@@ -90,7 +90,7 @@ numerals_more [] (m ∷ o) part n h one = absurd h
 numerals_more (p ∷ ps) [] part n h one = absurd h
 numerals_more (p ∷ ps) (m ∷ o) part n h one = (h.0, numerals_more ps o part n h.1 one)
 
--- each part is one
+-- if all parts are numerals, then each of them is
 pub part_is_numeral : (ps : List (List ℕ)) (part : List ℕ) (qs : List (List ℕ)) (o : List ℕ) → AreNumerals (ps ++ part ∷ qs) o → (n : ℕ) × IsNumeral part n
 part_is_numeral [] part qs [] h = absurd h
 part_is_numeral [] part qs (n ∷ o) h = (n, h.0)
@@ -110,7 +110,7 @@ taken_front (octet ∷ part) after free none =
     to_dot-cons octet (part ++ after) (All-head (λ octet. octet ≢ dot) octet part free)
     ∙ ap (λ (s : List ℕ). octet ∷ s) (taken_front part after (All-tail (λ octet. octet ≢ dot) octet part free) none)
 
--- the first part of here, and what is behind its dot
+-- `part` is the first part of `here`, and `behind` is what follows its dot, or None if it ends with the text
 abbrev pub Splits : List ℕ → List ℕ → Option (List ℕ) → Type 0
 Splits here part behind = HasNoDot part × MatchOption behind (here ≡ part) (λ rest. here ≡ part ++ dot ∷ rest)
 

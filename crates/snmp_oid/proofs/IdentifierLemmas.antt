@@ -1,4 +1,4 @@
--- Facts about identifiers as lists of numbers.
+-- Identifiers as lists of numbers: what is below a root, and the order.
 use Rattle.std.proofs.Common.{◌≡◌, ℕ, ◌<◌, ◌↔◌, ◌⊎◌, inl, inr, List, [], ◌∷◌, ◌++◌, length, take, drop, refl, sym, ◌∙◌, ap, subst, arith, length-drop}
 use Rattle.std.proofs.{lemmas.List.take-append-drop, Math.Seq.take-append_seam, lemmas.Map.Text.is_eq-slice_cmp, lemmas.Slice.Eq.bytes_eq-Decides}
 use Rattle.std.specs.Ordering.{MatchOrdering, nat_cmp, ordering_then, ordering_reverse}
@@ -6,7 +6,7 @@ use Rattle.std.specs.{Cmp.ranked, Cmp.nat_cmp_is, Cmp.Lexicographic.slice_cmp, C
 use Rattle.std.specs.declared.cmp.Ordering.TheVariants.{Less, Equal, Greater}
 use Rattle.snmp_oid.specs.Identifier.{IsBelow, Precedes}
 
--- a longer identifier that begins with root stands below it
+-- if o is longer than root and begins with it, then o is below root
 pub below_from_front : (o root : List ℕ) → length root < length o → take (length root) o ≡ root → IsBelow o root
 below_from_front o root longer e =
     let whole : root ++ drop (length root) o ≡ o = ap (λ (front : List ℕ). front ++ drop (length root) o) (sym e) ∙ take-append-drop (length root) o in (
@@ -16,13 +16,13 @@ below_from_front o root longer e =
       sym whole,
     )
 
--- what stands below root begins with it
+-- if o is below root, then o begins with root
 pub front_from_below : (o root : List ℕ) → IsBelow o root → take (length root) o ≡ root
 front_from_below o root h = ap (take (length root)) h.2 ∙ take-append_seam root h.0
 
 pub ruleset fronts = (is_eq-slice_cmp, bytes_eq-Decides, below_from_front, front_from_below)
 
--- one more equal number in front
+-- if o precedes p, then it does with the same number before both
 precedes_behind : (n : ℕ) (o p : List ℕ) → Precedes o p → Precedes (n ∷ o) (n ∷ p)
 precedes_behind n o p (inl h) = inl (h.0, h.1, ap (λ (s : List ℕ). n ∷ s) h.2)
 precedes_behind n o p (inr h) =
@@ -41,11 +41,11 @@ parts_at_once : (n m : ℕ) (o p : List ℕ) → n < m → Precedes (n ∷ o) (m
 parts_at_once n m o p h =
     inr record { front = []; smaller = n; larger = m; after = o; behind = p; this = refl; that = refl; is_smaller = h }
 
--- what an answer of a comparison says
+-- what the result r of a comparison says of o and p
 abbrev pub Says : Ordering → List ℕ → List ℕ → Type 0
 Says r o p = MatchOrdering r (Precedes o p) (o ≡ p) (Precedes p o)
 
--- the first pair of numbers decides, or the rest where they are equal
+-- the first numbers decide how two identifiers compare, or the rest does if they are equal
 by_first : (n m : ℕ) (o p : List ℕ) (r s : Ordering) → MatchOrdering r (n < m) (n ≡ m) (m < n) → Says s o p → Says (ordering_then r s) (n ∷ o) (m ∷ p)
 by_first n m o p Less s h rest = parts_at_once n m o p h
 by_first n m o p Equal Less h rest = subst (λ (k : ℕ). Precedes (n ∷ o) (k ∷ p)) h (precedes_behind n o p rest)
@@ -59,7 +59,7 @@ compared [] (m ∷ p) = inl (m ∷ p, (λ none. cc), refl)
 compared (n ∷ o) [] = inl (n ∷ o, (λ none. cc), refl)
 compared (n ∷ o) (m ∷ p) = by_first n m o p (nat_cmp n m) (slice_cmp nat_cmp o p) (ranked n m (nat_cmp n m) refl) (compared o p)
 
--- a proper beginning is less
+-- a proper prefix is less
 less_from_longer : (o rest : List ℕ) → (rest ≡ [] → ⊥) → slice_cmp nat_cmp o (o ++ rest) ≡ Less
 less_from_longer [] [] some = absurd (some refl)
 less_from_longer [] (m ∷ rest) some = refl
@@ -73,7 +73,7 @@ less_from_precedes : (o p : List ℕ) → Precedes o p → slice_cmp nat_cmp o p
 less_from_precedes o p (inl h) = rw h.2 (less_from_longer o h.0 h.1)
 less_from_precedes o p (inr h) = rw (h.this, h.that) (less_from_parts h.front h.smaller h.larger h.after h.behind h.is_smaller)
 
--- an identifier is the same as itself, and follows what precedes it
+-- a list is equal to itself only, less than what it precedes, and greater than what precedes it
 itself_equal : (o : List ℕ) → slice_cmp nat_cmp o o ≡ Equal
 itself_equal [] = refl
 itself_equal (n ∷ o) = rw (← nat_cmp_is n n Equal refl) (itself_equal o)
@@ -90,7 +90,7 @@ ordered_greater o p = (
   λ h. nat_list_cmp_total.antisymm o p ∙ ap ordering_reverse (less_from_precedes p o h),
 )
 
--- the order is strict, and total
+-- the order is strict and total
 
 pub precedes_asymmetric : (o p : List ℕ) → Precedes o p → Precedes p o → ⊥
 precedes_asymmetric o p h k =

@@ -1,4 +1,4 @@
--- Facts about one decimal number: reading it, and that what is written reads back.
+-- One decimal number: how its digits are read, and that a written number reads back.
 use Rattle.std.proofs.{lemmas.Grind.common_steps, Math.Seq.take-suc, lemmas.List.append-nil, lemmas.List.length-take-le, Math.Nat.pow-suc}
 use Rattle.std.proofs.{Math.Nat.one-le-pow, Math.Nat.le-mul_of_pos_right, lemmas.Bool.and_parts, lemmas.Bool.leb-true}
 use Rattle.std.proofs.Common.{decimal, ◌≡◌, ◌≢◌, ℕ, ◌+◌, ◌-◌, ◌*◌, ◌^◌, ◌≤◌, ◌<◌, true, List, [], ◌∷◌, length, drop, get_or, refl, ◌∙◌, ap}
@@ -8,13 +8,13 @@ use Rattle.std.proofs.lemmas.Str.Parse.{IsNumeralModel, numerals_by_weight, tell
 use Rattle.std.specs.{Char.is_ascii_digit, Str.all_ascii_digits}
 use Rattle.snmp_oid.specs.Numeric.{decimal_value, IsNumeral}
 
--- the digits of a part are read but for those left
+-- `number` is the value of the digits of the part before `left`, which are still to be read
 pub record IsReadTo (part left : List ℕ) (number : ℕ) : Type 0 where
   pub value : number * 10 ^ length left + decimal_value left ≡ decimal_value part
   pub digits : all_ascii_digits left ≡ all_ascii_digits part
   pub fits : number < 2 ^ 32
 
--- a number and its next digit, before the digits left
+-- a number and its next digit, before the remaining digits
 shifted : (number digit power rest : ℕ) → (number * 10 + digit) * power + rest ≡ number * (power * 10) + (digit * power + rest)
 shifted number digit power rest = omega arith
 
@@ -23,21 +23,21 @@ value_more : (part rest : List ℕ) (digit number : ℕ) → IsReadTo part (digi
 value_more part rest digit number h =
     shifted number (digit - 48) (10 ^ length rest) (decimal_value rest) ∙ rw (pow-suc 10 (length rest)) at h.value
 
--- one more digit
+-- if the next digit keeps the number below 2^32, then it can be read
 pub read_more : (part rest : List ℕ) (digit number : ℕ) → is_ascii_digit digit ≡ true → number * 10 + (digit - 48) < 2 ^ 32
     → IsReadTo part (digit ∷ rest) number → IsReadTo part rest (number * 10 + (digit - 48))
 read_more part rest digit number is_digit small h = grind (arith, common_steps, value_more)
 
--- all digits are read
+-- if all digits are read, then the part is a numeral of the number
 pub read_all : (part : List ℕ) (number : ℕ) → part ≢ [] → IsReadTo part [] number → IsNumeral part number
 read_all part number some h = grind (arith, common_steps)
 
--- more than 32 bits
+-- if the next digit takes the number to 2^32 or above, then the part isn't a numeral
 pub read_large : (part rest : List ℕ) (digit number : ℕ) → 2 ^ 32 ≤ number * 10 + (digit - 48) → IsReadTo part (digit ∷ rest) number → (n : ℕ)
     → IsNumeral part n → ⊥
 read_large part rest digit number large h n numeral = grind (arith, common_steps, le-mul_of_pos_right, one-le-pow, value_more)
 
--- the same at a place
+-- the same, with the offset of the next digit
 front_at : (part : List ℕ) (count : ℕ) → count < length part → drop count part ≡ get_or part count 0 ∷ drop (count + 1) part
 front_at part count low = rw (add-one, drop-cons part count 0) refl
 
@@ -53,7 +53,7 @@ read_large_at part count number low large h =
     read_large part (drop (count + 1) part) (get_or part count 0) number large
     (rw (front_at part count low) at h)
 
--- the digits at the front are read, whatever follows them
+-- the first `count` octets of the text are digits that write `number`, whatever follows them
 pub record IsFrontRead (text : List ℕ) (count number : ℕ) : Type 0 where
   pub within : count ≤ length text
   pub read : (rest : List ℕ) → IsReadTo (take count text ++ rest) rest number
@@ -69,7 +69,7 @@ front_numeral text count number some h =
     read_all (take count text) number (λ none. omega (arith, ap length none, full))
     (subst (λ (t : List ℕ). IsReadTo t [] number) (append-nil (take count text)) (h.read []))
 
--- the digits that are written of a number are a numeral of it
+-- the decimal digits of a number are a numeral of it
 own : IsNumeralModel (λ ds. all_ascii_digits ds ≡ true) decimal_value
 own = numerals_by_weight (λ ds. all_ascii_digits ds ≡ true) tells_all_ascii_digits decimal_value record { empty = refl; more = λ digit rest range. refl }
 
@@ -83,6 +83,6 @@ decimal_is_numeral n small =
       fits = small;
     }
 
--- no digit is above the octet of 9
+-- no digit is above the octet of `9`
 pub digit_small : (digit : ℕ) → is_ascii_digit digit ≡ true → digit ≤ 57
 digit_small digit is_digit = leb-true digit 57 (and_parts (leb 48 digit) (leb digit 57) is_digit).1

@@ -1,4 +1,4 @@
--- Facts about the state of a parse: the parts read so far, the place of the next, and what the end says.
+-- The state of a parse: the parts read so far, the offset of the next, and what is known at the end.
 use Rattle.std.proofs.{lemmas.Grind.common_steps, lemmas.Bool.cases_order, Math.Seq.get_or-append_seam}
 use Rattle.std.proofs.Common.{◌≡◌, ◌≢◌, ℕ, min, ◌+◌, ◌-◌, ◌≤◌, ◌<◌, ◌⊎◌, inl, inr, Bool, true, false, List, [], ◌∷◌, ◌++◌, length, take, drop, get_or}
 use Rattle.std.proofs.Common.{slice_index, Option, Some, None, refl, sym, ◌∙◌, ap, subst, arith, length-append, append_assoc, ⊎_elim, MatchOption}
@@ -12,16 +12,16 @@ use Rattle.snmp_oid.proofs.Dotted.{parts, parts_left, AreNumerals, parts_of, to_
 use Rattle.snmp_oid.proofs.Dotted.{digits_have_no_dot, numerals_more, part_is_numeral}
 use Rattle.snmp_oid.proofs.Numeral.{IsFrontRead, front_numeral, digit_small}
 
--- a text without the dot in front
+-- `dotted` is the text without its leading dot, if it has one
 abbrev pub IsBehindDot : List ℕ → List ℕ → Type 0
 IsBehindDot text dotted = ((dotted ≡ text) × (slice_index text 0 ≢ dot)) ⊎ (text ≡ dot ∷ dotted)
 
--- where what is left begins, and with it a part
+-- what is left of the text begins at offset `at`, and a part begins there
 abbrev pub StandsAt : List ℕ → Option (List ℕ) → ℕ → Type 0
 StandsAt text None at = at ≡ length text + 1
 StandsAt text (Some here) at = (drop at text ≡ here) × (at + length here ≡ length text) × BeginsPart text at
 
--- the parts before what is left are numerals, and the first 128 of their numbers are kept
+-- the parts before what is left are numerals, and `kept` has the first 128 of their numbers
 pub record IsParsedTo (text : List ℕ) (left : Option (List ℕ)) (kept : List ℕ) (too_long : Bool) : Type 0 where
   pub more : text ≢ dot ∷ []
   pub dotted : List ℕ
@@ -37,7 +37,7 @@ pub record IsParsedTo (text : List ℕ) (left : Option (List ℕ)) (kept : List 
   pub stands : StandsAt text left at
   pub before : (k : ℕ) → k < at → BeginsPart text k → (n : ℕ) × IsNumeral (part_at text k) n
 
--- a name other than a dot alone is dotted, behind a dot or not
+-- a name other than a single dot is dotted, perhaps after a leading dot
 no_empty_first : (rest o : List ℕ) → IsDotted (dot ∷ rest) o → ⊥
 no_empty_first rest o h = (part_is_numeral [] [] (parts rest) o (numerals_from_dotted o (dot ∷ rest) h)).1.some refl
 
@@ -52,7 +52,7 @@ pub name_from_dotted : (text dotted o : List ℕ) → IsBehindDot text dotted �
 name_from_dotted text dotted o (inl front) h = inr (inl (rw front.0 at h))
 name_from_dotted text dotted o (inr front) h = inr (inr (dotted, front, h))
 
--- a dot alone names the empty identifier and no other
+-- a single dot names the empty identifier and no other
 pub dot_alone : (text o : List ℕ) → text ≡ dot ∷ [] → IsNumericName text o → o ≡ []
 dot_alone text o is (inl h) = h.1
 dot_alone text o is (inr (inl h)) = absurd (no_empty_first [] o (rw is at h))
@@ -60,7 +60,7 @@ dot_alone text o is (inr (inr h)) =
     let none : h.0 ≡ [] = cc (h.1, is) in
     absurd ((part_is_numeral [] [] [] o (numerals_from_dotted o [] (rw none at h.2))).1.some refl)
 
--- a text names one list of numbers
+-- a text names at most one list of numbers
 same_dotted : (text o p : List ℕ) → IsDotted text o → IsDotted text p → o ≡ p
 same_dotted text o p h g = same_numerals (parts text) o p (numerals_from_dotted o text h) (numerals_from_dotted p text g)
 
@@ -72,14 +72,14 @@ one_name text o p (inr (inl h)) (inr (inr g)) = absurd (no_empty_first g.0 o (rw
 one_name text o p (inr (inr h)) (inr (inl g)) = absurd (no_empty_first h.0 p (rw h.1 at g))
 one_name text o p (inr (inr h)) (inr (inr g)) = grind (arith, common_steps, same_dotted)
 
--- there is one first bad part
+-- a text has at most one first bad part
 pub one_bad_part : (text : List ℕ) (at k : ℕ) → IsFirstBadPart text at → IsFirstBadPart text k → at ≡ k
 one_bad_part text at k h g =
     let not_below : at < k → ⊥ = λ low. (let one = g.before at low h.part in h.bad one.0 one.1) in
     let not_above : k < at → ⊥ = λ low. (let one = h.before k low g.part in g.bad one.0 one.1) in
     omega (arith, not_below, not_above)
 
--- nothing is read yet
+-- before the first part is read
 begins_at : (text dotted kept : List ℕ) → text ≢ dot ∷ [] → IsBehindDot text dotted → kept ≡ [] → (at : ℕ) → StandsAt text (Some dotted) at
     → ((k : ℕ) → k < at → BeginsPart text k → ⊥) → IsParsedTo text (Some dotted) kept false
 begins_at text dotted kept more front none at stands before = record {
@@ -119,7 +119,7 @@ begins_with here part (Some rest) is = (dot ∷ rest, is)
 
 module _ (text : List ℕ) {here : List ℕ} {number : Option ℕ} {behind : Option (List ℕ)} (r : IsPartRead here number behind) (at : ℕ)
     (stands : drop at text ≡ here) where
-  -- no part begins inside one
+  -- no part begins within a part
   none_inside : (k : ℕ) → at < k → k < at + length r.part + 1 → BeginsPart text k → ⊥
   none_inside k above below (inl begins) = omega arith
   none_inside k above below (inr begins) =
@@ -141,7 +141,7 @@ module _ (text : List ℕ) {here : List ℕ} {number : Option ℕ} {behind : Opt
       (⊎_elim (λ below. before k below begins) (λ above. absurd (none_inside k above low begins)))
       (cases_order k at)
 
--- what stands behind the part
+-- what is left after the part begins after its dot, or nothing is left
 stands_behind : (text here part : List ℕ) (behind : Option (List ℕ)) (at : ℕ) → StandsAt text (Some here) at
     → MatchOption behind (here ≡ part) (λ rest. here ≡ part ++ dot ∷ rest) → StandsAt text behind (at + length part + 1)
 stands_behind text here part None at stands is = omega (arith, stands.1, ap length is)
@@ -157,7 +157,7 @@ stands_behind text here part (Some rest) at stands is =
       inr (omega (arith, stands.1, size), omega arith, subst (λ (i : ℕ). get_or text i 0 ≡ dot) before octet),
     )
 
--- a number is kept, or there is no room for it
+-- the number is appended, or there is no room for it
 abbrev pub Keeps : List ℕ → Bool → ℕ → List ℕ → Bool → Type 0
 Keeps kept too_long n new now = ((length kept < 128) × (new ≡ kept ++ n ∷ []) × (now ≡ too_long)) ⊎ ((128 ≤ length kept) × (new ≡ kept) × (now ≡ true))
 
@@ -181,7 +181,7 @@ keeps_more numbers kept new too_long now n first long (inr keeps) =
       λ _. omega (arith, length_push numbers n),
     )
 
--- one more part
+-- after one more part
 pub parse_more : {text here : List ℕ} {behind : Option (List ℕ)} {kept : List ℕ} {too_long : Bool} (new : List ℕ) (now : Bool) {n : ℕ}
     → IsParsedTo text (Some here) kept too_long → IsPartRead here (Some n) behind → Keeps kept too_long n new now → IsParsedTo text behind new now
 parse_more {text} {here} {behind} {kept} {too_long} new now {n} h r keeps =
@@ -202,7 +202,7 @@ parse_more {text} {here} {behind} {kept} {too_long} new now {n} h r keeps =
       before = before_more text r h.at h.stands.0 n r.read h.before;
     }
 
--- a part of one digit
+-- a digit before a dot is a part, and a numeral
 digit_read : (digit : ℕ) (rest : List ℕ) → is_ascii_digit digit ≡ true → IsPartRead (digit ∷ dot ∷ rest) (Some (digit - 48)) (Some rest)
 digit_read digit rest is_digit =
     let digits : all_ascii_digits (digit ∷ []) ≡ true = ap (λ b. b && true) is_digit in record {
@@ -212,7 +212,7 @@ digit_read digit rest is_digit =
       read = record { some = λ none. cc; digits = digits; value = omega arith; fits = omega (arith, digit_small digit is_digit) };
     }
 
--- parts of a digit each
+-- after some parts of one digit each
 parse_each : (digits text here rest kept : List ℕ) (too_long : Bool) → IsParsedTo text (Some here) kept too_long
     → All (λ digit. is_ascii_digit digit ≡ true) digits → here ≡ flat_map (λ digit. digit ∷ dot ∷ []) digits ++ rest → length kept + length digits ≤ 128
     → IsParsedTo text (Some rest) (kept ++ map (λ digit. digit - 48) digits) too_long
@@ -231,7 +231,7 @@ pub parse_digits : {count : ℕ} {text here rest kept new : List ℕ} {too_long 
     → AreDigitsRead count here rest kept new → IsParsedTo text (Some rest) new too_long
 parse_digits {count} {text} {here} {rest} {kept} {new} {too_long} h read = grind (arith, common_steps, parse_each, parts)
 
--- a part that is no numeral is the first bad one, and the text names nothing
+-- if the next part isn't a numeral, then it is the first bad one, and the text names nothing
 pub bad_part_here : {text here : List ℕ} {behind : Option (List ℕ)} {kept : List ℕ} {too_long : Bool} → IsParsedTo text (Some here) kept too_long
     → IsPartRead here None behind → IsFirstBadPart text (length text - length here)
 bad_part_here {text} {here} h r =
@@ -253,18 +253,18 @@ bad_part_no_name {text} {here} {behind} h r o name =
     let one = part_is_numeral h.done r.part (parts_left behind) o all in
     r.read one.0 one.1
 
--- at the end the text names the numbers read
+-- at the end, the text names the numbers read
 pub parsed_name : (text kept : List ℕ) (too_long : Bool) (h : IsParsedTo text None kept too_long) → IsNumericName text h.numbers
 parsed_name text kept too_long h = grind (arith, common_steps, name_from_dotted, dotted_from_numerals, append-nil)
 
--- and nothing else
+-- at the end, the text names nothing but the numbers read
 pub parsed_only : (text kept : List ℕ) (too_long : Bool) (h : IsParsedTo text None kept too_long) (o : List ℕ) → IsNumericName text o → o ≡ h.numbers
 parsed_only text kept too_long h o name = grind (arith, common_steps, same_numerals, append-nil, numerals_from_dotted, dotted_from_name)
 
 pub parsed_short : (text kept : List ℕ) → (h : IsParsedTo text None kept false) → (length h.numbers ≤ 128) × (kept ≡ h.numbers)
 parsed_short text kept h = (h.short refl, h.first ∙ take_all 128 h.numbers (h.short refl))
 
--- what follows a part, with its dot
+-- what follows a part, its dot included
 abbrev pub front_of : Option (List ℕ) → List ℕ
 front_of None = []
 front_of (Some rest) = dot ∷ rest
@@ -274,7 +274,7 @@ parts_after : (text part : List ℕ) (after : Option (List ℕ)) → text ≡ pa
 parts_after text part None e = e ∙ append-nil part
 parts_after text part (Some rest) e = e
 
--- a part is what was read of it: the digits at the front, up to the end or a dot
+-- the digits at the start of a text, before a dot or the end, are its first part and a numeral
 pub part_is_read : (text : List ℕ) (count number : ℕ) (after : Option (List ℕ)) → 0 < count → IsFrontRead text count number
     → drop count text ≡ front_of after → IsPartRead text (Some number) after
 part_is_read text count number after some h behind =

@@ -9,15 +9,15 @@ use Rattle.std.specs.declared.cmp.Ordering.TheVariants.{Less, Equal, Greater}
 use Rattle.snmp_oid.specs.Identifier.{Precedes, IsIdentifier, rank_in, rank}
 use Rattle.snmp_oid.proofs.IdentifierLemmas.{Says, compared}
 
--- one more digit
+-- a power of the base is the power before it times the base
 power_step : (digits : ℕ) → 0 < digits → 4294967297 ^ digits ≡ 4294967297 ^ (digits - 1) * 4294967297
 power_step digits some = let e : digits ≡ suc (digits - 1) = omega arith in ap (λ d. 4294967297 ^ d) e ∙ pow-suc 4294967297 (digits - 1)
 
--- a digit and what follows stay below the next digit
+-- a digit and the digits after it are together below the next greater digit
 digit_below : (n m power rest : ℕ) → rest < power → n < m → (n + 1) * power + rest < (m + 1) * power
 digit_below n m power rest low less = grind (arith, common_steps, mul-le-mul_right)
 
--- so many digits are below so many places
+-- `digits` digits write a number below the base to the power `digits`
 rank_fits : (digits : ℕ) (o : List ℕ) → length o ≤ digits → All (λ n. n < 2 ^ 32) o → rank_in digits o < 4294967297 ^ digits
 rank_fits digits [] short small = one-le-pow digits 4294967297 (lit< tt)
 rank_fits digits (n ∷ rest) short small =
@@ -26,7 +26,7 @@ rank_fits digits (n ∷ rest) short small =
     let below = digit_below n 4294967296 (4294967297 ^ (digits - 1)) (rank_in (digits - 1) rest) low first in
     omega (arith, power_step digits (omega arith), below)
 
--- a common front changes nothing
+-- a common prefix changes nothing
 rises_behind : (digits : ℕ) (front s t : List ℕ) → rank_in (digits - length front) s < rank_in (digits - length front) t
     → rank_in digits (front ++ s) < rank_in digits (front ++ t)
 rises_behind digits [] s t h = let e : digits - 0 ≡ digits = omega arith in rw e at h

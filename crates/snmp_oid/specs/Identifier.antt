@@ -3,11 +3,11 @@
 use Rattle.std.specs.Prelude.{◌≡◌, ◌≢◌, ℕ, ◌+◌, ◌-◌, ◌*◌, ◌^◌, ◌<◌, ◌≤◌, ◌⊎◌, List, [], ◌∷◌, ◌++◌}
 use Rattle.std.specs.Prelude.{length, All}
 
--- o stands below root: it begins with root and is longer
+-- o is below root: it begins with root and is longer
 abbrev pub IsBelow : List ℕ → List ℕ → Type 0
 IsBelow o root = (rest : List ℕ) × (rest ≢ []) × (o ≡ root ++ rest)
 
--- o and p begin alike, and where they first differ o has the smaller number
+-- o and p have a common prefix (`front`), and the number that follows it is smaller in o
 pub record PartsBelow (o p : List ℕ) : Type 0 where
   pub front : List ℕ
   pub smaller : ℕ
@@ -18,18 +18,18 @@ pub record PartsBelow (o p : List ℕ) : Type 0 where
   pub that : p ≡ front ++ larger ∷ behind
   pub is_smaller : smaller < larger
 
--- o comes before p: it is a proper beginning of p, or has the smaller number at the first place
--- where the two differ
+-- o comes before p: it is a proper prefix of p, or has the smaller number at the first index at
+-- which the two differ
 abbrev pub Precedes : List ℕ → List ℕ → Type 0
 Precedes o p = IsBelow p o ⊎ PartsBelow o p
 
--- what an identifier holds: at most 128 numbers of 32 bits
+-- o can be an identifier: it has at most 128 numbers, each of 32 bits
 pub record IsIdentifier (o : List ℕ) : Type 0 where
   pub short : length o ≤ 128
   pub numbers : All (λ n. n < 2 ^ 32) o
 
--- what has a BER encoding (X.690, 8.19.4): two numbers at least, the first from 0 to 2, and the
--- second below 40 after a first of 0 or 1
+-- the identifier has a BER encoding (X.690, 8.19.4): it has at least two numbers, the first is
+-- from 0 to 2, and the second is below 40 if the first is 0 or 1
 abbrev pub IsWire : List ℕ → Type 0
 IsWire (x ∷ y ∷ _) = (x ≤ 2) × (x < 2 → y < 40)
 IsWire (_ ∷ []) = ⊥
@@ -41,12 +41,12 @@ wire [] = 0 ∷ 0 ∷ []
 wire (x ∷ []) = x ∷ 0 ∷ []
 wire (x ∷ y ∷ rest) = x ∷ y ∷ rest
 
--- an identifier read as `digits` digits to the base 2^32 + 1: each of its numbers plus 1 is a
--- digit, and zeros follow the last
+-- the identifier as a number of `digits` digits to the base 2^32 + 1: each of its numbers plus 1
+-- is a digit, and zeros follow the last
 abbrev pub rank_in : ℕ → List ℕ → ℕ
 rank_in digits [] = 0
 rank_in digits (n ∷ rest) = (n + 1) * (2 ^ 32 + 1) ^ (digits - 1) + rank_in (digits - 1) rest
 
--- the rank of an identifier: identifiers come in the order of their ranks
+-- the rank of an identifier: identifiers are ordered as their ranks are
 abbrev pub rank : List ℕ → ℕ
 rank o = rank_in 128 o

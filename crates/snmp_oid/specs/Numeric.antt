@@ -8,19 +8,21 @@ use Rattle.std.specs.{Char.is_ascii_digit, List.flat_map, Str.all_ascii_digits}
 abbrev pub dot : ℕ
 dot = 46
 
--- the number that decimal digits write, each by the weight of its place
+-- the number that decimal digits write, each with the weight of its position
 abbrev pub decimal_value : List ℕ → ℕ
 decimal_value [] = 0
 decimal_value (digit ∷ rest) = (digit - 48) * 10 ^ length rest + decimal_value rest
 
--- one or more decimal digits, leading zeros among them or not, that write a number of 32 bits
+-- the text is a numeral of n: one or more decimal digits, perhaps with leading zeros, and n is a
+-- number of 32 bits
 pub record IsNumeral (text : List ℕ) (n : ℕ) : Type 0 where
   pub some : text ≢ []
   pub digits : all_ascii_digits text ≡ true
   pub value : decimal_value text ≡ n
   pub fits : n < 2 ^ 32
 
--- a numeral for each number, and a dot between each two
+-- the text has a numeral for each number of the list, which isn't empty, and a dot between each
+-- two
 abbrev pub IsDotted : List ℕ → List ℕ → Type 0
 IsDotted text [] = ⊥
 IsDotted text (n ∷ []) = IsNumeral text n
@@ -28,49 +30,53 @@ IsDotted text (n ∷ m ∷ more) =
     (first : List ℕ) × (rest : List ℕ) × (text ≡ first ++ dot ∷ rest)
     × IsNumeral first n × IsDotted rest (m ∷ more)
 
--- the text names the identifier: a dot alone names the empty one; the numerals of its numbers, with
--- dots between them and perhaps one before the first, name any other
+-- the text names the identifier o: a single dot names the empty one; the numerals of its numbers,
+-- with a dot between each two and perhaps one before the first, name any other
 abbrev pub IsNumericName : List ℕ → List ℕ → Type 0
 IsNumericName text o =
     ((text ≡ dot ∷ []) × (o ≡ []))
     ⊎ (IsDotted text o ⊎ ((rest : List ℕ) × (text ≡ dot ∷ rest) × IsDotted rest o))
 
--- a part of the text begins here: at its start, where no dot stands there, and after each dot
+-- a part of the text begins at offset `at`: at the start, unless a dot is there, and after each
+-- dot
 abbrev pub BeginsPart : List ℕ → ℕ → Type 0
 BeginsPart text at =
     ((at ≡ 0) × (slice_index text 0 ≢ dot))
     ⊎ ((at ≤ length text) × (0 < at) × (slice_index text (at - 1) ≡ dot))
 
--- the part that begins here: the octets before the next dot
+-- the part that begins at offset `at`: the octets before the next dot
 abbrev pub part_at : List ℕ → ℕ → List ℕ
 part_at text at = take_while (λ octet. not (octet == dot)) (drop at text)
 
--- the first part that is no numeral begins here
+-- the first part of the text that isn't a numeral begins at offset `at`; a single dot has no such
+-- part
 pub record IsFirstBadPart (text : List ℕ) (at : ℕ) : Type 0 where
   pub more : text ≢ dot ∷ []
   pub part : BeginsPart text at
   pub bad : (n : ℕ) → IsNumeral (part_at text at) n → ⊥
   pub before : (k : ℕ) → k < at → BeginsPart text k → (n : ℕ) × IsNumeral (part_at text k) n
 
--- The first part of a text ends at its first dot or with the text: `number` is what the part is a
--- numeral of, None where it is none; `after` follows the dot, and is None where there is no dot.
+-- The first part of a text ends at its first dot or with the text. `number` is the number that the
+-- part is a numeral of, or None if it isn't one; `after` is what follows the dot, or None if there
+-- is no dot.
 pub record IsPartRead (text : List ℕ) (number : Option ℕ) (after : Option (List ℕ)) : Type 0 where
   pub part : List ℕ
   pub plain : All (λ octet. octet ≢ dot) part
   pub parts : MatchOption after (text ≡ part) (λ rest. text ≡ part ++ dot ∷ rest)
   pub read : MatchOption number ((n : ℕ) → IsNumeral part n → ⊥) (IsNumeral part)
 
--- the text names a list of more numbers than an identifier holds
+-- the text names a list of more numbers than an identifier can hold
 abbrev pub IsTooLong : List ℕ → Type 0
 IsTooLong text = (o : List ℕ) × IsNumericName text o × (128 < length o)
 
--- an identifier written out: a dot before each number, and a dot alone for none
+-- the text that is written for an identifier: a dot before each number, or a single dot if it has
+-- none
 abbrev pub numeric_text : List ℕ → List ℕ
 numeric_text [] = dot ∷ []
 numeric_text (n ∷ more) = flat_map (λ m. dot ∷ decimal m) (n ∷ more)
 
--- a writer left the text at the front of `out`, and the rest as it was before, and returned the
--- length of the text
+-- a writer wrote the text to the start of `out`, left the rest as it was in `before`, and returned
+-- the length of the text
 pub record IsWrittenTo (out before text : List ℕ) (written : ℕ) : Type 0 where
   pub size : written ≡ length text
   pub octets : out ≡ text ++ drop written before

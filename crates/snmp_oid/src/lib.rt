@@ -1,6 +1,6 @@
-//! Object identifiers: the numbers, their order, and their numeric text.
+//! Object identifiers: their numbers, their order, and their numeric text.
 //!
-//! The lowest layer. Tables, messages, walks and lines all speak of instances by these identifiers.
+//! The lowest layer. Tables, messages, walks and lines all name instances by these identifiers.
 //!
 //! # Examples
 //!
@@ -27,6 +27,6 @@ pub use numeric::{
 };
 pub use oid::{MAX_LEN, Oid, OidError, compare_numbers};
 
-// Laws, for proofs and readers.
+// Laws: for proofs, and for readers.
 pub use numeric::names;
 pub use oid::{order, ranks, strict_order};

@@ -12,28 +12,28 @@ use arrayvec::ArrayVec;
 use itoa::Buffer;
 use thiserror::Error;
 
-/// Why a text names no identifier.
+/// Why a text doesn't name an identifier.
 #[derive(Clone, Copy, Debug, PartialEq, Eq, Error)]
 pub enum OidTextError {
-    /// A part is empty, has another octet than a digit or is above 4294967295. The place, from 0,
-    /// is that of the first octet of the first such part.
+    /// A part is empty, contains an octet other than a digit, or is above 4294967295. Holds the
+    /// offset, from 0, at which the first such part begins.
     #[error("no number at octet {0}")]
     BadNumber(usize),
-    /// Each part is a number, and there are more than 128.
+    /// Each part is a number, but there are more than 128.
     #[error("a name has at most 128 numbers")]
     TooLong,
 }
 
-/// Reads the identifier that a text names: decimal numbers with a dot between each two, after a dot
-/// or not, and a dot alone for no numbers. Leading zeros are read.
+/// Reads the identifier that `text` names: decimal numbers with a dot between each two and perhaps
+/// one before the first, or a single dot for no numbers. Numbers may have leading zeros.
 ///
-/// `BadNumber` comes before `TooLong`, and an empty text has one part, which is empty.
+/// `BadNumber` takes precedence over `TooLong`. An empty text has one part, which is empty.
 pub fn parse_numeric(text: &[u8]) -> Result<Oid, OidTextError>
     ensures found { IfOk result (IsNumericName text.now) }
     ensures at_most_128 { IfOk result (λ o. length o ≤ 128) }
-    // A text that names an identifier of at most 128 numbers is read.
+    // If `text` names an identifier of at most 128 numbers, this is the result.
     ensures only { (o : List ℕ) → IsNumericName text.now o → length o ≤ 128 → result ≡ Ok o }
-    // The place is that of the first part that is no number of 32 bits, as an empty part isn't.
+    // `at` is the offset of the first part that isn't a number of 32 bits, as an empty part isn't.
     ensures bad_number { (at : ℕ)
         → (result ≡ Err (OidTextError.BadNumber at)) ↔ IsFirstBadPart text.now at }
     ensures too_long { (result ≡ Err OidTextError.TooLong) ↔ IsTooLong text.now }
@@ -45,8 +45,9 @@ pub fn parse_numeric(text: &[u8]) -> Result<Oid, OidTextError>
     }
 }
 
-/// Reads the identifier that a text names into `oid`, as [`parse_numeric`] reads it, but without
-/// moving one, which takes as long as reading it. After an error, `oid` may have any numbers.
+/// Reads the identifier that `text` names into `oid`, as [`parse_numeric`] does, but without
+/// moving an identifier, which takes as long as reading it. After an error, `oid` may have any
+/// numbers.
 pub fn read_numeric(text: &[u8], oid: &mut Oid) -> Result<(), OidTextError>
     ensures found { OnOk result (IsNumericName text.now oid.new) }
     ensures at_most_128 { OnOk result (length oid.new ≤ 128) }
@@ -83,14 +84,14 @@ pub fn read_numeric(text: &[u8], oid: &mut Oid) -> Result<(), OidTextError>
     }
 }
 
-/// Whether the text is a dot alone.
+/// Returns whether `text` is a single dot.
 fn is_dot(text: &[u8]) -> bool
     ensures { IsTrue result ↔ (text.now ≡ dot ∷ []) }
 {
     text == b".".as_slice()
 }
 
-/// The text without the dot in front, where one stands there.
+/// Returns `text` without its leading dot, if it has one.
 fn without_front_dot(text: &[u8]) -> &[u8]
     ensures { ((result.now ≡ text.now) × (slice_index text.now 0 ≢ dot))
         ⊎ (text.now ≡ dot ∷ result.now) }
@@ -101,24 +102,24 @@ fn without_front_dot(text: &[u8]) -> &[u8]
     }
 }
 
-/// Appends the numbers of the first three parts of a text, and returns what follows the dot after
-/// them, where each is one digit before a dot and there is room for three. None else, with the
-/// identifier unchanged.
-// Hot: most numbers of a name have one digit. A number of more digits is told by its second octet,
-// which is looked at in any case.
+/// Appends the numbers of the first three parts of `text`, and returns what follows the dot after
+/// them, if each is one digit before a dot and there is room for three numbers. Otherwise returns
+/// `None` and leaves `oid` unchanged.
+// Hot: most numbers of a name have one digit. A longer number is recognized by its second octet,
+// which is read in any case.
 #[inline(always)]
 fn read_three<'a>(text: &'a [u8], oid: &mut Oid) -> Option<&'a [u8]>
     ensures three { IfSome result (λ rest. AreDigitsRead 3 text.now rest.now oid.old oid.new) }
     ensures unchanged_on_none { IfNone result (oid.new ≡ oid.old) }
 {
-    // This is tested first, so that no octet of a name that is too long is looked at twice.
+    // Tested first, so that no octet of a name that is too long is read twice.
     if oid.len() > 125 {
         return None;
     }
     match text {
         [a, b'.', b, b'.', c, b'.', rest @ ..]
             if a.is_ascii_digit() && b.is_ascii_digit() && c.is_ascii_digit() => {
-            // All are read before the first is written, so that none is read again.
+            // All three are read before the first is pushed, so that none is read again.
             let first = u32::from(*a - b'0');
             let second = u32::from(*b - b'0');
             let third = u32::from(*c - b'0');
@@ -131,9 +132,9 @@ fn read_three<'a>(text: &'a [u8], oid: &mut Oid) -> Option<&'a [u8]>
     }
 }
 
-/// The number of the first part of a text, None where that is no numeral, and what follows the dot
-/// that ends it, None where none does.
-// Hot: each number of a name.
+/// Returns the number of the first part of `text`, or `None` if that isn't a numeral; and what
+/// follows the dot that ends the part, or `None` if it ends with the text.
+// Hot: runs for each number of a name that `read_three` leaves.
 #[inline(always)]
 fn read_part(text: &[u8]) -> (Option<u32>, Option<&[u8]>)
     ensures { IsPartRead text.now result.0 (option_map (λ rest. rest.now) result.1) }
@@ -144,8 +145,8 @@ fn read_part(text: &[u8]) -> (Option<u32>, Option<&[u8]>)
     }
 }
 
-/// [`read_part`] of any part. The call of [`read_any_part`] has a function of its own, since each
-/// turn of a loop clears what a call in it returns, whether it is made or not.
+/// [`read_part`] for any part. A function of its own for its call of [`read_any_part`]: each turn
+/// of a loop zeroes the result of a call in its body, even if the call isn't made.
 #[inline(always)]
 fn read_other_part(text: &[u8]) -> (Option<u32>, Option<&[u8]>)
     ensures { IsPartRead text.now result.0 (option_map (λ rest. rest.now) result.1) }
@@ -154,10 +155,10 @@ fn read_other_part(text: &[u8]) -> (Option<u32>, Option<&[u8]>)
     (number, after)
 }
 
-/// The number of the first part of a text, and what follows the dot that ends it, None where none
-/// does. It reads each numeral below 4000000000, most quickly one digit before a dot. A result of
-/// None says nothing of the text.
-// Hot: each number of a name.
+/// Returns the number of the first part of `text`; and what follows the dot that ends the part, or
+/// `None` if it ends with the text. Reads each numeral below 4000000000, fastest if it is one
+/// digit before a dot. A result of `None` says nothing about `text`.
+// Hot: callers run it for each number of a name.
 #[inline(always)]
 pub fn front_number(text: &[u8]) -> Option<(u32, Option<&[u8]>)>
     ensures { IfSome result
@@ -171,8 +172,8 @@ pub fn front_number(text: &[u8]) -> Option<(u32, Option<&[u8]>)>
     }
 }
 
-/// [`front_number`] of a part that isn't one digit before a dot.
-// Hot: each number of more than one digit.
+/// [`front_number`] for a part that isn't one digit before a dot.
+// Hot: runs for each number of two or more digits, and for the last one of a name.
 #[inline(always)]
 fn read_two_digits(text: &[u8]) -> Option<(u32, Option<&[u8]>)>
     ensures { IfSome result
@@ -186,8 +187,8 @@ fn read_two_digits(text: &[u8]) -> Option<(u32, Option<&[u8]>)>
     }
 }
 
-/// [`front_number`] of a part that isn't one or two digits before a dot.
-// Hot: each number of more than two digits.
+/// [`front_number`] for a part that isn't one or two digits before a dot.
+// Hot: runs for each number of three or more digits, and for the last one of a name.
 #[inline(always)]
 fn read_three_digits(text: &[u8]) -> Option<(u32, Option<&[u8]>)>
     ensures { IfSome result
@@ -202,7 +203,7 @@ fn read_three_digits(text: &[u8]) -> Option<(u32, Option<&[u8]>)>
     }
 }
 
-/// The number of two digits.
+/// Returns the number that two digits write.
 #[inline(always)]
 fn two_digits(tens: u8, ones: u8) -> u32
     requires tens { is_ascii_digit tens ≡ true }
@@ -213,7 +214,7 @@ fn two_digits(tens: u8, ones: u8) -> u32
     u32::from(tens - b'0') * 10 + u32::from(ones - b'0')
 }
 
-/// The number of three digits.
+/// Returns the number that three digits write.
 #[inline(always)]
 fn three_digits(hundreds: u8, tens: u8, ones: u8) -> u32
     requires hundreds { is_ascii_digit hundreds ≡ true }
@@ -225,8 +226,8 @@ fn three_digits(hundreds: u8, tens: u8, ones: u8) -> u32
     u32::from(hundreds - b'0') * 100 + u32::from(tens - b'0') * 10 + u32::from(ones - b'0')
 }
 
-/// [`front_number`] of any digits.
-// Hot: each number of more than three digits. One pass over these and their end.
+/// [`front_number`] for any number of digits.
+// Hot: runs for each number of four or more digits. One pass reads the digits and finds their end.
 #[inline(always)]
 fn read_digits(text: &[u8]) -> Option<(u32, Option<&[u8]>)>
     ensures { IfSome result
@@ -252,7 +253,7 @@ fn read_digits(text: &[u8]) -> Option<(u32, Option<&[u8]>)>
     }
 }
 
-/// [`read_part`] of any part: the end of the part is looked for first.
+/// [`read_part`] for any part: looks for the end of the part first.
 #[cold]
 #[inline(never)]
 fn read_any_part(text: &[u8]) -> (Option<u32>, Option<&[u8]>)
@@ -262,7 +263,8 @@ fn read_any_part(text: &[u8]) -> (Option<u32>, Option<&[u8]>)
     (parse_number(part), after)
 }
 
-/// The first part of a text, and what follows the dot that ends it, None where none does.
+/// Returns the first part of `text`; and what follows the dot that ends the part, or `None` if it
+/// ends with the text.
 fn split_part(text: &[u8]) -> (&[u8], Option<&[u8]>)
     ensures part { All (λ octet. octet ≢ dot) result.0.now }
     ensures parts { MatchOption result.1
@@ -275,7 +277,8 @@ fn split_part(text: &[u8]) -> (&[u8], Option<&[u8]>)
     }
 }
 
-/// The number of 32 bits that decimal digits write, None where the part is no such numeral.
+/// Returns the number of 32 bits that the decimal digits of `part` write, or `None` if `part`
+/// isn't such a numeral.
 #[tactic(auto, using(crate::proofs::Numeral::read_large_at, crate::proofs::Numeral::read_more_at, crate::proofs::Numeral::read_all))]
 pub fn parse_number(part: &[u8]) -> Option<u32>
     ensures found { IfSome result (IsNumeral part.now) }
@@ -299,10 +302,10 @@ pub fn parse_number(part: &[u8]) -> Option<u32>
 /// The length in octets of the longest numeric text: a dot and ten digits for each of 128 numbers.
 pub const LONGEST_TEXT: usize = 1408;
 
-/// Writes the numeric text of an identifier to the front of `out`, a dot before each number or a
-/// dot alone for none, and returns its length in octets, at most 1408.
+/// Writes the numeric text of `oid` to the start of `out` and returns its length in octets, at
+/// most 1408. The text has a dot before each number, or is a single dot if there are none.
 ///
-/// None only where `out` is shorter, and then it is unchanged.
+/// Returns `None`, and leaves `out` unchanged, only if `out` is shorter than the text.
 pub fn write_numeric(oid: &Oid, out: &mut [u8]) -> Option<usize>
     ensures some { IfSome result (IsWrittenTo out.new out.old (numeric_text oid.now)) }
     ensures variant { IsSome result ↔ (length (numeric_text oid.now) ≤ length out.old) }
@@ -317,9 +320,9 @@ pub fn write_numeric(oid: &Oid, out: &mut [u8]) -> Option<usize>
     Some(text.len())
 }
 
-/// The written text of an identifier names it, and a text names one identifier at most.
+/// The written text of an identifier names it, and a text names at most one identifier.
 ///
-/// A law: the call does nothing, and its caller knows what it states.
+/// A law: the call does nothing, and its caller learns what the clauses say.
 #[inline]
 pub fn names()
     ensures written_is_named { (o : List ℕ) → IsIdentifier o → IsNumericName (numeric_text o) o }
@@ -327,7 +330,7 @@ pub fn names()
         → IsNumericName text o → IsNumericName text p → o ≡ p }
 {}
 
-/// The numeric text of an identifier.
+/// Returns the numeric text of `oid`.
 fn written(oid: &Oid) -> ArrayVec<u8, LONGEST_TEXT>
     ensures { result.items ≡ numeric_text oid.now }
 {
@@ -342,7 +345,7 @@ fn written(oid: &Oid) -> ArrayVec<u8, LONGEST_TEXT>
     text
 }
 
-/// Appends a dot and the number.
+/// Appends a dot and `number`. The caller must leave room for 11 octets.
 fn push_number(text: &mut ArrayVec<u8, LONGEST_TEXT>, number: u32)
     requires { length text.old.items + 11 ≤ 1408 }
     ensures value { text.new.items ≡ text.old.items ++ dot ∷ decimal number }

@@ -1,4 +1,4 @@
-//! An object identifier of up to 128 numbers, which lie in the value itself.
+//! An object identifier of up to 128 numbers, which are stored in the value itself.
 ghost use Rattle.std.specs.Prelude.{◌≡◌, ℕ, ◌+◌, ◌<◌, ◌≤◌, ◌↔◌, List, [], ◌∷◌, ◌++◌, length};
 ghost use Rattle.std.specs.Prelude.{IsTrue, IsOk, IfOk, IfErr, OnOk, OnErr, Some, ⊤, refl, take};
 ghost use Rattle.std.specs.Prelude.{true, get_or, ◌⊎◌};
@@ -18,25 +18,26 @@ use std::hash::{Hash, Hasher};
 use std::marker::Model;
 use thiserror::Error;
 
-/// The most numbers that an identifier holds (RFC 2578, section 3.5).
+/// The most numbers that an identifier can hold (RFC 2578, section 3.5).
 pub const MAX_LEN: usize = 128;
 
 /// Why an identifier can't be made.
 #[derive(Clone, Copy, Debug, PartialEq, Eq, Error)]
 pub enum OidError {
-    /// It would have more than 128 numbers.
+    /// The identifier would have more than 128 numbers.
     #[error("an object identifier has at most 128 numbers")]
     TooLong,
-    /// It has no encoding in a message: X.690 (8.19.4) wants two numbers at least, the first from 0
-    /// to 2, and the second from 0 to 39 after a first of 0 or 1.
+    /// The identifier has no encoding in a message: X.690 (8.19.4) requires at least two numbers,
+    /// the first from 0 to 2, and the second from 0 to 39 if the first is 0 or 1.
     #[error("the object identifier has no encoding")]
     NotWire,
 }
 
 /// An object identifier: 0 to 128 numbers of 32 bits (RFC 2578, section 3.5).
 ///
-/// Identifiers compare by their numbers from the left, a proper beginning first (RFC 3416, section
-/// 4.2.2); [`order`] states this of `==` and `<`. Copies take no memory: [`Oid::copy`].
+/// Identifiers compare by their numbers from the left, and a proper prefix comes first (RFC 3416,
+/// section 4.2.2); [`order`] says this of `==` and `<`. [`Oid::copy`] copies one without
+/// allocating.
 #[derive(Drop)]
 pub struct Oid {
     numbers: ArrayVec<u32, 128>,
@@ -49,7 +50,7 @@ impl Model for Oid {
 }
 
 impl Oid {
-    /// The identifier of no numbers.
+    /// Returns the identifier without numbers.
     pub fn new() -> Oid
         ensures { result ≡ [] }
     {
@@ -58,7 +59,7 @@ impl Oid {
         }
     }
 
-    /// The identifier of these numbers, or `TooLong` where there are more than 128.
+    /// Returns the identifier of `numbers`. Fails with `TooLong` if there are more than 128.
     pub fn from_slice(numbers: &[u32]) -> Result<Oid, OidError>
         ensures ok { IfOk result (λ o. o ≡ numbers.now) }
         ensures variant { IsOk result ↔ (length numbers.now ≤ 128) }
@@ -68,8 +69,8 @@ impl Oid {
         Ok(Oid { numbers })
     }
 
-    /// A copy of the identifier. It allocates nothing and so can't fail, as by its signature
-    /// [`Clone::clone`] may.
+    /// Returns a copy of the identifier. Nothing is allocated, so it can't fail, as
+    /// [`Clone::clone`] may by its signature.
     #[inline]
     pub fn copy(&self) -> Oid
         ensures { result ≡ self.now }
@@ -79,7 +80,7 @@ impl Oid {
         copy
     }
 
-    /// Sets the identifier to the numbers of another one, in place.
+    /// Sets the identifier to the numbers of `other`, in place.
     #[inline]
     pub fn set_to(&mut self, other: &Oid)
         ensures { self.new ≡ other.now }
@@ -87,13 +88,13 @@ impl Oid {
         self.set_to_numbers(other.as_slice());
     }
 
-    /// Sets the identifier to these numbers, of which there are at most 128, in place.
+    /// Sets the identifier to `numbers`, in place. The caller must pass at most 128.
     #[inline]
     pub fn set_to_numbers(&mut self, numbers: &[u32])
         requires { length numbers.now ≤ 128 }
         ensures { self.new ≡ numbers.now }
     {
-        // Where the count stays, only the numbers change.
+        // If the length stays the same, only the numbers change.
         if self.len() == numbers.len() {
             self.numbers.as_mut_slice().copy_from_slice(numbers);
             return;
@@ -104,7 +105,8 @@ impl Oid {
         }
     }
 
-    /// Appends a number. `TooLong`, with the identifier unchanged, where there are 128 already.
+    /// Appends `number`. Fails with `TooLong`, and leaves the identifier unchanged, if it has 128
+    /// numbers already.
     #[inline]
     pub fn push(&mut self, number: u32) -> Result<(), OidError>
         ensures ok { OnOk result (self.new ≡ self.old ++ number ∷ []) }
@@ -119,7 +121,7 @@ impl Oid {
         Ok(())
     }
 
-    /// Appends a number to an identifier that has fewer than 128, without a test.
+    /// Appends `number` without a test. The identifier must have fewer than 128 numbers.
     #[inline]
     pub fn push_with_room(&mut self, number: u32)
         requires { length self.old < 128 }
@@ -128,8 +130,8 @@ impl Oid {
         self.numbers.push(number);
     }
 
-    /// Appends numbers. `TooLong`, with the identifier unchanged, where there would be more than
-    /// 128.
+    /// Appends `numbers`. Fails with `TooLong`, and leaves the identifier unchanged, if it would
+    /// have more than 128 numbers.
     #[inline]
     pub fn extend_from_slice(&mut self, numbers: &[u32]) -> Result<(), OidError>
         ensures ok { OnOk result (self.new ≡ self.old ++ numbers.now) }
@@ -150,7 +152,7 @@ impl Oid {
         self.numbers.clear();
     }
 
-    /// The numbers, from the left.
+    /// Returns the numbers, from the left.
     #[inline]
     pub fn as_slice(&self) -> &[u32]
         ensures value { result.now ≡ self.now }
@@ -161,7 +163,7 @@ impl Oid {
         numbers
     }
 
-    /// How many numbers there are, 0 to 128.
+    /// Returns how many numbers the identifier has, 0 to 128.
     #[inline]
     pub fn len(&self) -> usize
         ensures value { result ≡ length self.now }
@@ -170,14 +172,14 @@ impl Oid {
         self.numbers.len()
     }
 
-    /// Whether there are no numbers.
+    /// Returns whether the identifier has no numbers.
     pub fn is_empty(&self) -> bool
         ensures { IsTrue result ↔ (self.now ≡ []) }
     {
         self.numbers.is_empty()
     }
 
-    /// Whether the identifier begins with `root` and is longer.
+    /// Returns whether the identifier begins with `root` and is longer.
     #[tactic(auto, using(std::proofs::lemmas::Grind::common_steps, crate::proofs::IdentifierLemmas::fronts))]
     pub fn is_below(&self, root: &Oid) -> bool
         ensures { IsTrue result ↔ IsBelow self.now root.now }
@@ -186,8 +188,8 @@ impl Oid {
         self.len() > front.len() && compare_numbers(&self.as_slice()[..front.len()], front).is_eq()
     }
 
-    /// Whether the identifier has an encoding (X.690, 8.19.4): two numbers at least, the first from
-    /// 0 to 2, and the second below 40 after a first of 0 or 1.
+    /// Returns whether the identifier has an encoding (X.690, 8.19.4): at least two numbers, the
+    /// first from 0 to 2, and the second below 40 if the first is 0 or 1.
     pub fn is_wire(&self) -> bool
         ensures { IsTrue result ↔ IsWire self.now }
     {
@@ -197,7 +199,8 @@ impl Oid {
         }
     }
 
-    /// The identifier padded with zeros to two numbers, or `NotWire` where that has no encoding.
+    /// Returns the identifier padded with zeros to two numbers. Fails with `NotWire` if the padded
+    /// identifier has no encoding.
     pub fn to_wire(&self) -> Result<Oid, OidError>
         ensures ok { IfOk result (λ o. o ≡ wire self.now) }
         ensures variant { IsOk result ↔ IsWire (wire self.now) }
@@ -211,7 +214,7 @@ impl Oid {
         }
     }
 
-    /// The identifier padded with zeros to two numbers.
+    /// Returns the identifier padded with zeros to two numbers.
     fn padded(&self) -> Oid
         ensures { result ≡ wire self.now }
     {
@@ -227,11 +230,11 @@ impl Oid {
     }
 }
 
-/// `<`, `==` and `cmp` of identifiers are the standard's order: a proper beginning comes first,
-/// else the identifier with the smaller number at the first difference (RFC 3416, section 4.2.2).
-/// They are equal where they have the same numbers.
+/// `<`, `==` and `cmp` of identifiers follow the standard's order: a proper prefix comes first,
+/// otherwise the identifier with the smaller number at the first difference (RFC 3416, section
+/// 4.2.2). Two are equal if and only if they have the same numbers.
 ///
-/// A law: the call does nothing, and its caller knows what it states.
+/// A law: the call does nothing, and its caller learns what the clauses say.
 #[inline]
 #[tactic(auto, using(crate::proofs::IdentifierLemmas::ordered_less, crate::proofs::IdentifierLemmas::ordered_equal, crate::proofs::IdentifierLemmas::ordered_greater))]
 pub fn order()
@@ -241,8 +244,8 @@ pub fn order()
     ensures equality { (o p : List ℕ) → IsTrue (⟦<Oid as PartialEq>⟧.eq o p) ↔ (o ≡ p) }
 {}
 
-/// How identifiers of these numbers compare ([`order`]). It is quickest where both begin with the
-/// same eight numbers, as most names of one table do.
+/// Returns how identifiers of the numbers `o` and `p` compare ([`order`]). Tests the first eight
+/// numbers without a loop, since most names of one table begin with the same eight.
 #[inline]
 #[tactic(auto, using(crate::proofs::Comparing::first_decides, crate::proofs::Comparing::one_more_alike, crate::proofs::Comparing::longer_after))]
 pub fn compare_numbers(o: &[u32], p: &[u32]) -> Ordering
@@ -258,8 +261,9 @@ pub fn compare_numbers(o: &[u32], p: &[u32]) -> Ordering
     o.len().cmp(&p.len())
 }
 
-/// Whether both begin with the same eight numbers.
-// Hot: each comparison in a search. A few instructions, where a call would be as many.
+/// Returns whether `o` and `p` begin with the same eight numbers.
+// `inline(always)`: it runs at each comparison of a search, and a call would cost as much as the
+// body.
 #[inline(always)]
 #[tactic(auto, using(crate::proofs::Comparing::eight_alike))]
 fn begin_alike(o: &[u32], p: &[u32]) -> bool
@@ -275,8 +279,9 @@ fn begin_alike(o: &[u32], p: &[u32]) -> bool
     false
 }
 
-/// Whether both have the same four numbers from a place on.
-// Hot: each comparison in a search. A few instructions, where a call would be as many.
+/// Returns whether `o` and `p` have the same four numbers from index `from` on.
+// `inline(always)`: it runs at each comparison of a search, and a call would cost as much as the
+// body.
 #[inline(always)]
 fn are_same_four(o: &[u32], p: &[u32], from: usize) -> bool
     requires { (from + 4 ≤ length o.now) × (from + 4 ≤ length p.now) }
@@ -292,10 +297,10 @@ fn are_same_four(o: &[u32], p: &[u32], from: usize) -> bool
         && o[from + 3] == p[from + 3]
 }
 
-/// `Precedes` is a strict total order: no two identifiers precede each other, what precedes one
-/// precedes all that follow it, and of two that differ one precedes the other.
+/// `Precedes` is a strict total order: no two identifiers precede each other; what precedes an
+/// identifier precedes all that follow it; and of two that differ, one precedes the other.
 ///
-/// A law: the call does nothing, and its caller knows what it states.
+/// A law: the call does nothing, and its caller learns what the clauses say.
 #[inline]
 pub fn strict_order()
     ensures asymmetric { (o p : List ℕ) → Precedes o p → Precedes p o → ⊥ }
@@ -303,9 +308,10 @@ pub fn strict_order()
     ensures total { (o p : List ℕ) → Precedes o p ⊎ ((o ≡ p) ⊎ Precedes p o) }
 {}
 
-/// The order of identifiers is that of their ranks, numbers of 128 digits to the base 2^32 + 1.
+/// Identifiers are ordered as their ranks are. A rank is a number of 128 digits to the base 2^32 +
+/// 1.
 ///
-/// A law: the call does nothing, and its caller knows what it states.
+/// A law: the call does nothing, and its caller learns what the clause says.
 #[inline]
 pub fn ranks()
     ensures { (o p : List ℕ) → IsIdentifier o → IsIdentifier p → Precedes o p ↔ (rank o < rank p) }

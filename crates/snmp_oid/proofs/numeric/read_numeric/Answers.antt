@@ -24,7 +24,7 @@ returns-then-is_dot-clause-too_long c = (
 pub parts-init : goal.parts-init
 parts-init c = grind (arith, common_steps, parse_begins)
 
--- the part at hand is no numeral
+-- the next part isn't a numeral
 first_bad : (c : goal.In_default-number) → IsFirstBadPart c.args.text.now (length c.args.text.now - length c.in-Some.here.now)
 first_bad c = bad_part_here (rw c.in-Some.is at c.parts.invariant) (rw c.in_default-number.is at c.read_part-number.ensures)
 
@@ -44,7 +44,7 @@ returns-in_default-number-clause-bad_number c =
 pub returns-in_default-number-clause-too_long : goal.returns-in_default-number-clause-too_long
 returns-in_default-number-clause-too_long c = (λ same. (let no : ⊥ = cc in absurd no), λ long. absurd (no_name c long.0 long.1))
 
--- what a push says
+-- a push appends the number, or there is no room for it
 keeps : (r : Result (Unit {0}) OidError) (kept new : List ℕ) (too_long : Bool) (n : ℕ) → (IsOk r ↔ (length kept < 128)) → OnOk r (new ≡ kept ++ n ∷ [])
     → OnErr r (new ≡ kept) → Keeps kept too_long n new (cond (is_err r) true too_long)
 keeps (Ok u) kept new too_long n variant pushed same = inl (variant.0 refl, pushed, refl)
@@ -70,7 +70,7 @@ parts-preserved c =
 pub parts-preserved-in-Some-read_three : goal.parts-preserved-in-Some-read_three
 parts-preserved-in-Some-read_three c = parse_digits (rw c.in-Some.is at c.parts.invariant) c.in-Some-read_three.ensures.three
 
--- the end
+-- at the end
 ended_long : (c : goal.Then-too_long) → IsParsedTo c.args.text.now None c.parts.oid true
 ended_long c = rw (c.in_default.is, c.if-too_long.true) at c.parts.invariant
 

@@ -5,7 +5,7 @@ use Rattle.std.specs.Char.{is_ascii_digit}
 use Rattle.snmp_oid.specs.Numeric.{dot, AreDigitsRead}
 use Rattle.snmp_oid.proofs.numeric.read_three.Goals as goal
 
--- the front of a text, octet by octet
+-- the first six octets of a text
 front_six : (text : List ℕ) → 6 ≤ length text
     → text ≡ get_or text 0 0 ∷ get_or text 1 0 ∷ get_or text 2 0 ∷ get_or text 3 0 ∷ get_or text 4 0 ∷ get_or text 5 0 ∷ drop 6 text
 front_six [] long = absurd (omega arith)
