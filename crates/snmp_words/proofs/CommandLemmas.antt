@@ -1,4 +1,4 @@
--- What follows of a command that has a stated shape.
+-- What is known of a command that has a given shape.
 use Rattle.std.proofs.Common.{◌≡◌, ◌⊎◌, ◌&&◌, ap, ap₂, refl, sym, inl, inr, true, false, not, true≢false, Bool, List, [], ◌∷◌, Option, Some, None}
 use Rattle.std.proofs.Common.{Result, Ok, subst, cond, option_map, IsSome, is_some, find, ◌∙◌}
 use Rattle.clap.specs.{Built.AddsArg, Built.AddsSubcommand, Walk.Row, Walk.Rule, Walk.Text, Walk.answers_to, Walk.stop_after, Kinds.IsAmong}
@@ -17,18 +17,18 @@ plain_is_local true true true rest e = absurd (true≢false (sym e))
 plain_is_local true false globals rest e = absurd (true≢false (sym e))
 plain_is_local false external globals rest e = absurd (true≢false (sym e))
 
--- a command with a subcommand more
+-- a command with one more subcommand
 pub subcommand_added : (command sub result : Command) (a b : App) → AddsSubcommand command sub result → app_of command ≡ a → app_of sub ≡ b
     → b.top.is_plain ≡ true → app_of result ≡ with_subcommand a b.top
 subcommand_added command sub result a b adds is sub_is plain =
     adds.shape (plain_is_local _ _ _ _ (ap (λ (x : App). x.top.is_plain) sub_is ∙ plain))
     ∙ ap₂ with_subcommand is (ap (λ (x : App). x.top) sub_is)
 
--- what was made is the command that is there
+-- if making a command succeeds, then the command has the shape of what was made
 pub made : {E : Type 0} (m : Result Command E) (command : Command) (app : App) → m ≡ Ok command → IsMade m app → app_of command ≡ app
 made m command app e is = let P : Result Command _ → Type 0 = λ r. IsMade r app in subst P e is
 
--- a command with an argument more
+-- a command with one more argument
 pub arg_added : (command result : Command) (arg : Arg) (app : App) (rule : Rule) → AddsArg command arg result → app_of command ≡ app → IsArg arg rule
     → app_of result ≡ with_rule app rule
 arg_added command result arg app rule adds is is_arg = adds.shape is_arg.1 ∙ ap₂ with_rule is is_arg.0
@@ -37,12 +37,12 @@ is_some-map : {X Y : Type 0} (f : X → Y) (o : Option X) → is_some (option_ma
 is_some-map f None = refl
 is_some-map f (Some x) = refl
 
--- each of the commands states a job
+-- each of the commands asks for a job
 abbrev AllState : List Shape → Type 0
 AllState [] = Unit {0}
 AllState (s ∷ more) = ((rows : List Row) → is_some (stated_by (s.name, rows)) ≡ true) × AllState more
 
--- the first command that passes a test states a job, if there is one
+-- the first command that passes the test asks for a job, or none passes it
 found_states : (test : Shape → Bool) (subs : List Shape) (words : List Text) → AllState subs
     → (option_map (λ s. rows_at s words) (find test subs) ≡ None)
     ⊎ (is_some (stated_in (option_map (λ s. rows_at s words) (find test subs))) ≡ true)
@@ -61,14 +61,14 @@ entered_states : (a : App) → AllState a.subs → (stop : Option (Text × List 
 entered_states a all None = inl refl
 entered_states a all (Some p) = found_states (λ s. answers_to p.0 (label_of s)) a.subs p.1 all
 
--- the words name no command, or state a job
+-- the arguments name no command, or they ask for a job
 pub stated_or_none : (words : List Text)
     → (subcommand_of snmp_app words ≡ None) ⊎ (is_some (stated_in (subcommand_of snmp_app words)) ≡ true)
 stated_or_none words =
     let all : AllState (built snmp_app).subs = (λ rows. refl, (λ rows. refl, (λ rows. refl, (λ rows. refl, (λ rows. refl, tt))))) in
     entered_states (built snmp_app) all (stop_after (built snmp_app).top.rules (names_of (built snmp_app)) (argument_words snmp_app words))
 
--- matches of the command that met a subcommand state a job
+-- if the parser met a subcommand, then its matches ask for a job
 pub states_job : (m : ArgMatches) (words : List Text) → has_subcommand m ≡ true → subcommand_rows_of m ≡ subcommand_of snmp_app words
     → IsSome (stated_in (subcommand_rows_of m))
 states_job m words met rows =

@@ -1,4 +1,4 @@
--- Texts and numbers that a command was given.
+-- Texts and numbers given to a command.
 use Rattle.std.proofs.Common.{◌≡◌, ◌∙◌, ◌++◌, ap, ap₂, refl, subst, sym, true, false, Bool, List, [], ◌∷◌, Option, Some, None, ℕ, ◌⊎◌, inl, inr}
 use Rattle.std.proofs.lemmas.Grind.{common_steps}
 use Rattle.std.proofs.Common.{arith, Bor, unwrap_or, option_map, option_and_then}
@@ -10,7 +10,7 @@ use Rattle.snmp_words.specs.Command.{snmp_app}
 use Rattle.snmp_words.specs.Words.{AreNumbersOf, IsNumberOf, Numbers, StateJob, Stated, StatesNumber, number_in, numbers_in, readings, stated_among}
 use Rattle.snmp_words.specs.Words.{stated_in}
 
--- texts joined with nothing between
+-- texts joined with nothing between them
 pub joined : (given : List (Bor (List ℕ))) → join_by (λ s. s.now) [] given ≡ flat_map (λ t. t) (texts given)
 joined [] = refl
 joined (s ∷ more) = ap (λ t. s.now ++ t) (rest more)
@@ -30,7 +30,7 @@ number_refused low high text not_in = go (is_unsigned_in low high text) (λ e. n
     go true never = absurd (never refl)
     go false never = refl
 
--- the number of an option is stated, or it is the default
+-- the computed numbers are those of the options
 are_numbers : (rows : List Row) → AreNumbersOf rows (numbers_in rows)
 are_numbers rows id default low high = by (first_of id rows)
   where
@@ -55,7 +55,7 @@ are_numbers rows id default low high = by (first_of id rows)
     by None = refl
     by (Some text) = at text (is_unsigned_in low high text) refl
 
--- and it is the only one
+-- an option has only one number
 one_number : (id : List ℕ) (default low high : ℕ) (rows : List Row) (n m : ℕ)
     → IsNumberOf id default low high rows n → IsNumberOf id default low high rows m → n ≡ m
 one_number id default low high rows n m = by (first_of id rows)
@@ -70,7 +70,7 @@ one_number id default low high rows n m = by (first_of id rows)
     by (Some text) (inr h) (inl k) = absurd (h.0 m k)
     by (Some text) (inr h) (inr k) = h.1 ∙ sym k.1
 
--- the job that is computed is the one that the words state
+-- the job that is computed is one that the arguments ask for
 pub states : (words : List Text) (job : Stated) → stated_in (subcommand_of snmp_app words) ≡ Some job → StateJob words job
 states words job = at (subcommand_of snmp_app words) refl
   where
@@ -99,7 +99,7 @@ one_job words job other h k =
         ap₂ (λ (x : Numbers) (r : Text × List Row). stated_among (readings x) r) numbers is in
         let jobs : Some job ≡ Some other = sym e ∙ both ∙ f in cc
 
--- the texts that a look-up found, and none where it found nothing
+-- the texts that a look-up found, or none if it found nothing
 pub found_texts : (found : Option (Bor (List (Bor (List ℕ))))) (rows : Option (List (List ℕ))) (none all : Bor (List (Bor (List ℕ))))
     → option_map (λ s. texts s.now) found ≡ rows → none.now ≡ [] → all ≡ unwrap_or found none → texts all.now ≡ unwrap_or rows []
 found_texts None rows none all e empty is = grind (arith, common_steps)

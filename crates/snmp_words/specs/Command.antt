@@ -1,4 +1,4 @@
--- The commands of the program in clap's terms: each has rules for its words.
+-- The commands of the program in clap's terms: each has rules for its arguments.
 use Rattle.std.specs.Prelude.{◌≡◌, ℕ, Bool, true, false, List, [], ◌∷◌, Some, codes, Result}
 use Rattle.std.specs.Prelude.{IfOk}
 use Rattle.clap.specs.{Faults.fault_of, Kinds.Kinds, Takes.takes, Walk.Rule, Walk.Text}
@@ -8,17 +8,17 @@ use Rattle.clap.specs.declared.builder.action.ArgAction.TheVariants.{Append}
 use Rattle.clap.specs.declared.builder.command.Command.{Command}
 use Rattle.clap.specs.declared.builder.value_parser.ValueParser.TheVariants.{Unsigned}
 
--- ---- the rules of options and words
+-- ---- the rules of options and positional arguments
 
--- an option or a word with one text
+-- an option or a positional argument with one text
 abbrev pub one_text : Text → Rule
 one_text id = record (new_rule id) { value_names = 1 }
 
--- it may be given several times
+-- the rule of an argument that may be given several times
 abbrev pub repeated : Rule → Rule
 repeated rule = record rule { action = Some Append }
 
--- its text is a decimal number of this range
+-- the rule of an argument whose text is a decimal number of the range
 abbrev pub numbered : (low high : ℕ) → Rule → Rule
 numbered low high rule = record rule { parser = Some (Unsigned low high) }
 
@@ -95,9 +95,9 @@ abbrev pub with_rules : App → List Rule → App
 with_rules app [] = app
 with_rules app (rule ∷ rules) = with_rules (with_rule app rule) rules
 
--- what each command that asks an agent takes: the files of modules, how lines are shown, the version
--- and community of requests, how often one is sent again, how long a reply is waited for, and the
--- size of messages
+-- the options of each command that asks an agent: the module files, how lines are shown, the
+-- version and community of requests, how many times one is sent again, how long to wait for a
+-- reply, and the size of messages
 abbrev pub asking_rules : List Rule
 asking_rules = mib_rule ∷ letters_rule ∷ protocol_rule ∷ community_rule ∷ retries_rule
     ∷ seconds_rule ∷ size_rule ∷ []
@@ -112,7 +112,7 @@ abbrev pub get_app : App
 get_app = with_rules (with_rules (new_app (codes "snmpget")) asking_rules)
     (agent_rule ∷ names_rule ∷ [])
 
--- snmpwalk OPTION.. AGENT [NAME], and snmpbulkwalk with the same words
+-- snmpwalk OPTION.. AGENT [NAME], and snmpbulkwalk with the same arguments
 abbrev pub walk_app : Text → App
 walk_app name = with_rules (with_rules (new_app name) asking_rules)
     (walk_letters_rule ∷ after_rule ∷ agent_rule ∷ name_rule ∷ [])
@@ -139,22 +139,22 @@ abbrev pub snmp_app : App
 snmp_app = with_commands top_app (translate_app ∷ get_app ∷ walk_app (codes "snmpwalk")
     ∷ walk_app (codes "snmpbulkwalk") ∷ serve_app ∷ [])
 
--- the command takes the words: they name options and subcommands that it has, with as many texts as
--- these need, each number in its range, and no option twice that may be given once; and they don't
--- ask for help
+-- whether the command takes the arguments: they name options and subcommands that it has, with as
+-- many texts as these need; each number is in its range; no option that may be given once is given
+-- twice; and they don't ask for help
 abbrev pub is_taken : List Text → Bool
 is_taken words = takes snmp_app words
 
--- the kinds of mistake that the words have, or that they ask for help
+-- the kinds of mistake that the arguments have, or that they ask for help
 abbrev pub faults_of : List Text → Kinds
 faults_of words = fault_of snmp_app words
 
 -- ---- for private functions
 
--- the argument has this rule, and is of its command alone
+-- the argument has the rule, and is for its own command only
 abbrev pub IsArg : Arg → Rule → Type 0
 IsArg arg rule = (rule_of arg ≡ rule) × (arg.global ≡ false)
 
--- what was made, if memory sufficed, has these rules
+-- the command that was made has these rules, if memory sufficed
 abbrev pub IsMade : {E : Type 0} → Result Command E → App → Type 0
 IsMade made app = IfOk made (λ c. app_of c ≡ app)

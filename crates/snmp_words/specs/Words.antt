@@ -1,4 +1,4 @@
--- What the words of a command line state: the command, and the texts and numbers that they give it.
+-- What the arguments of a command line say: the command, and the texts and numbers given to it.
 use Rattle.std.specs.Prelude.{◌≡◌, ◌<◌, ◌≤◌, ◌^◌, ◌⊎◌, ⊤, ◌++◌, ℕ, Bool, true, false, List, []}
 use Rattle.std.specs.Prelude.{◌∷◌, Option, Some, None, string_bytes, codes, map, unwrap_or}
 use Rattle.std.specs.Prelude.{option_and_then, option_map, if◌then◌else◌, MatchOption}
@@ -15,7 +15,7 @@ use Rattle.snmp_words.specs.{declared.job.WalkJob.WalkJob, declared.UsageError.U
 use Rattle.snmp_words.specs.declared.job.Job.TheVariants as job
 use Rattle.snmp_words.specs.declared.UsageError.TheVariants.{Memory, Parse}
 
--- ---- what the words state
+-- ---- what the arguments say
 
 pub record TranslateWords : Type 0 where
   pub mibs : List Text
@@ -23,7 +23,7 @@ pub record TranslateWords : Type 0 where
   pub details : Text
   pub names : List Text
 
--- the agent to ask, by which messages, and how the replies are shown
+-- the agent to ask, the messages to ask it with, and how the replies are shown
 pub record AskingWords : Type 0 where
   pub mibs : List Text
   pub letters : Text
@@ -38,15 +38,16 @@ pub record GetWords : Type 0 where
   pub asking : AskingWords
   pub names : List Text
 
--- the words of snmpwalk or snmpbulkwalk: its letters of -C, the name to go on after, and its name
+-- the arguments of snmpwalk or snmpbulkwalk: its letters of -C, the name after which it continues,
+-- and the name of its root
 pub record WalkWords : Type 0 where
   pub asking : AskingWords
   pub letters : Text
   pub after : Option Text
   pub name : Option Text
 
--- the words of snmpd: its module files, its table file, where requests are received, and how many
--- turns are served
+-- the arguments of snmpd: its module files, its table file, its community, the address at which
+-- requests are received, the greatest size of a reply, and how many turns are served
 pub record ServeWords : Type 0 where
   pub mibs : List Text
   pub table : Text
@@ -55,7 +56,7 @@ pub record ServeWords : Type 0 where
   pub max_size : ℕ
   pub turns : ℕ
 
--- a command with its words
+-- a command with its arguments
 pub data Stated : Type 0 where
   snmptranslate : TranslateWords → Stated
   snmpget : GetWords → Stated
@@ -63,22 +64,22 @@ pub data Stated : Type 0 where
   snmpbulkwalk : WalkWords → Stated
   snmpd : ServeWords → Stated
 
--- ---- what a command's rows give
+-- ---- what a command's rows say
 
 -- the texts given for an id
 abbrev pub texts_of : Text → List Row → List Text
 texts_of id rows = unwrap_or (all_of id rows) []
 
--- the texts given for an id, one after the other
+-- the texts given for an id, joined in order
 abbrev pub joined_of : Text → List Row → Text
 joined_of id rows = flat_map (λ text. text) (texts_of id rows)
 
--- the first text given for an id, or this one where none was
+-- the first text given for an id, or `default` if there is none
 abbrev pub text_or : Text → Text → List Row → Text
 text_or id default rows = unwrap_or (first_of id rows) default
 
--- the text states the number, in decimal digits with or without a plus: it has 64 bits, and is in
--- the range
+-- the text writes the number n, of 64 bits and in the range, in decimal digits with or without a
+-- plus
 pub record StatesNumber (low high : ℕ) (text : Text) (n : ℕ) : Type 0 where
   pub digits : IsNumeral 10 (without_leading_plus text)
   pub value : n ≡ digits_value 10 (without_leading_plus text)
@@ -86,8 +87,9 @@ pub record StatesNumber (low high : ℕ) (text : Text) (n : ℕ) : Type 0 where
   pub from : low ≤ n
   pub to : n ≤ high
 
--- The number of an option: the one that the text given for its id states; the default where no text
--- was given, and where it states no number of the range, which the command doesn't take.
+-- n is the number of option `id`: the one that its text writes, or `default` if no text was given.
+-- A text that doesn't write a number of the range gives `default` too, but the command refuses it
+-- first.
 abbrev pub IsNumberOf : Text → (default low high : ℕ) → List Row → ℕ → Type 0
 IsNumberOf id default low high rows n =
     MatchOption (first_of id rows) (n ≡ default) (λ text. StatesNumber low high text n
@@ -145,7 +147,7 @@ serve_of_rows numbers rows = record {
   turns = numbers (codes "turns") 18446744073709551615 0 18446744073709551615;
 }
 
--- the words of each command
+-- each command, with how its rows are read
 abbrev pub readings : Numbers → List (Text × (List Row → Stated))
 readings numbers = (codes "snmptranslate", λ rows. snmptranslate (translate_of_rows rows))
     ∷ (codes "snmpget", λ rows. snmpget (get_of_rows numbers rows))
@@ -158,7 +160,7 @@ stated_among [] p = None
 stated_among (reading ∷ more) p =
     if bytes_eq p.0 reading.0 then Some (reading.1 p.1) else stated_among more p
 
--- the words state the job: they name its command, and give it its texts and numbers
+-- the arguments ask for the job: they name its command, and give it its texts and numbers
 pub record StateJob (words : List Text) (job : Stated) : Type 0 where
   pub command : Text
   pub rows : List Row
@@ -169,7 +171,7 @@ pub record StateJob (words : List Text) (job : Stated) : Type 0 where
 
 -- ---- what a job holds
 
--- the texts behind references
+-- the texts that references point to
 abbrev pub texts_at : List (Bor Text) → List Text
 texts_at texts = map (λ text. text.now) texts
 
@@ -217,7 +219,7 @@ serve_words s = record {
   turns = s.turns;
 }
 
--- the words of a job, with its command
+-- the arguments of a job, with its command
 abbrev pub job_words : Job → Stated
 job_words (job.Translate t) = snmptranslate (translate_words t)
 job_words (job.Get g) = snmpget (get_words g)
@@ -232,12 +234,12 @@ asks_help kind.DisplayHelp = true
 asks_help kind.DisplayVersion = true
 asks_help _ = false
 
--- the error says that memory ran out, or stands for one of the faults
+-- the error says that memory ran out, or is that of one of the faults
 abbrev pub HasFaultOf : UsageError → Kinds → Type 0
 HasFaultOf Memory faults = ⊤
 HasFaultOf (Parse text help) faults = (k : ErrorKind) × IsAmong k faults × (help ≡ asks_help k)
 
--- how a text for the user ends: that of a mistake with the words for help
+-- how a text for the user ends: on a mistake, with the option that shows help
 abbrev pub end_of_text : (help : Bool) → Text
 end_of_text true = codes "\n"
 end_of_text false = codes "--help'.\n"
@@ -245,19 +247,19 @@ end_of_text false = codes "--help'.\n"
 abbrev pub IsTextFor : (help : Bool) → Text → Type 0
 IsTextFor help text = (front : Text) × (text ≡ front ++ end_of_text help)
 
--- its text, if it has one, ends so
+-- the text of the error, if it has one, ends so
 abbrev pub IsForUser : UsageError → Type 0
 IsForUser Memory = ⊤
 IsForUser (Parse text help) = IsTextFor help (string_bytes text)
 
--- ---- the words of a walk
+-- ---- the arguments of a walk
 
--- the words of a walk of a table file in numbers, from a name in numbers
+-- the arguments of a walk of a table file, shown in numbers, from a name in numbers
 abbrev pub walk_line : Text → Text → List Text
 walk_line path numbers = codes "snmp" ∷ codes "snmpwalk" ∷ codes "-On" ∷ (codes "table:" ++ path)
     ∷ (codes "." ++ numbers) ∷ []
 
--- what that line states: letters for numbers, and the defaults for all else
+-- what these arguments say: letters for numbers, and the defaults for all else
 abbrev pub words_of_walk : Text → Text → WalkWords
 words_of_walk path numbers = record {
   asking = record {
@@ -277,7 +279,7 @@ words_of_walk path numbers = record {
 
 -- ---- for private functions
 
--- the number that a text of decimal digits states, where it is in the range
+-- the number that the decimal digits of the text write, if it is in the range
 abbrev pub number_in : (low high : ℕ) → Text → Option ℕ
 number_in low high text =
     if is_unsigned_in low high text then Some (digits_value 10
@@ -288,14 +290,14 @@ abbrev pub numbers_in : List Row → Numbers
 numbers_in rows id default low high =
     unwrap_or (option_and_then (number_in low high) (first_of id rows)) default
 
--- the job that the words state, computed
+-- the job that the arguments ask for, computed
 abbrev pub stated_by : Text × List Row → Option Stated
 stated_by p = stated_among (readings (numbers_in p.1)) p
 
 abbrev pub stated_in : Option (Text × List Row) → Option Stated
 stated_in = option_and_then stated_by
 
--- the error stands for a parse that failed in this way; memory for its text may have run out
+-- the error is that of a parse that failed with kind k; memory for its text may have run out
 abbrev pub StandsFor : UsageError → ErrorKind → Type 0
 StandsFor Memory k = ⊤
 StandsFor (Parse text help) k = help ≡ asks_help k

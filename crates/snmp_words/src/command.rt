@@ -1,4 +1,4 @@
-//! The commands of the program, with the rules for their words and the help on them.
+//! The commands of the program, with the rules for their arguments and the help on them.
 ghost use Rattle.std.specs.Prelude.{◌≡◌, true};
 ghost use Rattle.clap.specs.{Simple.App, Simple.new_app, Simple.with_subcommand, Words.app_of};
 ghost use Rattle.snmp_words.specs.Command.{IsMade, asking_rules, get_app, serve_app, snmp_app};
@@ -11,8 +11,8 @@ use std::alloc::{AllocError, Global};
 /// The version of the program.
 pub(crate) const VERSION: &str = "0.6.0";
 
-// What help says of the walks, and what stands after the help of each command: an example that
-// needs no file, the statuses, and what to read.
+// What help says of the walks, and what follows the help of each command: an example that needs no
+// file, the exit statuses, and what to read.
 const TRANSLATE_END: &str = "\
 Example:
   snmp snmptranslate -On iso.3.6.1.2.1.1.5.0
@@ -75,7 +75,7 @@ man snmp explains each message, man snmp-table the format of tables";
 // A command, unless memory ran out.
 type Made<'a> = Result<Command<'a>, AllocError>;
 
-/// The command `snmp`, with its subcommands.
+/// Returns the command `snmp` with its subcommands.
 pub(crate) fn snmp_command<'a>(alloc: Global) -> Made<'a>
     ensures { IsMade result snmp_app }
 {
@@ -88,7 +88,7 @@ pub(crate) fn snmp_command<'a>(alloc: Global) -> Made<'a>
     with_command(with_bulk_walk, serve_command(alloc))
 }
 
-/// The command with one more subcommand.
+/// Returns `command` with one more subcommand.
 fn with_command<'a>(command: Made<'a>, subcommand: Made<'a>) -> Made<'a>
     ensures { (app sub : App) → IsMade command.entry app → IsMade subcommand.entry sub
         → sub.top.is_plain ≡ true → IsMade result (with_subcommand app sub.top) }
@@ -96,7 +96,7 @@ fn with_command<'a>(command: Made<'a>, subcommand: Made<'a>) -> Made<'a>
     command?.subcommand(subcommand?)
 }
 
-/// The program's own command, without subcommands.
+/// Returns the program's own command, without subcommands.
 fn top_command<'a>(alloc: Global) -> Command<'a>
     ensures { app_of result ≡ top_app }
 {
@@ -113,14 +113,14 @@ fn top_command<'a>(alloc: Global) -> Command<'a>
         .disable_help_subcommand(true)
 }
 
-/// A command with no words as yet, the line that help has on it, and what stands after its help.
+/// Returns a command without arguments as yet. Help says `about` of it, and ends with `end`.
 fn described<'a>(alloc: Global, name: &'a str, about: &'a str, end: &'a str) -> Command<'a>
     ensures { app_of result ≡ new_app name.now }
 {
     Command::new(alloc, name).about(about).after_help(end)
 }
 
-/// The command snmptranslate.
+/// Returns the command snmptranslate.
 fn translate_command<'a>(alloc: Global) -> Made<'a>
     ensures { IsMade result translate_app }
 {
@@ -132,7 +132,7 @@ fn translate_command<'a>(alloc: Global) -> Made<'a>
         .arg(options::names_word(alloc))
 }
 
-/// A command with the options that say how an agent is asked, and how the replies are shown.
+/// Returns a command with the options for asking an agent and for showing its replies.
 fn asking_command<'a>(alloc: Global, name: &'a str, about: &'a str, end: &'a str) -> Made<'a>
     ensures { IsMade result (with_rules (new_app name.now) asking_rules) }
 {
@@ -146,7 +146,7 @@ fn asking_command<'a>(alloc: Global, name: &'a str, about: &'a str, end: &'a str
         .arg(options::size_option(alloc))
 }
 
-/// The command snmpget.
+/// Returns the command snmpget.
 fn get_command<'a>(alloc: Global) -> Made<'a>
     ensures { IsMade result get_app }
 {
@@ -160,7 +160,7 @@ fn get_command<'a>(alloc: Global) -> Made<'a>
     .arg(options::names_word(alloc))
 }
 
-/// The command snmpwalk, or snmpbulkwalk, with the help on its letters of `-C`.
+/// Returns the command snmpwalk or snmpbulkwalk; `letters` is the help on its letters of `-C`.
 fn walk_command<'a>(
     alloc: Global,
     name: &'a str,
@@ -177,7 +177,7 @@ fn walk_command<'a>(
         .arg(options::name_word(alloc))
 }
 
-/// The command snmpd.
+/// Returns the command snmpd.
 fn serve_command<'a>(alloc: Global) -> Made<'a>
     ensures { IsMade result serve_app }
 {

@@ -1,4 +1,4 @@
-//! The texts and numbers that a command was given.
+//! The texts and numbers given to a command in its arguments.
 ghost use Rattle.std.specs.Prelude.{◌≡◌, ◌≤◌, IfOk, IfSome, IsSome, Some, option_map, string_bytes};
 ghost use Rattle.clap.specs.{Walk.first_of, Walk.rows_of, Words.found_of, Words.subcommand_rows_of};
 ghost use Rattle.snmp_words.specs.Words.{asking_of_rows, asking_words, get_of_rows, get_words};
@@ -11,7 +11,7 @@ use crate::job::{Asking, GetJob, Job, ServeJob, TranslateJob, WalkJob};
 use clap::ArgMatches;
 use std::alloc::{AllocError, Global};
 
-/// The job of the subcommand that was given.
+/// Returns the job of the subcommand that was given.
 pub(crate) fn job_of<'a>(alloc: Global, matches: &ArgMatches<'a>) -> Result<Job<'a>, AllocError>
     requires { IsSome (stated_in (subcommand_rows_of matches.now)) }
     ensures { IfOk result
@@ -30,7 +30,7 @@ pub(crate) fn job_of<'a>(alloc: Global, matches: &ArgMatches<'a>) -> Result<Job<
     }
 }
 
-/// The job of snmptranslate.
+/// Returns the job of snmptranslate.
 fn translate_job<'a>(alloc: Global, given: &ArgMatches<'a>) -> Result<TranslateJob<'a>, AllocError>
     ensures { IfOk result (λ job.
         translate_words job ≡ translate_of_rows (rows_of (found_of given.now))) }
@@ -43,7 +43,7 @@ fn translate_job<'a>(alloc: Global, given: &ArgMatches<'a>) -> Result<TranslateJ
     })
 }
 
-/// The job of snmpget.
+/// Returns the job of snmpget.
 fn get_job<'a>(alloc: Global, given: &ArgMatches<'a>) -> Result<GetJob<'a>, AllocError>
     ensures { let rows = rows_of (found_of given.now) in
         IfOk result (λ job. get_words job ≡ get_of_rows (numbers_in rows) rows) }
@@ -53,7 +53,7 @@ fn get_job<'a>(alloc: Global, given: &ArgMatches<'a>) -> Result<GetJob<'a>, Allo
     Ok(GetJob { asking, names })
 }
 
-/// The job of snmpwalk or snmpbulkwalk.
+/// Returns the job of snmpwalk or snmpbulkwalk.
 fn walk_job<'a>(alloc: Global, given: &ArgMatches<'a>) -> Result<WalkJob<'a>, AllocError>
     ensures { let rows = rows_of (found_of given.now) in
         IfOk result (λ job. walk_words job ≡ walk_of_rows (numbers_in rows) rows) }
@@ -66,7 +66,7 @@ fn walk_job<'a>(alloc: Global, given: &ArgMatches<'a>) -> Result<WalkJob<'a>, Al
     })
 }
 
-/// The job of snmpd.
+/// Returns the job of snmpd.
 fn serve_job<'a>(alloc: Global, given: &ArgMatches<'a>) -> Result<ServeJob<'a>, AllocError>
     ensures { let rows = rows_of (found_of given.now) in
         IfOk result (λ job. serve_words job ≡ serve_of_rows (numbers_in rows) rows) }
@@ -81,7 +81,7 @@ fn serve_job<'a>(alloc: Global, given: &ArgMatches<'a>) -> Result<ServeJob<'a>, 
     })
 }
 
-/// How an agent is asked.
+/// Returns how an agent is asked.
 fn asking_of<'a>(alloc: Global, given: &ArgMatches<'a>) -> Result<Asking<'a>, AllocError>
     ensures { let rows = rows_of (found_of given.now) in
         IfOk result (λ asking. asking_words asking ≡ asking_of_rows (numbers_in rows) rows) }
@@ -98,7 +98,7 @@ fn asking_of<'a>(alloc: Global, given: &ArgMatches<'a>) -> Result<Asking<'a>, Al
     })
 }
 
-/// The first text given for an id.
+/// Returns the first text given for `id`, if there is one.
 fn first_text<'a>(given: &ArgMatches<'a>, id: &str) -> Option<&'a str>
     ensures { option_map (λ text. text.now) result
         ≡ first_of id.now (rows_of (found_of given.now)) }
@@ -106,7 +106,7 @@ fn first_text<'a>(given: &ArgMatches<'a>, id: &str) -> Option<&'a str>
     given.get_str(id)
 }
 
-/// The texts given for an id, in order.
+/// Returns the texts given for `id`, in order.
 fn all_texts<'a>(
     alloc: Global,
     given: &ArgMatches<'a>,
@@ -118,7 +118,7 @@ fn all_texts<'a>(
     Vec::from_slice(alloc, given.get_strs(id).unwrap_or(&[]))
 }
 
-/// The texts given for an id, one after the other.
+/// Returns the texts given for `id`, joined in order.
 fn joined(alloc: Global, given: &ArgMatches<'_>, id: &str) -> Result<String, AllocError>
     ensures { IfOk result (λ text.
         string_bytes text ≡ joined_of id.now (rows_of (found_of given.now))) }
@@ -126,7 +126,7 @@ fn joined(alloc: Global, given: &ArgMatches<'_>, id: &str) -> Result<String, All
     given.get_strs(id).unwrap_or(&[]).join(alloc, "")
 }
 
-/// The number given for an id, or the default where none of the range was.
+/// Returns the number given for `id`, or `default` if no number of the range was given.
 fn number(given: &ArgMatches<'_>, id: &str, default: u64, low: u64, high: u64) -> u64
     requires from { low ≤ default }
     requires to { default ≤ high }
@@ -141,7 +141,7 @@ fn number(given: &ArgMatches<'_>, id: &str, default: u64, low: u64, high: u64) -
     }
 }
 
-/// The number that a text of decimal digits states, where it is in the range.
+/// Returns the number that the decimal digits of `text` write, if it is in the range.
 fn number_in(text: &str, low: u64, high: u64) -> Option<u64>
     ensures value { result ≡ number_in low high text.now }
     ensures range { IfSome result (λ n. (low ≤ n) × (n ≤ high)) }

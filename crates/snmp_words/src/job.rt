@@ -1,7 +1,7 @@
-//! The job that words state.
+//! The job that arguments ask for.
 ghost use Rattle.std.specs.Prelude.{◌≤◌};
 
-/// What the words ask for, each text as it was given.
+/// The job that arguments ask for. Each text is as it was passed.
 #[derive(Debug, Drop)]
 pub enum Job<'a> {
     /// `snmptranslate`: names in another form.
@@ -16,35 +16,35 @@ pub enum Job<'a> {
     Serve(ServeJob<'a>),
 }
 
-/// The words of `snmptranslate`.
+/// The arguments of `snmptranslate`.
 #[derive(Debug, Drop)]
 pub struct TranslateJob<'a> {
-    /// The paths of module files, of `--mib`, in order.
+    /// The paths of the module files (`--mib`), in order.
     pub mibs: Vec<&'a str>,
-    /// The letters of `-O`: how names are shown. Those of several `-O` are joined in order.
+    /// The letters of `-O`: how names are shown. The letters of several `-O` are joined in order.
     pub letters: String,
-    /// The letters of `-T`: what is shown in place of names.
+    /// The letters of `-T`: what is shown instead of names.
     pub details: &'a str,
     /// The names, in order.
     pub names: Vec<&'a str>,
 }
 
-/// The agent to ask, by which messages, and how the replies are shown.
+/// The agent to ask, the messages to ask it with, and how the replies are shown.
 #[derive(Debug, Drop)]
 pub struct Asking<'a> {
-    /// The paths of module files, of `--mib`, in order.
+    /// The paths of the module files (`--mib`), in order.
     pub mibs: Vec<&'a str>,
-    /// The letters of `-O`: how lines are shown. Those of several `-O` are joined in order.
+    /// The letters of `-O`: how lines are shown. The letters of several `-O` are joined in order.
     pub letters: String,
-    /// The version of SNMP: `2c` where none was given.
+    /// The version of SNMP; `2c` by default.
     pub protocol: &'a str,
-    /// The community of requests: `public` where none was given.
+    /// The community of requests; `public` by default.
     pub community: &'a str,
-    /// How often a request without a reply is sent again: 5 where no number was given.
+    /// How many times a request is sent again if no reply arrives; 5 by default.
     pub retries: u64,
-    /// How many seconds a reply is waited for: 1 where no number was given.
+    /// How many seconds to wait for a reply; 1 by default.
     pub seconds: u64,
-    /// The greatest size of a message of an agent in memory, in octets: 1472 where none was given.
+    /// The greatest size of a message of an agent in memory, in octets; 1472 by default.
     pub max_size: u64,
     /// The agent.
     pub agent: &'a str,
@@ -55,7 +55,7 @@ pub struct Asking<'a> {
     ghost datagram_size: { max_size ≤ 65507 },
 }
 
-/// The words of `snmpget`.
+/// The arguments of `snmpget`.
 #[derive(Debug, Drop)]
 pub struct GetJob<'a> {
     /// The agent to ask, and how.
@@ -64,34 +64,35 @@ pub struct GetJob<'a> {
     pub names: Vec<&'a str>,
 }
 
-/// The words of `snmpwalk` and `snmpbulkwalk`.
+/// The arguments of `snmpwalk` and `snmpbulkwalk`.
 #[derive(Debug, Drop)]
 pub struct WalkJob<'a> {
     /// The agent to ask, and how.
     pub asking: Asking<'a>,
-    /// The letters of `-C`: what the walk includes, and what is counted. Those of several `-C` are
-    /// joined in order.
+    /// The letters of `-C`: what the walk includes, and what is counted. The letters of several
+    /// `-C` are joined in order.
     pub letters: String,
-    /// The name after which the walk goes on, of `--after`, if one is given.
+    /// The name after which the walk continues (`--after`), if one is given.
     pub after: Option<&'a str>,
     /// The name of the walk's root, if one is given.
     pub name: Option<&'a str>,
 }
 
-/// The words of `snmpd`.
+/// The arguments of `snmpd`.
 #[derive(Debug, Drop)]
 pub struct ServeJob<'a> {
-    /// The paths of module files, of `--mib`, in order.
+    /// The paths of the module files (`--mib`), in order.
     pub mibs: Vec<&'a str>,
-    /// The path of the table file, of `--table`.
+    /// The path of the table file (`--table`).
     pub table: &'a str,
-    /// The community of the agent: `public` where none was given.
+    /// The community of the agent; `public` by default.
     pub community: &'a str,
-    /// Where requests are received: `127.0.0.1:161` where nothing was given.
+    /// The address at which requests are received; `127.0.0.1:161` by default.
     pub listen: &'a str,
-    /// The greatest size of a reply, in octets: 1472 where none was given.
+    /// The greatest size of a reply, in octets; 1472 by default.
     pub max_size: u64,
-    /// How many turns are served: 18446744073709551615 where no number was given.
+    /// How many turns are served, each a request or a second without one; 18446744073709551615 by
+    /// default.
     pub turns: u64,
     ghost some_size: { 1 ≤ max_size },
     ghost datagram_size: { max_size ≤ 65507 },

@@ -1,11 +1,11 @@
-//! The words of a command line, read by `clap` into the job that they state.
+//! The arguments of a command line, read by `clap` into the job that they ask for.
 //!
-//! Only the shape of the words is checked here. The tools check whether letters, agent and name
-//! have a meaning.
+//! Only the shape of the arguments is checked here. The tools check whether letters, agent and
+//! names have a meaning.
 //!
 //! # Examples
 //!
-//! The words of a walk:
+//! The arguments of a walk:
 //!
 //! ```
 //! let words = ["snmp", "snmpbulkwalk", "-Cr50", "192.0.2.1", "ifName"];
@@ -36,11 +36,11 @@ pub use job::{Asking, GetJob, Job, ServeJob, TranslateJob, WalkJob};
 use std::alloc::{AllocError, Global};
 use thiserror::Error;
 
-/// Why the words give no job.
+/// Why the arguments ask for no job.
 #[derive(Debug, Drop, Error)]
 pub enum UsageError {
-    /// The words were refused, or they ask for help: the text for the user, which ends with a
-    /// newline, and whether it is the help that was asked for.
+    /// The parser refused the arguments, or they ask for help. `text` is for the user and ends
+    /// with a newline; `help` says whether it is the help that was asked for.
     #[error("{text}")]
     Parse { text: String, help: bool },
     /// Memory ran out.
@@ -56,8 +56,8 @@ impl From<AllocError> for UsageError {
     }
 }
 
-/// Reads the words of a command line, the program's name among them as the first. Both `-On` and
-/// `-O n` give the option its letters. Words that the command takes are refused only where memory
+/// Reads the arguments of a command line, of which the first is the program's name. Both `-On` and
+/// `-O n` give the option its letters. Arguments that the command takes are refused only if memory
 /// runs out.
 pub fn read_words<'a>(alloc: Global, words: &'a [&'a str]) -> Result<Job<'a>, UsageError>
     ensures job { IfOk result (λ job.
@@ -75,10 +75,10 @@ pub fn read_words<'a>(alloc: Global, words: &'a [&'a str]) -> Result<Job<'a>, Us
     }
 }
 
-/// The words of a walk of any table file from any numeric name, with `-On`, are taken and state that
-/// walk.
+/// The arguments of a walk of any table file from any numeric name, with `-On`, are taken and ask
+/// for that walk.
 ///
-/// A law: the call does nothing, and its caller may use what it ensures.
+/// A law: the call does nothing, and its caller learns what the clauses say.
 pub fn walks_are_taken()
     ensures joined { (path numbers : List ℕ) →
         is_taken (walk_line path numbers) ≡ true }
@@ -86,18 +86,18 @@ pub fn walks_are_taken()
         StateJob (walk_line path numbers) (snmpwalk (words_of_walk path numbers)) }
 {}
 
-/// Words state at most one job.
+/// Arguments ask for at most one job.
 ///
-/// A law: the call does nothing, and its caller may use what it ensures.
+/// A law: the call does nothing, and its caller learns what the clause says.
 #[inline]
 pub fn one_job()
     ensures { (words : List Text) (job other : Stated)
         → StateJob words job → StateJob words other → job ≡ other }
 {}
 
-/// Words that the command takes, and words without a fault, state a job.
+/// Arguments that the command takes, and arguments without a fault, ask for a job.
 ///
-/// A law: the call does nothing, and its caller may use what it ensures.
+/// A law: the call does nothing, and its caller learns what the clauses say.
 #[inline]
 pub fn faultless_words_state_a_job()
     ensures taken { (words : List Text) → is_taken words ≡ true
@@ -106,8 +106,8 @@ pub fn faultless_words_state_a_job()
         → (job : Stated) × StateJob words job }
 {}
 
-/// The error for words that the parser refuses: help or the version where they ask for it,
-/// otherwise what is wrong with them.
+/// Returns the error for arguments that the parser refuses. It has the help or the version if they
+/// ask for it, otherwise what is wrong with them. It is `Memory` if memory ran out.
 fn usage_error(alloc: Global, error: &clap::Error, words: &[&str]) -> UsageError
     ensures memory { kind_of error.now ≡ ErrorKind.OutOfMemory → result ≡ Memory }
     ensures refusal { StandsFor result (kind_of error.now) }

@@ -1,5 +1,5 @@
-//! What is printed where words give no job: the text of the parser, with what to write in place of
-//! a word of Net-SNMP, what a value should be, and the help to read.
+//! The text that is printed if the arguments ask for no job: that of the parser, with what to
+//! write instead of an argument of Net-SNMP, what a value should be, and the help to read.
 ghost use Rattle.std.specs.Prelude.{IfOk, false, string_bytes, true};
 ghost use Rattle.clap.specs.Words.{kind_of};
 ghost use Rattle.snmp_words.specs.Words.{IsTextFor, asks_help};
@@ -8,7 +8,7 @@ use crate::command::VERSION;
 use clap::error::ErrorKind;
 use std::alloc::{AllocError, Global};
 
-// Words, each with a tip.
+// What a mistake can name, each with a tip.
 type Tips = &'static [(&'static str, &'static str)];
 
 const NOT_HERE: &str =
@@ -43,7 +43,7 @@ const FOLDERS: &str = "no folder is searched for modules: --mib FILE names each 
 
 const USERS: &str = "there is SNMPv2c alone: a community (-c), and neither users nor keys";
 
-// A second tip, on another version in the words.
+// A second tip, if the arguments ask for another version.
 const VERSIONS: &str = "2c is the only version, and the default: leave -v out";
 
 const DUMPS: &str = "messages are shown by tcpdump -vv -s0 udp port 161";
@@ -134,7 +134,8 @@ const VALUES_OF_BULK_WALK: Tips = &[(
     "LETTERS are some of i, p and rN, such as r25",
 )];
 
-/// The text for the user on words that the parser refused, or that ask for help or the version.
+/// Returns the text for the user if the parser refused `words`, or if they ask for help or the
+/// version.
 pub(crate) fn text_of(
     alloc: Global,
     error: &clap::Error,
@@ -154,7 +155,7 @@ pub(crate) fn text_of(
     }
 }
 
-/// The text with a newline at its end, if it has none.
+/// Returns `text` with a newline at its end, which is added if it has none.
 fn with_newline(mut text: String) -> Result<String, AllocError>
     ensures { IfOk result (λ text. IsTextFor true (string_bytes text)) }
 {
@@ -165,8 +166,8 @@ fn with_newline(mut text: String) -> Result<String, AllocError>
     Ok(text)
 }
 
-/// The command that the words begin with; None where the parser refused the first word as a
-/// command, or an option stands before the command.
+/// Returns the command that the arguments begin with. Returns `None` if there is none, if the
+/// parser refused the first argument as a command, or if it is an option.
 fn command_of<'a>(kind: ErrorKind, words: &[&'a str]) -> Option<&'a str> {
     match words.get(1) {
         Some(word) if kind != ErrorKind::InvalidSubcommand && !word.starts_with('-') => Some(*word),
@@ -174,10 +175,12 @@ fn command_of<'a>(kind: ErrorKind, words: &[&'a str]) -> Option<&'a str> {
     }
 }
 
-/// The parser's text with the tips of this program in place of its own, and one on the version.
+/// Returns the parser's text with a tip of this program instead of the parser's tips, and with
+/// `version`, the tip on the version. If this program has no tip on the mistake, the first of the
+/// parser's is used.
 ///
-/// That text has parts with an empty line between: the mistake; tips, or none; the usage, or none;
-/// and the help to read.
+/// The parser's text has parts with an empty line between them: the mistake; tips, or none; the
+/// usage, or none; and the help to read.
 fn explained(
     alloc: Global,
     text: &str,
@@ -203,7 +206,8 @@ fn explained(
     Ok(explained)
 }
 
-/// Appends the tip on a mistake and the one on the version, unless the first says it already.
+/// Appends the tip on a mistake and the tip on the version, unless the first one covers the
+/// version already.
 fn push_tips(
     text: &mut String,
     tip: Option<&str>,
@@ -222,7 +226,7 @@ fn push_tips(
     Ok(())
 }
 
-/// The tip on a version other than 2c, if the words have one.
+/// Returns the tip on the version if `words` ask for another one than 2c.
 fn tip_on_version(words: &[&str]) -> Option<&'static str> {
     let mut is_next = false;
     for word in words {
@@ -241,7 +245,7 @@ fn tip_on_version(words: &[&str]) -> Option<&'static str> {
     None
 }
 
-/// The tips that a text begins with, and what follows them.
+/// Returns the tips that `text` begins with, if any, and what follows them.
 fn tips_before(text: &str) -> (&str, &str) {
     if text.starts_with("  tip: ") {
         text.split_once("\n\n").unwrap_or((text, ""))
@@ -250,15 +254,15 @@ fn tips_before(text: &str) -> (&str, &str) {
     }
 }
 
-/// The first of the parser's tips, unless it says how to pass a word that begins with a hyphen as a
-/// value: no agent and no name begins with one.
+/// Returns the first of the parser's tips, unless it says how to pass an argument that begins with
+/// a hyphen as a value: no agent and no name begins with one.
 fn tip_among_parsers(tips: &str) -> Option<&str> {
     let (first, _) = tips.split_once('\n').unwrap_or((tips, ""));
     let tip = first.strip_prefix("  tip: ")?;
     (!tip.starts_with("to pass '")).then_some(tip)
 }
 
-/// What to write in place of what a mistake names.
+/// Returns what to write instead of what the mistake names, if there is a tip on it.
 fn tip_on(mistake: &str, command: Option<&str>) -> Option<&'static str> {
     if let Some(name) = between("error: unrecognized subcommand '", mistake, "'") {
         return tip_among(COMMANDS, name);
@@ -272,7 +276,7 @@ fn tip_on(mistake: &str, command: Option<&str>) -> Option<&'static str> {
     tip_on_value(option_of(mistake)?, command)
 }
 
-/// What the value of an option of a command is.
+/// Returns what the value of `option` is for `command`, if there is a tip on it.
 fn tip_on_value(option: &str, command: Option<&str>) -> Option<&'static str> {
     let own = match command {
         Some("snmptranslate") => VALUES_OF_TRANSLATE,
@@ -283,7 +287,7 @@ fn tip_on_value(option: &str, command: Option<&str>) -> Option<&'static str> {
     tip_among(own, option).or(tip_among(VALUES, option))
 }
 
-/// What to write in place of a word that isn't known.
+/// Returns what to write instead of an argument that isn't known, if there is a tip on it.
 fn tip_on_word(word: &str, command: Option<&str>) -> Option<&'static str> {
     match command {
         None => Some("the command comes first, as in snmp snmpwalk -On AGENT"),
@@ -295,7 +299,7 @@ fn tip_on_word(word: &str, command: Option<&str>) -> Option<&'static str> {
     }
 }
 
-/// The option whose value a mistake is about.
+/// Returns the option whose value the mistake is about, if it is about one.
 fn option_of(mistake: &str) -> Option<&str> {
     if let Some(rest) = mistake.strip_prefix("error: a value is required for '") {
         return Some(rest.split_once("' but")?.0);
@@ -305,12 +309,12 @@ fn option_of(mistake: &str) -> Option<&str> {
     Some(rest.split_once("': ")?.0)
 }
 
-/// What stands between `before` and `after`, if a text begins and ends with these.
+/// Returns what is between `before` and `after`, if `text` begins and ends with these.
 fn between<'t>(before: &str, text: &'t str, after: &str) -> Option<&'t str> {
     text.strip_prefix(before)?.strip_suffix(after)
 }
 
-/// The tip on a word, if there is one among these.
+/// Returns the tip on `word`, if it has one in `tips`.
 fn tip_among(tips: Tips, word: &str) -> Option<&'static str> {
     let (_, tip) = tips.iter().find(|tip| tip.0 == word)?;
     Some(*tip)

@@ -1,4 +1,4 @@
-//! The options and words of the commands, each with its help.
+//! The options and positional arguments of the commands, each with its help.
 ghost use Rattle.snmp_words.specs.Command.{IsArg};
 ghost use Rattle.snmp_words.specs.Command.{after_rule, agent_rule, community_rule, details_rule};
 ghost use Rattle.snmp_words.specs.Command.{letters_rule, listen_rule, mib_rule, name_rule};
@@ -8,7 +8,7 @@ ghost use Rattle.snmp_words.specs.Command.{size_rule, table_rule, turns_rule, wa
 use clap::{Arg, ArgAction, value_parser};
 use std::alloc::Global;
 
-/// The letters of `-O`.
+/// The help on the letters of `-O` for the commands that print lines.
 pub(crate) const LETTERS_OF_LINES: &str = "\
 How names and values are shown; may be repeated
 of n, f, s and S, of q and Q, and of x and a, the last one counts
@@ -26,7 +26,8 @@ U: no units
 x: strings without a display hint in hexadecimal
 a: strings without a display hint as text";
 
-/// Those of `-O` that act on names: the others are taken beside names too, and change nothing.
+/// The help on the letters of `-O` that act on names. The others are accepted too, and change
+/// nothing.
 pub(crate) const LETTERS_OF_NAMES: &str = "\
 How names are shown; may be repeated
 of n, f, s and S the last one counts
@@ -36,14 +37,14 @@ s: names with their last label
 S: names with module and label; the default
 b: indexes in names as numbers";
 
-/// The letters of `-C` of snmpwalk.
+/// The help on the letters of `-C` of snmpwalk.
 pub(crate) const WALK_LETTERS: &str = "\
 What is walked; may be repeated
 i: the root's own instance comes first
 p: the number of bindings is printed at the end, exceptions too
 I: the root's own instance isn't printed in place of an empty walk";
 
-/// The letters of `-C` of snmpbulkwalk.
+/// The help on the letters of `-C` of snmpbulkwalk.
 pub(crate) const BULK_LETTERS: &str = "\
 What is walked; may be repeated
 i: the root's own instance comes first
@@ -68,7 +69,7 @@ const AGENT_HELP: &str = "The agent\n\
                           such as 192.0.2.1 or router:1161\n\
                           table:FILE: an agent in memory that serves the table of a file";
 
-/// `--mib FILE`
+/// Returns the option `--mib FILE`.
 pub(crate) fn mib_option<'a>(alloc: Global) -> Arg<'a>
     ensures { IsArg result mib_rule }
 {
@@ -79,7 +80,7 @@ pub(crate) fn mib_option<'a>(alloc: Global) -> Arg<'a>
         .action(ArgAction::Append)
 }
 
-/// `-O LETTERS`, with the help on these.
+/// Returns the option `-O LETTERS`; `letters` is the help on it.
 pub(crate) fn letters_option<'a>(alloc: Global, letters: &'a str) -> Arg<'a>
     ensures { IsArg result letters_rule }
 {
@@ -90,7 +91,7 @@ pub(crate) fn letters_option<'a>(alloc: Global, letters: &'a str) -> Arg<'a>
         .action(ArgAction::Append)
 }
 
-/// `-T LETTERS`
+/// Returns the option `-T LETTERS`.
 pub(crate) fn details_option<'a>(alloc: Global) -> Arg<'a>
     ensures { IsArg result details_rule }
 {
@@ -100,7 +101,7 @@ pub(crate) fn details_option<'a>(alloc: Global) -> Arg<'a>
         .help(DETAILS_HELP)
 }
 
-/// `-v VERSION`
+/// Returns the option `-v VERSION`.
 pub(crate) fn protocol_option<'a>(alloc: Global) -> Arg<'a>
     ensures { IsArg result protocol_rule }
 {
@@ -110,7 +111,7 @@ pub(crate) fn protocol_option<'a>(alloc: Global) -> Arg<'a>
         .help("The version of SNMP: 2c alone, which is the default, and neither 1 nor 3")
 }
 
-/// `-c COMMUNITY`
+/// Returns the option `-c COMMUNITY`.
 pub(crate) fn community_option<'a>(alloc: Global) -> Arg<'a>
     ensures { IsArg result community_rule }
 {
@@ -120,7 +121,7 @@ pub(crate) fn community_option<'a>(alloc: Global) -> Arg<'a>
         .help("The community of the messages, of at most 255 octets; by default public")
 }
 
-/// `-r RETRIES`
+/// Returns the option `-r RETRIES`.
 pub(crate) fn retries_option<'a>(alloc: Global) -> Arg<'a>
     ensures { IsArg result retries_rule }
 {
@@ -131,7 +132,7 @@ pub(crate) fn retries_option<'a>(alloc: Global) -> Arg<'a>
         .value_parser(value_parser!(u64).range(0..=1000))
 }
 
-/// `-t SECONDS`
+/// Returns the option `-t SECONDS`.
 pub(crate) fn seconds_option<'a>(alloc: Global) -> Arg<'a>
     ensures { IsArg result seconds_rule }
 {
@@ -142,7 +143,7 @@ pub(crate) fn seconds_option<'a>(alloc: Global) -> Arg<'a>
         .value_parser(value_parser!(u64).range(1..=3600))
 }
 
-/// `--max-size OCTETS`
+/// Returns the option `--max-size OCTETS`.
 pub(crate) fn size_option<'a>(alloc: Global) -> Arg<'a>
     ensures { IsArg result size_rule }
 {
@@ -153,7 +154,7 @@ pub(crate) fn size_option<'a>(alloc: Global) -> Arg<'a>
         .value_parser(value_parser!(u64).range(1..=65507))
 }
 
-/// `-C LETTERS`, with the help on these.
+/// Returns the option `-C LETTERS`; `letters` is the help on it.
 pub(crate) fn walk_letters_option<'a>(alloc: Global, letters: &'a str) -> Arg<'a>
     ensures { IsArg result walk_letters_rule }
 {
@@ -164,7 +165,7 @@ pub(crate) fn walk_letters_option<'a>(alloc: Global, letters: &'a str) -> Arg<'a
         .action(ArgAction::Append)
 }
 
-/// `--after NAME`
+/// Returns the option `--after NAME`.
 pub(crate) fn after_option<'a>(alloc: Global) -> Arg<'a>
     ensures { IsArg result after_rule }
 {
@@ -174,7 +175,7 @@ pub(crate) fn after_option<'a>(alloc: Global) -> Arg<'a>
         .help("Goes on after this name, the last of a walk that broke off")
 }
 
-/// `--table FILE`
+/// Returns the option `--table FILE`.
 pub(crate) fn table_option<'a>(alloc: Global) -> Arg<'a>
     ensures { IsArg result table_rule }
 {
@@ -185,7 +186,7 @@ pub(crate) fn table_option<'a>(alloc: Global) -> Arg<'a>
         .required(true)
 }
 
-/// `--listen HOST:PORT`
+/// Returns the option `--listen HOST:PORT`.
 pub(crate) fn listen_option<'a>(alloc: Global) -> Arg<'a>
     ensures { IsArg result listen_rule }
 {
@@ -195,7 +196,7 @@ pub(crate) fn listen_option<'a>(alloc: Global) -> Arg<'a>
         .help("Where requests are received; by default 127.0.0.1:161")
 }
 
-/// `--turns N`
+/// Returns the option `--turns N`.
 pub(crate) fn turns_option<'a>(alloc: Global) -> Arg<'a>
     ensures { IsArg result turns_rule }
 {
@@ -206,7 +207,7 @@ pub(crate) fn turns_option<'a>(alloc: Global) -> Arg<'a>
         .value_parser(value_parser!(u64))
 }
 
-/// `AGENT`
+/// Returns the positional argument `AGENT`.
 pub(crate) fn agent_word<'a>(alloc: Global) -> Arg<'a>
     ensures { IsArg result agent_rule }
 {
@@ -216,7 +217,7 @@ pub(crate) fn agent_word<'a>(alloc: Global) -> Arg<'a>
         .required(true)
 }
 
-/// `[NAME]`
+/// Returns the positional argument `[NAME]`.
 pub(crate) fn name_word<'a>(alloc: Global) -> Arg<'a>
     ensures { IsArg result name_rule }
 {
@@ -225,7 +226,7 @@ pub(crate) fn name_word<'a>(alloc: Global) -> Arg<'a>
     )
 }
 
-/// `NAME..`
+/// Returns the positional arguments `NAME..`.
 pub(crate) fn names_word<'a>(alloc: Global) -> Arg<'a>
     ensures { IsArg result names_rule }
 {
