@@ -1,4 +1,4 @@
--- Words with a colon or a prefix, and what they state.
+-- Arguments with a colon or a prefix, and what they say.
 use Rattle.std.proofs.Common.{◌≡◌, ◌≢◌, ◌<◌, ◌++◌, ◌∷◌, ◌==◌, ◌↔◌, ℕ, Bool, true, false, not, IsTrue, refl, [], List, Bor, Contains, Option, Some}
 use Rattle.std.proofs.Common.{None, IfSome, IfNone, MatchOption, sym, ap, ◌∙◌, length, slice_index, codes, arith, subst, inl, inr}
 use Rattle.std.specs.Str.Pattern.{FindsTextPrefix, StripsPrefix}
@@ -7,7 +7,7 @@ use Rattle.std.proofs.lemmas.Str.Pattern.{IsSplitOnceResult, split_after}
 use Rattle.snmp_net.specs.Address.{Address, IsAgent, IsHost, IsHostAndPort, IsPortOfHost, IsTarget, LacksPrefix, colon, table, udp}
 use Rattle.snmp_net.specs.declared.address.UdpAddress.{UdpAddress}
 
--- where no colon is contained, none stands at any place
+-- if a text contains no colon, then none is at any index
 pub clear : (xs : List ℕ) → ¬ Contains xs 58 → (i : ℕ) → i < length xs → slice_index xs i ≢ 58
 clear xs lacking i inside there = lacking (i, inside, get_or_default xs i 58 0 inside ∙ there)
 
@@ -17,7 +17,7 @@ not_contained xs lacking (i, inside, there) = lacking i inside (sym (get_or_defa
 pub not_empty : (xs : List ℕ) (empty : Bool) → empty ≡ (length xs == 0) → empty ≡ false → xs ≢ []
 not_empty xs empty is off e = let long : length xs ≡ 0 = ap length e in grind (arith, nat_tests)
 
--- the test of a host that isn't empty
+-- the test for a host of a text that isn't empty
 pub host_test : (text : List ℕ) (found : Bool) → text ≢ [] → ((found ≡ true → (i : ℕ) × (i < length text) × (slice_index text i ≡ 58))
     × ((i : ℕ) → i < length text → slice_index text i ≡ 58 → found ≡ true)) → IsTrue (not found) ↔ IsHost text
 host_test text true some finds = (
@@ -29,13 +29,13 @@ host_test text false some finds = (
   λ host. cc,
 )
 
--- a text is split at the colon behind its host
+-- an argument is split at the colon after its host
 pub parted : (word : List ℕ) (r : Option (Bor (List ℕ) × Bor (List ℕ))) → IsSplitOnceResult 58 word r
     → (host : List ℕ) (port : ℕ) (at : IsPortOfHost word host port)
     → MatchOption r ⊥ (λ x. (x.0.now ≡ host) × (x.1.now ≡ at.digits))
 parted word r split host port at = split_after 58 word host at.digits r split (omega arith) at.parts (clear host at.host_stated.no_colon)
 
--- a port of a host is where requests are received only where the word has no prefix
+-- if an argument has no other host and port, then it says no other place where requests are received
 pub place_only : (word : List ℕ) (r : Option UdpAddress)
     → IfSome r (λ at. (host : List ℕ) (port : ℕ) → IsPortOfHost word host port → (host ≡ at.host.now) × (port ≡ at.port))
     → IfSome r (λ at. (host : List ℕ) (port : ℕ) → IsHostAndPort word host port → (host ≡ at.host.now) × (port ≡ at.port))
@@ -47,7 +47,7 @@ pub place_none : (word : List ℕ) (r : Option UdpAddress) → IfNone r ((host :
 place_none word (Some at) fails = tt
 place_none word None fails = λ host port h. fails host port h.2
 
--- what is no host alone is a target by its port
+-- if an argument isn't only a host, then its host and port are its only target
 pub target_only : (word : List ℕ) (r : Option UdpAddress) → ¬ (IsHost word)
     → IfSome r (λ at. (host : List ℕ) (port : ℕ) → IsPortOfHost word host port → (host ≡ at.host.now) × (port ≡ at.port))
     → IfSome r (λ at. (host : List ℕ) (port : ℕ) → IsTarget word host port → (host ≡ at.host.now) × (port ≡ at.port))
@@ -60,7 +60,7 @@ pub target_none : (word : List ℕ) (r : Option UdpAddress) → ¬ (IsHost word)
 target_none word (Some at) lacking fails = tt
 target_none word None lacking fails = λ host port t. elim t [ inl h ↦ absurd (lacking h.0) | inr p ↦ fails host port p ]
 
--- a host alone is the only target that its text states
+-- if an argument is only a host, then this host at port 161 is its only target
 pub host_only : (word : List ℕ) → IsHost word → (host : List ℕ) (port : ℕ) → IsTarget word host port → (host ≡ word) × (port ≡ 161)
 host_only word alone host port t = elim t [
   | inl h ↦ (h.1, h.2)
@@ -71,7 +71,7 @@ host_only word alone host port t = elim t [
 pub after_prefix : (word prefix rest : List ℕ) → StripsPrefix (FindsTextPrefix prefix) word rest → word ≡ prefix ++ rest
 after_prefix word prefix rest (k, found, is, long) = found.1 ∙ ap (λ (r : List ℕ). prefix ++ r) (sym is)
 
--- no word begins in both ways
+-- no argument begins with both prefixes
 two_prefixes : (word rest path : List ℕ) → word ≡ codes "udp:" ++ rest → word ≡ codes "table:" ++ path → ⊥
 two_prefixes word rest path e f =
     let u : slice_index word 0 ≡ 117 = ap (λ (w : List ℕ). slice_index w 0) e in
@@ -79,7 +79,7 @@ two_prefixes word rest path e f =
     omega arith
 
 module _ (word : List ℕ) where
-  -- the target after `udp:` is the only agent that the word states
+  -- the target after `udp:` is the only agent that the argument names
   pub udp_only : (rest : List ℕ) (at : UdpAddress) → word ≡ codes "udp:" ++ rest
       → ((host : List ℕ) (port : ℕ) → IsTarget rest host port → (host ≡ at.host.now) × (port ≡ at.port))
       → (other : Address) → IsAgent word other → other ≡ udp at.host.now at.port
@@ -98,7 +98,7 @@ module _ (word : List ℕ) where
   ]
 
   module _ (no_table : LacksPrefix word (codes "table:")) (no_udp : LacksPrefix word (codes "udp:")) where
-    -- the target is the only agent that a word without a prefix states
+    -- the target is the only agent that an argument without a prefix names
     pub plain_only : (at : UdpAddress) → ((host : List ℕ) (port : ℕ) → IsTarget word host port → (host ≡ at.host.now) × (port ≡ at.port))
         → (other : Address) → IsAgent word other → other ≡ udp at.host.now at.port
     plain_only at sole (table path) is = absurd (no_table path is.1)

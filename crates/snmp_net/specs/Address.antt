@@ -1,4 +1,4 @@
--- The words that say where an agent is reached.
+-- The arguments that say where an agent is reached.
 use Rattle.std.specs.Prelude.{◌≡◌, ◌≢◌, ◌≤◌, ◌⊎◌, ◌++◌, ℕ, List, [], ◌∷◌, Contains, codes}
 use Rattle.std.specs.Str.Parse.{IsNumeral, digits_value}
 use Rattle.snmp_net.specs.declared.address.AgentAddress.{AgentAddress}
@@ -13,42 +13,43 @@ pub data Address : Type 0 where
 abbrev pub colon : ℕ
 colon = 58
 
--- a host's name, or its IPv4 address
+-- the text is a host: a name or an IPv4 address
 pub record IsHost (host : List ℕ) : Type 0 where
   pub some : host ≢ []
   pub no_colon : ¬ Contains host colon
 
--- decimal digits that state a UDP port, leading zeros among them or not
+-- the decimal digits, perhaps with leading zeros, write the UDP port, which isn't 0
 pub record IsPort (digits : List ℕ) (port : ℕ) : Type 0 where
   pub numeral : IsNumeral 10 digits
   pub value : digits_value 10 digits ≡ port
   pub from : 1 ≤ port
   pub to : port ≤ 65535
 
--- a port of a host: the host, a colon and the port
+-- the argument is a port of the host: the host, a colon and the port
 pub record IsPortOfHost (word host : List ℕ) (port : ℕ) : Type 0 where
   pub digits : List ℕ
   pub parts : word ≡ host ++ colon ∷ digits
   pub host_stated : IsHost host
   pub port_stated : IsPort digits port
 
--- only a host, at the port of SNMP (RFC 3417, section 3.2), or a host and its port
+-- the argument is only the host, at the port of SNMP (RFC 3417, section 3.2), or the host and its
+-- port
 abbrev pub IsTarget : (word host : List ℕ) → (port : ℕ) → Type 0
 IsTarget word host port =
     (IsHost word × (host ≡ word) × (port ≡ 161)) ⊎ IsPortOfHost word host port
 
--- the word doesn't begin with the prefix
+-- the argument doesn't begin with the prefix
 abbrev pub LacksPrefix : (word prefix : List ℕ) → Type 0
 LacksPrefix word prefix = (rest : List ℕ) → word ≢ prefix ++ rest
 
--- The word states where requests are received: a host and its port. One that begins with `table:`
--- or `udp:`, the prefixes of an agent's word, states none.
+-- The argument says where requests are received: a host and its port. It doesn't begin with
+-- `table:` or `udp:`, the prefixes of an argument that names an agent.
 abbrev pub IsHostAndPort : (word host : List ℕ) → (port : ℕ) → Type 0
 IsHostAndPort word host port =
     LacksPrefix word (codes "table:") × LacksPrefix word (codes "udp:")
     × IsPortOfHost word host port
 
--- The word states where an agent is. One that begins with `table:` or `udp:` is read as that; a
+-- The argument says where an agent is. One that begins with `table:` or `udp:` is read as that; a
 -- path isn't empty.
 abbrev pub IsAgent : (word : List ℕ) → Address → Type 0
 IsAgent word (table path) = (path ≢ []) × (word ≡ codes "table:" ++ path)
@@ -57,7 +58,7 @@ IsAgent word (udp host port) =
     ⊎ (LacksPrefix word (codes "table:") × LacksPrefix word (codes "udp:")
     × IsTarget word host port)
 
--- the address that a value of the code means
+-- the address that a value of the code stands for
 abbrev pub address_of : AgentAddress → Address
 address_of (agent.Table path) = table path.now
 address_of (agent.Udp at) = udp at.host.now at.port

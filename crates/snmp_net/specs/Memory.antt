@@ -1,4 +1,4 @@
--- Which links are opened to agents in memory.
+-- Links to agents in memory, and doors in memory.
 use Rattle.std.specs.Prelude.{◌≡◌, ℕ, ◌==◌, ◌&&◌, List, [], ◌∷◌, Option, Some, None, find, ◌<◌}
 use Rattle.std.specs.Prelude.{drop, length, map}
 use Rattle.std.specs.{Borrow.Bor, Str.bytes_eq}
@@ -9,24 +9,24 @@ use Rattle.snmp_walk.specs.declared.memory.MemoryLink.{MemoryLink}
 use Rattle.snmp_net.specs.declared.memory.MemoryAgent.{MemoryAgent}
 use Rattle.snmp_net.specs.declared.memory.MemoryDoor.{MemoryDoor}
 
--- the first of the agents that is reached at this port of this host
+-- the first of the agents that is reached at the port of the host
 abbrev pub agent_at : List MemoryAgent → (host : List ℕ) → (port : ℕ) → Option MemoryAgent
 agent_at agents host port = find (λ a. bytes_eq a.host.now host && (a.port == port)) agents
 
--- a link to this agent over which nothing was sent
+-- the link is to the agent, and nothing was sent over it
 pub record IsLinkTo (agent : MemoryAgent) (link : MemoryLink) : Type 0 where
   pub agents : agents_of link ≡ agents_over (agent.table.now ∷ []) agent.config
   pub traffic : traffic_of link ≡ record { sent = []; ahead = agent.deliveries.now }
   pub no_fault : link.fault_count ≡ 0
   pub honest : IsHonest link
 
--- a link to the agent that is reached there
+-- the link is to the agent that is reached at the port of the host
 abbrev pub OpensTo : List MemoryAgent → (host : List ℕ) → (port : ℕ) → MemoryLink → Type 0
 OpensTo agents host port link =
     (agent : MemoryAgent) × (agent_at agents host port ≡ Some agent) × IsLinkTo agent link
 
--- a door where no agent is reached, at which all of these requests are still to come and nothing
--- has failed
+-- no agent is reached at the port of the host; all of the requests are still to come at the door,
+-- and nothing has failed there
 abbrev pub BindsAt : List MemoryAgent → (requests : List (Bor (List ℕ))) → (host : List ℕ)
     → (port : ℕ) → MemoryDoor → Type 0
 BindsAt agents requests host port door =
@@ -37,9 +37,9 @@ BindsAt agents requests host port door =
 abbrev pub ahead_of : MemoryDoor → List (List ℕ)
 ahead_of door = map (λ request. request.now) (drop door.used door.requests.now)
 
--- What may happen at the door between two of its states: the next request comes, or none after
--- the last, or the next is longer than any datagram over UDP and is passed over. A reply leaves
--- what is still to come, and none fails.
+-- What can happen at the door between two of its states: the next request arrives, or none after
+-- the last, or the next is longer than any datagram over UDP and is skipped. A reply leaves the
+-- requests that are still to come, and never fails.
 abbrev pub HappensAtDoor : MemoryDoor → Event (Unit {0}) → MemoryDoor → Type 0
 HappensAtDoor old (came peer datagram) new = ahead_of old ≡ datagram ∷ ahead_of new
 HappensAtDoor old silence new = (ahead_of old ≡ []) × (ahead_of new ≡ [])
@@ -48,8 +48,8 @@ HappensAtDoor old receive_failed new = (request : List ℕ)
 HappensAtDoor old (sent peer datagram) new = ahead_of new ≡ ahead_of old
 HappensAtDoor old (send_failed peer datagram) new = ⊥
 
--- The agent served this many turns at the door, with these counts, which led from one of its
--- states to the other: each request that came there, in order, has its reply or is dropped.
+-- The agent served `turns` turns at the door, with the counts `served`, and took it from one state
+-- to the other: each request that arrived there, in order, has its reply or is dropped.
 abbrev pub AreServed : MemoryDoor → Agent → (turns : ℕ) → Served → MemoryDoor → Type 0
 AreServed old agent turns served new =
     (events : List (Event (Unit {0}))) × AreTurns agent turns served events

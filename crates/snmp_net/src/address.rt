@@ -1,4 +1,5 @@
-//! The words that say where an agent is reached, as `table:FILE`, `router`, `udp:10.0.0.1:1161`.
+//! The arguments that say where an agent is reached, such as `table:FILE`, `router`,
+//! `udp:10.0.0.1:1161`.
 ghost use Rattle.std.specs.Prelude.{◌≡◌, ◌≢◌, ℕ, List, [], Contains, IsTrue, IfSome, IfNone, ◌↔◌};
 ghost use Rattle.snmp_net.specs.Address.{IsHost, IsHostAndPort, IsPort, IsPortOfHost, IsTarget};
 
@@ -18,9 +19,9 @@ impl<'a> UdpAddress<'a> {
     ghost use Rattle.std.specs.Prelude.{◌≡◌, ℕ, List, IfSome, IfNone};
     ghost use Rattle.snmp_net.specs.Address.{IsHostAndPort, IsPortOfHost, IsTarget};
 
-    /// Reads `HOST:PORT`, the word for where an agent receives requests: a host that isn't empty,
-    /// and a port from 1 to 65535. A word that begins with `table:` or `udp:` is none, since an
-    /// agent is named so.
+    /// Reads `HOST:PORT`, the argument that says where an agent receives requests: a host that
+    /// isn't empty, and a port from 1 to 65535. An argument that begins with `table:` or `udp:`
+    /// isn't read, since it names an agent.
     pub fn read(word: &'a str) -> Option<UdpAddress<'a>>
         ensures stated { IfSome result (λ at. IsHostAndPort word.now at.host.now at.port) }
         ensures only { IfSome result (λ at. (host : List ℕ) (port : ℕ)
@@ -34,7 +35,7 @@ impl<'a> UdpAddress<'a> {
         UdpAddress::port_of_host(word)
     }
 
-    /// Reads `HOST:PORT`, where the host may be named `table` or `udp`.
+    /// Reads `HOST:PORT`; the host may be named `table` or `udp`.
     fn port_of_host(word: &'a str) -> Option<UdpAddress<'a>>
         ensures stated { IfSome result (λ at. IsPortOfHost word.now at.host.now at.port) }
         ensures only { IfSome result (λ at. (host : List ℕ) (port : ℕ)
@@ -54,7 +55,7 @@ impl<'a> UdpAddress<'a> {
         }
     }
 
-    /// Reads `HOST`, whose port is 161, or `HOST:PORT`.
+    /// Reads `HOST`, at port 161, or `HOST:PORT`.
     fn target(word: &'a str) -> Option<UdpAddress<'a>>
         ensures stated { IfSome result (λ at. IsTarget word.now at.host.now at.port) }
         ensures only { IfSome result (λ at. (host : List ℕ) (port : ℕ)
@@ -75,9 +76,9 @@ impl<'a> UdpAddress<'a> {
 /// Where an agent is reached.
 #[derive(Clone, Copy, Debug, PartialEq, Eq)]
 pub enum AgentAddress<'a> {
-    /// In this process, over the table in the file at this path.
+    /// The agent is in this process, over the table in the file at this path.
     Table(&'a str),
-    /// At a UDP port of a host.
+    /// The agent is at a UDP port of a host.
     Udp(UdpAddress<'a>),
 }
 
@@ -85,8 +86,8 @@ impl<'a> AgentAddress<'a> {
     ghost use Rattle.std.specs.Prelude.{◌≡◌, IfSome, IfNone};
     ghost use Rattle.snmp_net.specs.Address.{Address, IsAgent, address_of};
 
-    /// Reads the word for an agent: `table:PATH`, or `HOST` or `HOST:PORT` with `udp:` before it or
-    /// not. A word that begins with `table:` or `udp:` is read as that.
+    /// Reads the argument that names an agent: `table:PATH`, or `HOST` or `HOST:PORT`, perhaps
+    /// after `udp:`. One that begins with `table:` or `udp:` is read as that.
     pub fn read(word: &'a str) -> Option<AgentAddress<'a>>
         ensures stated { IfSome result (λ agent. IsAgent word.now (address_of agent)) }
         ensures only { IfSome result (λ agent. (other : Address)
@@ -110,14 +111,15 @@ impl<'a> AgentAddress<'a> {
     }
 }
 
-/// Whether the text states a host: it isn't empty and has no colon.
+/// Returns whether `text` is a host: it isn't empty and has no colon.
 fn is_host(text: &str) -> bool
     ensures { IsTrue result ↔ IsHost text.now }
 {
     !text.is_empty() && !text.contains(':')
 }
 
-/// The port that decimal digits state.
+/// Returns the port from 1 to 65535 that `digits` write in decimal, or `None` if they don't write
+/// one.
 fn port(digits: &str) -> Option<u16>
     ensures stated { IfSome result (IsPort digits.now) }
     ensures none { IfNone result ((port : ℕ) → IsPort digits.now port → ⊥) }

@@ -1,11 +1,11 @@
-//! The network: which agent a word means, links to it over UDP, and sockets at which a table is
-//! served (RFC 3417, section 3).
+//! The network: which agent an argument names, links to agents over UDP, and sockets at which a
+//! table is served (RFC 3417, section 3).
 //!
 //! Built on the walk, whose links these are, and on the agent. The tools open their links here.
 //!
 //! # Examples
 //!
-//! Words for agents:
+//! Arguments that name agents:
 //!
 //! ```
 //! let word = AgentAddress::read("192.0.2.1:1161");
@@ -14,8 +14,8 @@
 //! assert!(rt; matches!(word, Some(AgentAddress::Table("rows.tab"))));
 //! ```
 //!
-//! A walk over UDP, by a link that the caller opens through the network of `rt`; a receive over it
-//! waits a second:
+//! A walk over UDP. The caller opens its link through the network of `rt`; a receive over it waits
+//! a second:
 //!
 //! ```
 //! let mut link = UdpLink::open(&rt, "192.0.2.1", 161, 1)?;

@@ -1,4 +1,4 @@
-//! What opens links to agents, and sockets at which a table is served.
+//! What opens links to agents, and doors: sockets at which a table is served.
 ghost use Rattle.std.specs.Prelude.{◌≡◌, ◌<◌, ◌+◌, [], ℕ, List, IfOk, OnOk, OnErr};
 ghost use Rattle.snmp_io.specs.Count.{HasRisen};
 ghost use Rattle.snmp_agent.specs.{Reply.Agent, Reply.agent_of, declared.server.Served.Served};
@@ -6,42 +6,44 @@ ghost use Rattle.snmp_agent.specs.{Reply.Agent, Reply.agent_of, declared.server.
 use snmp_agent::{Config, Served, Table};
 use snmp_walk::{Link, LinkFault};
 
-/// What opens links to agents, and doors at which an agent is served.
+/// A network: it opens links to agents, and doors, at which an agent is served.
 ///
-/// A walk's promises rest on the facts of the link that it opens. Of the machine's own links
-/// nothing is known.
+/// What a walk promises rests on the facts of the link that it opens. Nothing is known of the
+/// machine's own links.
 pub trait Links {
-    /// A link to an agent. It can't be dropped: the caller of `open` has to close it, so `closes`
-    /// says in which state it was at its end.
+    /// A link to an agent. It can't be dropped: the caller of `open` must close it, so that
+    /// `closes` says in which state it ended.
     type Wire: Link;
 
     /// Where an agent receives requests and sends its replies.
     type Door: Drop;
 
-    /// Whether in the first state this link may be opened to this port of this host, over which a
-    /// receive waits this many seconds, and the network is left in the last state.
+    /// `opens old host port seconds wire new`: in state `old`, the link `wire` can be opened to
+    /// this port of `host`, which leaves the network in state `new`. A receive over it waits
+    /// `seconds` seconds.
     ghost opens: { Self → (host : List ℕ) → (port seconds : ℕ) → Self.Wire → Self → Type 0 };
 
-    /// Whether in the first state this link may be closed, and the network is left in the last
-    /// state.
+    /// `closes old wire new`: in state `old`, the link `wire` can be closed, which leaves the
+    /// network in state `new`.
     ghost closes: { Self → Self.Wire → Self → Type 0 };
 
-    /// Whether in the first state this door may be opened at this port of this host, and the
-    /// network is left in the last state.
+    /// `binds old host port door new`: in state `old`, `door` can be opened at this port of
+    /// `host`, which leaves the network in state `new`.
     ghost binds: { Self → (host : List ℕ) → (port : ℕ) → Self.Door → Self → Type 0 };
 
-    /// What may be served by this agent in so many turns at a door, which leaves the network and
-    /// the door in the last states.
+    /// `serves old door agent turns served new after`: in state `old`, serving `agent` at `door`
+    /// for `turns` turns can return `served`, and leave the network in state `new` and the door in
+    /// state `after`.
     ghost serves: { Self → Self.Door → Agent → (turns : ℕ) → Served → Self → Self.Door → Type 0 };
 
-    /// Whether a call that fails may lead from the first state to the last one.
+    /// `fails old new`: a call that fails can leave a network in state `old` in state `new`.
     ghost fails: { Self → Self → Type 0 };
 
-    /// How many calls failed.
+    /// The number of calls that failed.
     ghost fault_count: { Self → ℕ };
 
-    /// Opens a link to the agent at a UDP port of a host. A receive over it waits this many
-    /// seconds, at least one. A fault is counted.
+    /// Opens a link to the agent at the UDP port `port` of `host`. A receive over it waits
+    /// `seconds` seconds, which must be at least one. If this fails, the fault is counted.
     fn open(&mut self, host: &str, port: u16, seconds: u64) -> Result<Self::Wire, LinkFault>
         // A receive waits at least a second.
         requires { 0 < seconds }
@@ -57,15 +59,15 @@ pub trait Links {
         ensures closed { closes self.old wire self.new }
         ensures count { fault_count self.new ≡ fault_count self.old };
 
-    /// Opens a door at a UDP port of a host. A fault is counted.
+    /// Opens a door at the UDP port `port` of `host`. If this fails, the fault is counted.
     fn bind(&mut self, host: &str, port: u16) -> Result<Self::Door, LinkFault>
         ensures bound { IfOk result (λ door. binds self.old host.now port door self.new) }
         ensures count { OnOk result (fault_count self.new ≡ fault_count self.old) }
         ensures failed { OnErr result (fails self.old self.new) }
         ensures fault { OnErr result (HasRisen (fault_count self.old) (fault_count self.new)) };
 
-    /// Serves a table at a door for a number of turns, as [`snmp_agent::serve`] does. A turn waits
-    /// for a request for one second at most.
+    /// Serves `table` at `door` for `turns` turns, as [`snmp_agent::serve`] does. A turn waits at
+    /// most one second for a request.
     fn serve(
         &mut self,
         door: &mut Self::Door,
@@ -78,7 +80,7 @@ pub trait Links {
             self.new door.new }
         ensures count { fault_count self.new ≡ fault_count self.old };
 
-    /// How many calls failed, up to 18446744073709551615.
+    /// Returns how many calls failed; the count stays at 18446744073709551615 once it gets there.
     fn faults(&self) -> u64
         ensures { result ≡ fault_count self.now };
 }

@@ -9,7 +9,7 @@ use snmp_walk::LinkFault;
 use std::net::{Net, UdpSocket};
 use std::time::Duration;
 
-/// Links and doors over UDP, of which nothing is known.
+/// Links and doors over UDP. Nothing is known of them.
 #[derive(Drop)]
 pub struct MachineLinks<N> {
     net: N,
@@ -19,14 +19,14 @@ pub struct MachineLinks<N> {
 impl<N> MachineLinks<N> {
     ghost use Rattle.std.specs.Prelude.{◌≡◌};
 
-    /// Links through this network, of which no call has failed.
+    /// Returns links through the network `net`, with no failed call yet.
     pub fn new(net: N) -> MachineLinks<N>
         ensures { result.faults ≡ 0 }
     {
         MachineLinks { net, faults: 0 }
     }
 
-    /// Counts a fault, and returns it.
+    /// Counts a fault and returns it.
     fn fault(&mut self) -> LinkFault
         ensures { HasRisen self.old.faults self.new.faults }
     {
@@ -83,14 +83,15 @@ impl<N: Net> Links for MachineLinks<N> {
     }
 }
 
-/// A socket at the first IPv4 address that the host has.
+/// Returns a socket at the first IPv4 address of `host`, over which a receive waits for a turn's
+/// time. Returns `None` if the host has no such address or the system refuses the socket.
 fn bound<N: Net>(net: &N, host: &str, port: u16) -> Option<UdpSocket> {
     let socket = UdpSocket::bind(net, first_address(net, host, port)?).ok()?;
     socket.set_read_timeout(Some(turn_time())).ok()?;
     Some(socket)
 }
 
-/// How long a server waits for a request in each turn: a second.
+/// Returns how long a server waits for a request in each turn: one second.
 fn turn_time() -> Duration
     ensures { as_nanos result ≡ 1_000_000_000 }
 {

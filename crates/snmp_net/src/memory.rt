@@ -1,4 +1,4 @@
-//! Links to agents in the same memory, which keep every fact, for tests of what is walked.
+//! Links to agents in the same memory, for tests of walks. All is known of them.
 ghost use Rattle.std.specs.Prelude.{◌≡◌, ◌<◌, ◌≤◌, ℕ, List, Option, IfOk, IfSome, IfNone, length};
 ghost use Rattle.snmp_io.specs.Count.{HasRisen};
 ghost use Rattle.snmp_net.specs.Memory.{AreServed, BindsAt, OpensTo, agent_at};
@@ -19,11 +19,13 @@ pub struct MemoryAgent<'a> {
     pub table: &'a Table,
     /// Its community, and the greatest size of its messages.
     pub config: Config<'a>,
-    /// What each receive from it brings, as [`MemoryLink::new`] has them.
+    /// What the receives over a link to it deliver, in order: the reply to the k-th datagram sent,
+    /// counted from 1 (`Some(k)`), or nothing (`None`). Later receives deliver the reply to the
+    /// latest datagram.
     pub deliveries: &'a [Option<usize>],
 }
 
-/// Links to agents in memory, and doors at which requests come from memory.
+/// Links to agents in memory, and doors at which requests arrive from memory.
 #[derive(Drop)]
 pub struct MemoryLinks<'a> {
     alloc: Global,
@@ -35,8 +37,8 @@ pub struct MemoryLinks<'a> {
 impl<'a> MemoryLinks<'a> {
     ghost use Rattle.std.specs.Prelude.{◌≡◌};
 
-    /// Links to these agents, of which the first with a host and port is reached there, and doors
-    /// at each of which these requests come.
+    /// Returns links to `agents`, and doors at each of which `requests` arrive. If several agents
+    /// have the same host and port, the first is reached there.
     pub fn new(
         alloc: Global,
         agents: &'a [MemoryAgent<'a>],
@@ -54,7 +56,7 @@ impl<'a> MemoryLinks<'a> {
         }
     }
 
-    /// Counts a fault, and returns it.
+    /// Counts a fault and returns it.
     fn fault(&mut self) -> LinkFault
         ensures counted { HasRisen self.old.faults self.new.faults }
         ensures agents { self.new.agents ≡ self.old.agents }
@@ -114,7 +116,7 @@ impl<'a> Links for MemoryLinks<'a> {
         }
     }
 
-    /// Serves the requests that come at the door, which counts each fault.
+    /// Serves the requests that arrive at the door, which counts each fault.
     fn serve(
         &mut self,
         door: &mut MemoryDoor<'a>,
@@ -136,7 +138,7 @@ impl<'a> Links for MemoryLinks<'a> {
     }
 }
 
-/// The first of the agents that is reached at this port of this host.
+/// Returns the first of `agents` that is reached at `port` of `host`.
 fn agent_at<'a>(agents: &'a [MemoryAgent<'a>], host: &str, port: u16) -> Option<MemoryAgent<'a>>
     ensures { result ≡ agent_at agents.now host.now port }
 {
@@ -148,8 +150,8 @@ fn agent_at<'a>(agents: &'a [MemoryAgent<'a>], host: &str, port: u16) -> Option<
     None
 }
 
-/// A door at which requests come from memory, one a turn, and none after the last. Replies go
-/// nowhere.
+/// A door at which requests arrive from memory, one a turn, and none after the last. Replies are
+/// dropped.
 #[derive(Drop)]
 pub struct MemoryDoor<'a> {
     requests: &'a [&'a [u8]],
@@ -170,8 +172,8 @@ impl<'a> Endpoint for MemoryDoor<'a> {
 
     ghost fault_count = { λ door. door.faults };
 
-    /// Receives the next request, or nothing after the last. One that is longer than the buffer is
-    /// a fault, and is passed over.
+    /// Receives the next request, or nothing after the last. Fails if the request is longer than
+    /// the buffer: counts a fault, and skips the request.
     fn receive(&mut self, buffer: &mut [u8]) -> Result<Option<(usize, ())>, EndpointFault>
         ensures bound { IfOk result (λ received. IfSome received (λ r. r.0 ≤ length buffer.new)) }
         ensures happens { 65507 ≤ length buffer.old

@@ -14,9 +14,9 @@ use std::time::Duration;
 
 /// A link to the agent at a UDP port of a host.
 ///
-/// A datagram of another sender is handed on as one of no octets, which is a stray to every
-/// request. So is a receive that a signal interrupts. No error of the network says that a host or
-/// a port doesn't exist: nothing is received, as if the datagram was lost.
+/// A datagram of another sender is returned as one of no octets, which isn't a reply to any
+/// request. So is a receive that a signal interrupts. If the host or the port doesn't exist, no
+/// error says so: nothing is received, as if the datagram had been lost.
 ///
 /// Promised are the address that an IPv4 address in text means, and that each fault is counted.
 /// Nothing is promised of the socket: whether a datagram that was sent arrives, what is received,
@@ -35,10 +35,10 @@ impl UdpLink {
     ghost use Rattle.std.specs.Net.Socket.{IsPlainSocket, socket_ip};
     ghost use Rattle.snmp_io.specs.Count.{HasRisen};
 
-    /// Opens a link to the first IPv4 address of the host. A receive over it waits `seconds`
+    /// Opens a link to the first IPv4 address of `host`. A receive over it waits `seconds`
     /// seconds.
     ///
-    /// `LinkFault` if the host has no IPv4 address, or if the system refuses a socket.
+    /// Fails if the host has no IPv4 address, or if the system refuses a socket.
     pub fn open<N: Net>(net: &N, host: &str, port: u16, seconds: u64) -> Result<UdpLink, LinkFault>
         // A receive waits at least a second.
         requires { 0 < seconds }
@@ -63,7 +63,7 @@ impl UdpLink {
         }
     }
 
-    /// Counts a fault, and returns it.
+    /// Counts a fault and returns it.
     fn fault(&mut self) -> LinkFault
         ensures { HasRisen self.old.faults self.new.faults }
     {
@@ -77,7 +77,7 @@ impl Link for UdpLink {
     ghost use Rattle.snmp_walk.specs.Link.{Agents};
     ghost use Rattle.snmp_walk.specs.Traffic.{Traffic};
 
-    // Nothing is known of it but its count of faults.
+    // Nothing is known of the link but its count of faults.
     ghost keeps = { λ _. ⊥ };
 
     ghost honest = { λ _. ⊥ };
@@ -109,7 +109,7 @@ impl Link for UdpLink {
             Ok(_) => Ok(Some(0)),
             Err(error) => match error.kind() {
                 ErrorKind::WouldBlock | ErrorKind::TimedOut => Ok(None),
-                // A signal: read as a datagram that is no reply, so the try goes on.
+                // A signal: returned as a datagram that isn't a reply, so the try continues.
                 ErrorKind::Interrupted => Ok(Some(0)),
                 _ => Err(self.fault()),
             },
@@ -121,8 +121,8 @@ impl Link for UdpLink {
     }
 }
 
-/// The first IPv4 address that the host has, with this port. A word that spells an IPv4 address is
-/// that host.
+/// Returns the first IPv4 address of `host`, with the port `port`. If `host` spells an IPv4
+/// address, it is this one.
 pub(crate) fn first_address<N: Net>(net: &N, host: &str, port: u16) -> Option<SocketAddr>
     ensures { (ip : IpAddr) → IsIpText host.now ip → is_ipv4 ip ≡ true
         → IfSome result (λ at. IsIpText host.now (socket_ip at) × IsPlainSocket at port) }
@@ -130,7 +130,7 @@ pub(crate) fn first_address<N: Net>(net: &N, host: &str, port: u16) -> Option<So
     first_ipv4((host, port).to_socket_addrs(net).ok()?)
 }
 
-/// The first of these addresses that is an IPv4 address.
+/// Returns the first of `addresses` that is an IPv4 address.
 fn first_ipv4(addresses: Take<array::IntoIter<SocketAddr, 32>>) -> Option<SocketAddr>
     ensures { result ≡ find (λ address. is_ipv4 (socket_ip address)) (host_addrs addresses) }
 {
