@@ -1,4 +1,4 @@
--- What is taken piece by piece.
+-- A text that an output takes piece by piece.
 use Rattle.std.proofs.Common.{◌≡◌, ◌∙◌, ◌+◌, ◌-◌, ◌++◌, ℕ, List, take, drop, length, ap, sym, subst, length-drop}
 use Rattle.std.proofs.{Math.Seq.take-add, Math.Seq.take-length, lemmas.List.take-append-drop}
 use Rattle.snmp_io.specs.{Count.HasRisen, Output.FailsWithin, Output.Stream, Output.extended, Streams.extended-twice}
@@ -6,7 +6,7 @@ use Rattle.snmp_io.specs.{Count.HasRisen, Output.FailsWithin, Output.Stream, Out
 pub rest_whole : (w : ℕ) (text : List ℕ) → take (length text - w) (drop w text) ≡ drop w text
 rest_whole w text = ap (λ n. take n (drop w text)) (sym (length-drop w text)) ∙ take-length (drop w text)
 
--- n more octets of the text
+-- if w octets of the text were taken and then n more, then w + n were taken
 pub extended_take : (before now after : Stream) (w n : ℕ) (text : List ℕ) → now ≡ extended before (take w text)
     → after ≡ extended now (take n (take (length text - w) (drop w text))) → after ≡ extended before (take (w + n) text)
 extended_take before now after w n text first more =
@@ -16,7 +16,7 @@ extended_take before now after w n text first more =
     ∙ ap (λ rest. extended before (take w text ++ take n rest)) (rest_whole w text)
     ∙ ap (extended before) (sym (take-add w n text))
 
--- a front was taken, and then a write failed
+-- if a prefix was taken and then a write failed, then the write of the text failed within it
 pub fails_after_front : (before now after : Stream) (w : ℕ) (text : List ℕ) → now ≡ extended before (take w text)
     → after.taken ≡ now.taken → HasRisen now.faults after.faults → FailsWithin before text after
 fails_after_front before now after w text is nothing risen = record {

@@ -1,4 +1,4 @@
--- Texts with quotes, octet by octet.
+-- Texts with quotes, octet by octet: what the loops of the cuts know so far.
 use Rattle.std.proofs.Common.{◌≡◌, ◌+◌, ◌<◌, ◌∙◌, ℕ, List, [], ◌∷◌, ◌++◌, length, take, get_or, Option, None, refl, sym, ap, subst}
 use Rattle.std.proofs.lemmas.List.{take_more}
 use Rattle.snmp_io.specs.{QuoteLaws.quote_after, QuoteLaws.quote_after_both, QuoteLaws.HasNoneAfter, QuoteLaws.none_later, Quotes.open_after}
@@ -20,7 +20,7 @@ none_more stop quote (z ∷ front) x h not_here (y ∷ before) after e now =
     let P : ℕ → Type 0 = λ w. quote_after (open_after quote w) before ≡ None in
     none_more stop (open_after quote z) front x (none_later stop quote z front h) not_here before after more (subst P same now)
 
--- no such octet stands outside quotes in the octets so far, after which this quote is open
+-- `stop` isn't outside quotes in the first `at` octets, and `quote` is open after them
 pub record IsSoFar (stop : ℕ) (text : List ℕ) (at : ℕ) (quote : Option ℕ) : Type 0 where
   pub now : quote ≡ quote_after None (take at text)
   pub none : HasNoneAfter stop None (take at text)

@@ -1,11 +1,11 @@
--- How a count of 64 bits rises.
+-- How a count of 64 bits increases.
 use Rattle.std.specs.Prelude.{◌≡◌, ◌<◌, ℕ, ◌+◌, min}
 
--- it has risen by one, or stays at its greatest value
+-- the count has increased by one, or stays at its greatest value
 abbrev pub HasRisen : ℕ → ℕ → Type 0
 HasRisen before now = now ≡ min (before + 1) 18446744073709551615
 
--- it has risen by this many, or up to its greatest value; by none it stays as it is
+-- the count has increased by `many`, or up to its greatest value; if `many` is 0, it is unchanged
 abbrev pub HasRisenBy : (many before now : ℕ) → Type 0
 HasRisenBy many before now = (many ≡ 0 → now ≡ before)
     × (0 < many → now ≡ min (before + many) 18446744073709551615)

@@ -1,32 +1,32 @@
--- A text that is being appended to what a `Vec<u8>` has.
+-- A text that is being appended to the octets of a `Vec<u8>`.
 use Rattle.std.specs.Prelude.{◌≡◌, ℕ, ◌+◌, ◌/◌, ◌%◌, nat_lt, if◌then◌else◌, List, [], ◌∷◌, ◌++◌}
 use Rattle.std.specs.Prelude.{Option, Some}
 
--- what stood there before, and what has been appended to it: None if memory ran out
+-- the octets before the text, and the text appended so far: None if memory ran out
 pub record Written : Type 0 where
   pub before : List ℕ
   pub added : Option (List ℕ)
 
--- nothing has been appended
+-- a text of which nothing is appended yet
 abbrev pub begun : List ℕ → Written
 begun before = record { before = before; added = Some [] }
 
--- from `first` to `last` this text is appended, unless memory ran out by then
+-- between the states `first` and `last` the text is appended, unless memory ran out by then
 pub record Grows (first : Written) (text : List ℕ) (last : Written) : Type 0 where
   pub before : last.before ≡ first.before
   pub added : (whole : List ℕ) → last.added ≡ Some whole
       → (front : List ℕ) × (first.added ≡ Some front) × (whole ≡ front ++ text)
 
--- a call appends these octets: whatever text was appended from `first` on goes on with them
+-- a call appends the octets: they follow whatever text was appended since a state `first`
 pub record Adds (old : Written) (octets : List ℕ) (new : Written) : Type 0 where
   pub grows : Grows old octets new
   pub goes_on : (first : Written) (text : List ℕ)
       → Grows first text old → Grows first (text ++ octets) new
 
--- an upper-case digit to the base 16
+-- the upper-case hexadecimal digit of n
 abbrev pub upper_digit : ℕ → ℕ
 upper_digit n = if nat_lt n 10 then 48 + n else 55 + n
 
--- an octet as two digits to the base 16
+-- an octet as two hexadecimal digits
 abbrev pub hexadecimal_octet : ℕ → List ℕ
 hexadecimal_octet octet = upper_digit (octet / 16) ∷ upper_digit (octet % 16) ∷ []

@@ -1,20 +1,20 @@
 -- What is known of files.
 use Rattle.std.specs.Prelude.{◌≡◌, ⊤, ℕ, List, Option, Some, None}
 
--- for each path, what it is known to hold, a text or none; None where that isn't known
+-- for each path, what it is known to hold: a text, or none; None if that isn't known
 abbrev pub Holdings : Type 0
 Holdings = List ℕ → Option (Option (List ℕ))
 
--- where it is known what the path holds, it is this
+-- if it is known what the path holds, it is `text`
 abbrev pub HoldsIfKnown : Option (Option (List ℕ)) → Option (List ℕ) → Type 0
 HoldsIfKnown None text = ⊤
 HoldsIfKnown (Some held) text = held ≡ text
 
--- the file at a path is known to hold this text
+-- the file at the path is known to hold the text
 abbrev pub Holds : Holdings → (path text : List ℕ) → Type 0
 Holds files path text = files path ≡ Some (Some text)
 
--- the path holds this text, as far as is known
+-- the path holds the text, as far as is known
 abbrev pub MayHold : Holdings → (path text : List ℕ) → Type 0
 MayHold files path text = HoldsIfKnown (files path) (Some text)
 

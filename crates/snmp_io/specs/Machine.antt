@@ -1,10 +1,10 @@
--- How large a file may be, and what an error of the machine says of one.
+-- How large a file may be, and what an error of the machine means for one.
 use Rattle.std.specs.{Prelude.◌≡◌, Prelude.ℕ, IoError.error_kind}
 use Rattle.std.specs.declared.io.ErrorKind.TheVariants.{OutOfMemory}
 use Rattle.snmp_io.specs.declared.machine.ReadError.{ReadError}
 use Rattle.snmp_io.specs.declared.machine.ReadError.TheVariants.{Failed, TooLong}
 
--- the greatest number of octets of a file that is read, 256 MiB
+-- the most octets of a file that is read, 256 MiB
 abbrev pub most_octets : ℕ
 most_octets = 268435456
 

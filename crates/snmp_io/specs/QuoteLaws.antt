@@ -1,5 +1,6 @@
--- Quotes octet by octet, for proofs here and of the crates above: a text is closed where no quote
--- is open after it, and it is cut outside quotes in one way.
+-- Quotes octet by octet, for proofs here and in the crates above: a text is closed if and only if
+-- no quote is open after it (`none_open`, `is_closed`), and it is cut outside quotes in one way
+-- (`cut_once`).
 use Rattle.std.specs.Prelude.{◌≡◌, ◌≢◌, ℕ, Bool, true, false}
 use Rattle.std.specs.Prelude.{All, List, [], ◌∷◌, ◌++◌, Option, Some, None}
 use Rattle.std.specs.List.{concat}
@@ -9,7 +10,7 @@ use Rattle.std.proofs.lemmas.Bool.{eq-eqb, eqb-false, eqb-true, ne_eqb}
 use Rattle.std.proofs.lemmas.List.Elements.{All-cons, All-head, All-nil, All-tail}
 use Rattle.snmp_io.specs.Quotes.{is_quote, open_after, HasNoneOutside, IsClosed, IsCut, IsPiece}
 
--- the quote that is open after these octets, if any, where `quote` is what is open before them
+-- the quote that is open after the octets, if any; `quote` is the one that is open before them
 abbrev pub quote_after : Option ℕ → List ℕ → Option ℕ
 quote_after quote [] = quote
 quote_after quote (octet ∷ more) = quote_after (open_after quote octet) more
@@ -19,7 +20,7 @@ pub quote_after_both : (quote : Option ℕ) (front back : List ℕ)
 quote_after_both quote [] back = refl
 quote_after_both quote (octet ∷ front) back = quote_after_both (open_after quote octet) front back
 
--- a quote stays open over octets of other kinds, and the quote itself closes it
+-- a quote stays open over octets of other kinds, and the next of its kind closes it
 closed_by : (quote : ℕ) (inside : List ℕ) → All (λ octet. octet ≢ quote) inside
     → quote_after (Some quote) (inside ++ quote ∷ []) ≡ None
 closed_by quote [] none = rw (quote_after, eq-eqb quote quote refl) refl
@@ -33,7 +34,7 @@ piece_closes piece (inl (octet, plain, is)) = rw (quote_after, is, plain) refl
 piece_closes piece (inr (quote, inside, opens, none, is)) =
     rw (quote_after, is, opens) (closed_by quote inside none)
 
--- no quote is open after a closed text
+-- if a text is closed, then no quote is open after it
 pub none_open : (text : List ℕ) → IsClosed text → quote_after None text ≡ None
 none_open text (pieces, all, is) = ap (quote_after None) is ∙ none_after pieces all
   where
@@ -46,7 +47,7 @@ none_open text (pieces, all, is) = ap (quote_after None) is ∙ none_after piece
         (piece_closes piece (All-head IsPiece piece more all))
         ∙ none_after more (All-tail IsPiece piece more all)
 
--- a text that closes the quote that is open before it, if one is, and is closed from there on
+-- the text closes the quote that is open before it, if one is, and is closed from there on
 abbrev IsClosedAfter : Option ℕ → List ℕ → Type 0
 IsClosedAfter None text = IsClosed text
 IsClosedAfter (Some quote) text = (inside rest : List ℕ) × All (λ octet. octet ≢ quote) inside
@@ -104,12 +105,11 @@ closed_after (Some quote) (octet ∷ more) at_end =
           ap (λ (t : List ℕ). octet ∷ t) closed.4,
         )
 
--- a text is closed where no quote is open after it
+-- if no quote is open after a text, then it is closed
 pub is_closed : (text : List ℕ) → quote_after None text ≡ None → IsClosed text
 is_closed text none = closed_after None text none
 
--- wherever `stop` stands in the text, a quote is open before it, where `quote` is what is open
--- before the text
+-- a quote is open before each `stop` in the text; `quote` is the one that is open before the text
 abbrev pub HasNoneAfter : (stop : ℕ) → Option ℕ → List ℕ → Type 0
 HasNoneAfter stop quote text = (before after : List ℕ) → text ≡ before ++ stop ∷ after
     → quote_after quote before ≢ None
@@ -146,7 +146,7 @@ same_cut stop quote (x ∷ front) rest (y ∷ other) behind e f g h k =
     (subst K same (none_later stop quote y other k)) in
     (ap (λ (z : ℕ). z ∷ other) same ∙ ap (λ (t : List ℕ). x ∷ t) later.0, later.1)
 
--- where `stop` stands nowhere outside quotes, a quote is open before each, and the other way round
+-- `stop` never occurs outside quotes if and only if a quote is open before each of its occurrences
 pub never_outside : (stop : ℕ) (text : List ℕ) → HasNoneOutside stop text
     → HasNoneAfter stop None text
 never_outside stop text none before after e at_end = none before after e (is_closed before at_end)
@@ -155,7 +155,7 @@ pub none_outside : (stop : ℕ) (text : List ℕ) → HasNoneAfter stop None tex
     → HasNoneOutside stop text
 none_outside stop text none before after e closed = none before after e (none_open before closed)
 
--- a text is cut at its first `stop` outside quotes in one way
+-- a text is cut at its first `stop` outside quotes in only one way
 pub cut_once : (stop : ℕ) (text front rest other behind : List ℕ) → IsCut stop text front rest
     → IsCut stop text other behind → (other ≡ front) × (behind ≡ rest)
 cut_once stop text front rest other behind h k =

@@ -1,40 +1,42 @@
--- Quotes in a text: one opens at any `"` or `'` outside quotes, and runs to the next of its kind or
+-- Quotes in a text: a `"` or `'` outside quotes opens one, which runs to the next of its kind or
 -- to the end.
 use Rattle.std.specs.Prelude.{◌≡◌, ◌≢◌, ℕ, Bool, true, false, ◌||◌, ◌==◌, if◌then◌else◌, ◌⊎◌}
 use Rattle.std.specs.Prelude.{All, List, [], ◌∷◌, ◌++◌, Option, Some, None}
 use Rattle.std.specs.List.{concat}
 
--- whether an octet opens a quote: `"` or `'`
+-- whether the octet opens a quote: it is `"` or `'`
 abbrev pub is_quote : ℕ → Bool
 is_quote octet = octet == 34 || octet == 39
 
--- the quote that is open after one more octet
+-- the quote that is open after one more octet, if any
 abbrev pub open_after : Option ℕ → ℕ → Option ℕ
 open_after None octet = if is_quote octet then Some octet else None
 open_after (Some quote) octet = if octet == quote then None else Some quote
 
--- an octet that opens no quote; or a quote, octets of other kinds, and the quote that closes it
+-- the piece is an octet that opens no quote; or a quote, octets of other kinds, and the quote that
+-- closes it
 abbrev pub IsPiece : List ℕ → Type 0
 IsPiece piece = ((octet : ℕ) × (is_quote octet ≡ false) × (piece ≡ octet ∷ []))
     ⊎ ((quote : ℕ) × (inside : List ℕ) × (is_quote quote ≡ true)
     × All (λ octet. octet ≢ quote) inside × (piece ≡ quote ∷ inside ++ quote ∷ []))
 
--- each quote that opens in the text is closed in it, so that what comes next stands outside quotes
+-- each quote that opens in the text is closed in it, so that what follows the text is outside
+-- quotes
 abbrev pub IsClosed : List ℕ → Type 0
 IsClosed text = (pieces : List (List ℕ)) × All IsPiece pieces × (text ≡ concat pieces)
 
--- wherever `stop` stands in the text, a quote is open before it
+-- `stop` doesn't occur in the text outside quotes
 abbrev pub HasNoneOutside : (stop : ℕ) → List ℕ → Type 0
 HasNoneOutside stop text = (before after : List ℕ) → text ≡ before ++ stop ∷ after
     → IsClosed before → ⊥
 
--- what stands before and after the first `stop` outside quotes
+-- `front` and `rest` are what is before and after the first `stop` outside quotes
 pub record IsCut (stop : ℕ) (text front rest : List ℕ) : Type 0 where
   pub parts : text ≡ front ++ stop ∷ rest
   pub outside : IsClosed front
   pub first : HasNoneOutside stop front
 
--- what stands before the first `stop` outside quotes: the whole text where there is none
+-- `front` is what is before the first `stop` outside quotes, or the whole text if there is none
 abbrev pub IsFrontOf : (stop : ℕ) → (text front : List ℕ) → Type 0
 IsFrontOf stop text front = (HasNoneOutside stop text × (front ≡ text))
     ⊎ ((rest : List ℕ) × IsCut stop text front rest)

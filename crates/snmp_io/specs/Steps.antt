@@ -1,13 +1,13 @@
 -- Work as steps in their order, and the first of them that fails.
 use Rattle.std.specs.Prelude.{◌≡◌, ◌++◌, List, [], ◌∷◌}
 
--- each of these steps is done
+-- each of the steps is done
 abbrev pub AreDone : {Step : Type 0} → (Step → Type 0) → List Step → Type 0
 AreDone {Step} IsDone [] = Unit {0}
 AreDone {Step} IsDone (step ∷ more) = IsDone step × AreDone IsDone more
 
--- The first step that fails, after those that are done. `Fails step why` says that the step fails
--- for this reason.
+-- `why` is the reason for which the first step fails that isn't done. `Fails step why` says that
+-- the step fails for this reason.
 pub record IsFirstToFail {Step Why : Type 0} (steps : List Step) (IsDone : Step → Type 0)
     (Fails : Step → Why → Type 0) (why : Why) : Type 0 where
   pub done : List Step

@@ -1,4 +1,4 @@
--- Laws of what an output takes, for proofs here and of the crates above.
+-- Laws of what an output takes, for proofs here and in the crates above.
 use Rattle.std.specs.Prelude.{◌≡◌, ◌++◌, ℕ, List, [], Option, Some, None}
 use Rattle.std.proofs.Common.{◌∙◌, ap, refl, sym, append_assoc, append-nil}
 use Rattle.snmp_io.specs.Output.{Stream, TakesFront, appended, extended}
@@ -12,11 +12,11 @@ appended-nil : (before : Option (List ℕ)) → appended before [] ≡ before
 appended-nil None = refl
 appended-nil (Some taken) = ap Some (append-nil taken)
 
--- the stream with these octets in place of those that it took
+-- the stream with `taken` instead of the octets that it took
 abbrev with_octets : Stream → Option (List ℕ) → Stream
 with_octets s taken = record { taken = taken; faults = s.faults }
 
--- a stream takes two texts one after the other as it takes the two in one
+-- a stream that takes two texts, one after the other, takes the two as one
 pub extended-twice : (before : Stream) (a b : List ℕ)
     → extended (extended before a) b ≡ extended before (a ++ b)
 extended-twice before a b = ap (with_octets before) (appended-twice before.taken a b)
@@ -24,7 +24,7 @@ extended-twice before a b = ap (with_octets before) (appended-twice before.taken
 pub extended-nil : (before : Stream) → extended before [] ≡ before
 extended-nil before = ap (with_octets before) (appended-nil before.taken)
 
--- a stream that took nothing took a front of the text
+-- if a stream took nothing, then it took a prefix of the text
 pub nothing_taken : (before after : Stream) (text : List ℕ) → after ≡ before
     → TakesFront before text after
 nothing_taken before after text is = record {
@@ -34,7 +34,7 @@ nothing_taken before after text is = record {
   taken = ap (λ (s : Stream). s.taken) is ∙ sym (appended-nil before.taken);
 }
 
--- a stream that took the whole text took a front of it
+-- if a stream took the whole text, then it took a prefix of it
 pub whole_taken : (before after : Stream) (text : List ℕ) → after ≡ extended before text
     → TakesFront before text after
 whole_taken before after text is = record {
@@ -44,7 +44,7 @@ whole_taken before after text is = record {
   taken = ap (λ (s : Stream). s.taken) is;
 }
 
--- a stream that took a whole text and then a front of the next took a front of the two
+-- if a stream took a whole text and then a prefix of the next, then it took a prefix of the two
 pub front_after : (before now after : Stream) (a b : List ℕ) → now ≡ extended before a
     → TakesFront now b after → TakesFront before (a ++ b) after
 front_after before now after a b whole more = record {

@@ -1,4 +1,5 @@
-//! How the crates above append names, values, lines and details as text, each as a draft.
+//! Text that is appended to a vector whole or not at all. The crates above append names, values,
+//! lines and details with it.
 ghost use Rattle.std.specs.Prelude.{◌≡◌, ◌<◌, ◌≤◌, ◌↔◌, [], ◌∷◌, ◌++◌, length, take, drop, decimal};
 ghost use Rattle.std.specs.Prelude.{if◌then◌else◌, Some, None, OnOk, OnErr, IsOk, IsSome, IfSome};
 ghost use Rattle.std.specs.Fmt.{signed_decimal};
@@ -12,8 +13,8 @@ use std::mem;
 /// A text that is being appended to a `Vec<u8>`, which is left unchanged if memory runs out.
 ///
 /// Each call appends a piece and returns no error: if memory runs out, the draft remembers it, and
-/// [`Draft::finish`] reports it. A draft has to be finished, so that its octets go back where they
-/// came from.
+/// [`Draft::finish`] reports it. A draft must be finished: until then the octets of the vector are
+/// in the draft.
 pub struct Draft {
     octets: Vec<u8>,
     start: usize,
@@ -32,8 +33,8 @@ impl Model for Draft {
 }
 
 impl Draft {
-    /// Begins a text after what `out` has. Until [`Draft::finish`] gives it back, `out` is empty.
-    /// Does not allocate.
+    /// Begins a text after the octets of `out`. Until [`Draft::finish`] returns them, `out` is
+    /// empty. Doesn't allocate.
     #[inline]
     pub fn after(out: &mut Vec<u8>) -> Draft
         ensures { result ≡ begun out.old.items }
@@ -47,7 +48,7 @@ impl Draft {
         }
     }
 
-    /// Appends octets, unchanged.
+    /// Appends `octets`, unchanged.
     #[inline]
     pub fn octets(&mut self, octets: &[u8])
         ensures { Adds self.old octets.now self.new }
@@ -65,7 +66,7 @@ impl Draft {
         self.octets(&[octet]);
     }
 
-    /// Appends a number in decimal digits, without leading zeros.
+    /// Appends `n` in decimal digits, without leading zeros.
     #[inline]
     pub fn number(&mut self, n: u64)
         ensures { Adds self.old (decimal n) self.new }
@@ -88,7 +89,7 @@ impl Draft {
         self.octets(buffer.format(n).as_bytes());
     }
 
-    /// Appends a number in decimal digits, with a `-` before a negative one.
+    /// Appends `n` in decimal digits, after a `-` if it is negative.
     #[inline]
     pub fn integer(&mut self, n: i64)
         ensures { Adds self.old (signed_decimal n) self.new }
@@ -100,7 +101,7 @@ impl Draft {
         }
     }
 
-    /// [`Draft::integer`] in one piece, for a negative number.
+    /// [`Draft::integer`] for a negative number, in one piece.
     fn negative(&mut self, n: i64)
         ensures { Adds self.old (signed_decimal n) self.new }
     {
@@ -108,8 +109,7 @@ impl Draft {
         self.octets(buffer.format(n).as_bytes());
     }
 
-    /// Appends an octet as two upper-case digits to the base 16, and an octet after them, in one
-    /// piece.
+    /// Appends `octet` as two upper-case hexadecimal digits, and `next` after them, in one piece.
     #[inline]
     pub fn hexadecimal_before(&mut self, octet: u8, next: u8)
         ensures { Adds self.old (hexadecimal_octet octet ++ next ∷ []) self.new }
@@ -117,8 +117,8 @@ impl Draft {
         self.octets(&[upper_digit(octet / 16), upper_digit(octet % 16), next]);
     }
 
-    /// Gives `out` its octets back, with the text after them. If memory ran out, `out` is what it
-    /// was before the text began.
+    /// Returns the octets to `out`, with the text after them. If memory ran out, fails, and `out`
+    /// is what it was before the text began.
     pub fn finish(self, out: &mut Vec<u8>) -> Result<(), AllocError>
         ensures ok { OnOk result (IfSome self.added (λ text. out.new.items ≡ self.before ++ text)) }
         ensures unchanged_on_error { OnErr result (out.new.items ≡ self.before) }
@@ -137,7 +137,7 @@ impl Draft {
     }
 }
 
-/// An upper-case digit to the base 16.
+/// Returns the upper-case hexadecimal digit of `n`.
 #[inline]
 fn upper_digit(n: u8) -> u8
     requires { n < 16 }

@@ -1,4 +1,4 @@
-//! Files, each of which holds a text at its path.
+//! Files: each path has a text, or none.
 ghost use Rattle.std.specs.Prelude.{◌≡◌, Some, IfOk, IfSome, IsErrOf};
 ghost use Rattle.std.specs.declared.hash.RandomState.{RandomState};
 ghost use Rattle.snmp_io.specs.Files.{Holdings, MayHold, MayHoldNone};
@@ -7,10 +7,10 @@ use std::alloc::Global;
 use std::hash::RandomState;
 use thiserror::Error;
 
-/// Why a file gave no text.
+/// Why a file wasn't read.
 #[derive(Clone, Copy, Debug, PartialEq, Eq, Error)]
 pub enum FileFault {
-    /// The path holds no text that can be read.
+    /// There is no text at the path that can be read.
     #[error("Can't read the file.")]
     Unreadable,
     /// Memory ran out.
@@ -18,23 +18,23 @@ pub enum FileFault {
     Memory,
 }
 
-/// What holds texts by their paths.
+/// Files, which are read by their paths.
 pub trait Files {
-    /// Where it is known what a path holds: its text, which may be empty, or none.
+    /// What each path is known to hold: a text, which may be empty, or none.
     ghost text_at: { Self → Holdings };
 
-    /// The text that the path holds, or why none is returned.
+    /// Returns the text at `path`. Fails if there is none that can be read, or if memory runs out.
     fn read(&self, alloc: Global, path: &str) -> Result<Vec<u8>, FileFault>
         ensures text_held { IfOk result (λ text.
             MayHold (text_at self.now) path.now text.items) }
         ensures none_held { IsErrOf result FileFault.Unreadable
             → MayHoldNone (text_at self.now) path.now };
 
-    /// The keys that `hash_key` may return: by default none.
+    /// The keys that `hash_key` can return; by default there are none.
     ghost keys: { Self → RandomState → Type 0 } = { λ _ _. ⊥ };
 
-    /// The key by which maps of names from these files are hashed. None says that they are hashed
-    /// with a fixed one.
+    /// Returns the key with which maps hash the names from these files, or `None` if they use a
+    /// fixed one.
     fn hash_key(&self) -> Option<RandomState>
         ensures key_of_files { IfSome result (keys self.now) }
     {
@@ -42,13 +42,13 @@ pub trait Files {
     }
 }
 
-/// Files with a key by which maps of names from them are hashed. Someone who doesn't know the key
-/// can't choose names that a map would keep in one long chain.
+/// Files with a key with which maps hash the names from them. Nobody who doesn't know the key can
+/// choose names that a map would store in one long chain.
 #[derive(Drop)]
 pub struct KeyedFiles<F> {
-    /// What holds the texts.
+    /// The files without a key.
     pub files: F,
-    /// The key; None for the fixed one.
+    /// The key, or `None` for the fixed one.
     pub key: Option<RandomState>,
 }
 

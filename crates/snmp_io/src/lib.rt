@@ -1,13 +1,14 @@
-//! The parts of the machine that the tools use, as traits: outputs that take octets, and files that
-//! hold texts. The traits state facts that a promise can rest on. Of the machine's own outputs and
-//! files only the number of failed writes is known; those in memory keep every fact.
+//! What the tools use of the machine, as traits: outputs, which take octets, and files, which are
+//! read by their paths. Promises rest on the facts of the traits. Of the machine's own outputs and
+//! files, only the number of failed writes is known; of those in memory, all is known.
 //!
-//! Beside them stand the draft, a text that is appended whole or not at all, and the cut of a text
-//! outside quotes.
+//! Also here: [`Draft`], a text that is appended whole or not at all, and [`split_unquoted`],
+//! which cuts a text outside quotes.
 //!
 //! # Examples
 //!
-//! An output that is full keeps a front of the text, and a bar within quotes ends nothing:
+//! An output that becomes full has taken a prefix of the text, and a `|` within quotes ends
+//! nothing:
 //!
 //! ```
 //! let mut out = MemoryOutput::with_limit(alloc, 4);

@@ -1,4 +1,4 @@
-//! The machine's own outputs and files, of whose octets nothing is known.
+//! The machine's own outputs and files. Nothing is known of their octets.
 ghost use Rattle.std.specs.Prelude.{◌≡◌, ◌<◌, ◌≤◌, ◌↔◌, ℕ, None, IfOk, IfSome, IsErrOf};
 ghost use Rattle.std.specs.Prelude.{length, refl, vec_len};
 ghost use Rattle.snmp_io.specs.Machine.{IsWantOfMemory, most_octets};
@@ -11,10 +11,10 @@ use std::io::{ErrorKind, Read, Write};
 use std::marker::Model;
 use std::{io, rt};
 
-/// How many octets a file may have: one with more, or without an end, is unreadable.
+/// The most octets that a file may have. One with more, or without an end, is unreadable.
 const MOST_OCTETS: usize = 268_435_456;
 
-/// How often a write is tried when signals interrupt it.
+/// How many times a write is tried if signals interrupt it.
 const TRIES: u8 = 100;
 
 /// An output of the machine, such as standard output. It has no buffer.
@@ -32,7 +32,7 @@ impl<W> Model for MachineOutput<W> {
 }
 
 impl<W> MachineOutput<W> {
-    /// An output to this writer, of which no write has failed.
+    /// Returns an output to the writer `to`, with no failed write yet.
     pub fn new(to: W) -> MachineOutput<W>
         ensures { result ≡ 0 }
     {
@@ -62,8 +62,8 @@ impl<W: Write> Output for MachineOutput<W> {
     ghost after_takes = { λ _ _. refl };
 }
 
-/// Writes a front of the piece, and returns its length. None where the write fails, or signals
-/// interrupt it each time.
+/// Writes a prefix of `piece` and returns its length. Returns `None` if the write fails or takes
+/// nothing of a piece that isn't empty, or if signals interrupt each try.
 fn write_some<W: Write>(to: &mut W, piece: &[u8]) -> Option<usize>
     ensures some { IfSome result (λ n. 0 < length piece.now → 0 < n) }
     ensures within { IfSome result (λ n. n ≤ length piece.now) }
@@ -78,10 +78,10 @@ fn write_some<W: Write>(to: &mut W, piece: &[u8]) -> Option<usize>
     None
 }
 
-/// The files of the machine. They have no key by which names are hashed: `KeyedFiles` adds one.
+/// The files of the machine. They have no key for hashing names: `KeyedFiles` adds one.
 #[derive(Drop)]
 pub struct MachineFiles<R> {
-    /// What opens them.
+    /// The handle that opens the files.
     pub rt: R,
 }
 
@@ -94,19 +94,20 @@ impl<R: rt::Files> Files for MachineFiles<R> {
     }
 }
 
-/// Why a reader gave no text.
+/// Why [`read_whole`] failed.
 #[derive(Clone, Copy, Debug)]
 pub enum ReadError {
-    /// It has more than 268435456 octets left.
+    /// The reader has more than 268435456 octets left.
     TooLong,
-    /// Opening or reading it failed, or memory for its octets ran out.
+    /// Opening or reading the file failed, or memory for its octets ran out.
     Failed(io::Error),
 }
 
 impl ReadError {
     ghost use Rattle.std.specs.Prelude.{◌≡◌, ◌↔◌};
 
-    /// What the error says of a file: `Memory` where memory ran out, and else `Unreadable`.
+    /// Returns what the error means for a file: `Memory` if memory ran out, otherwise
+    /// `Unreadable`.
     pub fn fault(&self) -> FileFault
         ensures { result ≡ FileFault.Memory ↔ IsWantOfMemory self.now }
     {
@@ -119,7 +120,7 @@ impl ReadError {
     }
 }
 
-/// Reads all that a reader has left, where that is at most 268435456 octets.
+/// Reads all that `from` has left. Fails with `TooLong` if this is more than 268435456 octets.
 pub fn read_whole<R: Read + Drop>(alloc: Global, from: R) -> Result<Vec<u8>, ReadError>
     ensures whole { IfOk result (λ text.
         IfSome (R.remaining from) (λ octets. text.items ≡ octets)) }

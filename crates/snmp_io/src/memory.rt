@@ -1,4 +1,4 @@
-//! An output and files in memory, which keep every fact, for tests of what is written and read.
+//! An output and files in memory, for tests of what is written and read. All is known of them.
 ghost use Rattle.std.specs.Prelude.{◌≡◌, [], ◌∷◌, ◌++◌, Some, option_map, refl};
 ghost use Rattle.snmp_io.specs.Memory.{KeptOutput, held_at};
 
@@ -7,7 +7,7 @@ use crate::output::{Output, OutputFault};
 use std::alloc::Global;
 use std::marker::Model;
 
-/// An output that keeps the octets that it took.
+/// An output that stores the octets it takes.
 #[derive(Drop)]
 pub struct MemoryOutput {
     octets: Vec<u8>,
@@ -22,14 +22,14 @@ impl Model for MemoryOutput {
 }
 
 impl MemoryOutput {
-    /// An output that fails only where memory runs out.
+    /// Returns an output that fails only if memory runs out.
     pub fn new(alloc: Global) -> MemoryOutput
         ensures { result ≡ record { octets = []; limit = usize.MAX; faults = 0 } }
     {
         MemoryOutput::with_limit(alloc, usize::MAX)
     }
 
-    /// An output that fails once it has taken `limit` octets.
+    /// Returns an output that fails once it has taken `limit` octets.
     pub fn with_limit(alloc: Global, limit: usize) -> MemoryOutput
         ensures { result ≡ record { octets = []; limit = limit; faults = 0 } }
     {
@@ -40,7 +40,7 @@ impl MemoryOutput {
         }
     }
 
-    /// The octets taken so far.
+    /// Returns the octets taken so far.
     pub fn octets(&self) -> &[u8]
         ensures { result.now ≡ self.now.octets }
     {
@@ -60,8 +60,8 @@ impl Output for MemoryOutput {
       faults = o.faults;
     } };
 
-    /// Takes as much of `piece` as the limit leaves room for. That fails where it leaves none and
-    /// the piece isn't empty, and where memory runs out.
+    /// Takes as much of `piece` as the limit leaves room for. Fails if there is no room and
+    /// `piece` isn't empty, or if memory runs out.
     fn write(&mut self, piece: &[u8]) -> Result<usize, OutputFault>
         ensures not_empty { IfOk result (λ n. 0 < length piece.now → 0 < n) }
         ensures within_piece { IfOk result (λ n. n ≤ length piece.now) }
@@ -92,10 +92,10 @@ impl Output for MemoryOutput {
     ghost after_takes = { λ _ _. refl };
 }
 
-/// Files in memory. Where several have the same path, it holds the text of the first.
+/// Files in memory. If several have the same path, the first one is at that path.
 #[derive(Clone, Copy, Debug)]
 pub struct MemoryFiles<'a> {
-    /// Each path with its text.
+    /// The paths, each with its text.
     pub files: &'a [(&'a str, &'a [u8])],
 }
 
@@ -110,7 +110,7 @@ impl Files for MemoryFiles<'_> {
     }
 }
 
-/// The text of the first file with this path, if there is one.
+/// Returns the text of the first file whose path is `path`, if there is one.
 fn text_at<'a>(files: &[(&'a str, &'a [u8])], path: &str) -> Option<&'a [u8]>
     ensures { option_map (λ text. text.now) result ≡ held_at files.now path.now }
 {

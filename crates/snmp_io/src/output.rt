@@ -4,21 +4,21 @@ ghost use Rattle.snmp_io.specs.{Count.HasRisen, Output.FailsWithin, Output.Strea
 
 use thiserror::Error;
 
-/// An output refused octets. It has counted that.
+/// A write failed. The output has counted it.
 #[derive(Clone, Copy, Debug, PartialEq, Eq, Error)]
 #[error("The output failed.")]
 pub struct OutputFault;
 
-/// What takes octets, as standard output does.
+/// An output that takes octets, as standard output does.
 pub trait Output {
-    /// What is known of it: the octets that it took, and how many writes failed.
+    /// What is known of the output: the octets that it took, and the number of writes that failed.
     ghost stream: { Self → Stream };
 
-    /// What it would be if it had taken these octets too.
+    /// `after out text`: what `out` would be if it had also taken the octets `text`.
     ghost after: { Self → List ℕ → Self };
 
-    /// Takes a front of `piece`, not empty where the piece isn't, and returns its length. Where
-    /// that fails, the fault is counted and nothing of the piece was taken.
+    /// Takes a prefix of `piece` and returns its length. The prefix is empty only if `piece` is.
+    /// If the write fails, the output counts it and has taken nothing of `piece`.
     fn write(&mut self, piece: &[u8]) -> Result<usize, OutputFault>
         ensures not_empty { IfOk result (λ n. 0 < length piece.now → 0 < n) }
         ensures within_piece { IfOk result (λ n. n ≤ length piece.now) }
@@ -29,17 +29,18 @@ pub trait Output {
         ensures fault_counted { OnErr result (
             HasRisen (stream self.old).faults (stream self.new).faults) };
 
-    /// How many writes failed so far. The count stays at 18446744073709551615 once it is there.
+    /// Returns how many writes have failed so far. The count stays at 18446744073709551615 once it
+    /// gets there.
     fn faults(&self) -> u64
         ensures { result ≡ (stream self.now).faults };
 
-    /// What is known of that output: it took these octets too, and no other write failed. So
-    /// one write of several lines is as good as a write of each.
+    /// What is known of `after out text`: it took `text` too, and no other write failed. So one
+    /// write of several lines is as good as a write for each line.
     ghost after_takes: { (out : Self) (text : List ℕ)
         → stream (after out text) ≡ extended (stream out) text };
 }
 
-/// Writes the whole of `text`, or a front of it where a write fails.
+/// Writes all of `text`. If a write fails, fails too, and has written a prefix of `text`.
 pub fn write_all<O: Output>(out: &mut O, text: &[u8]) -> Result<(), OutputFault>
     ensures whole_at_ok { OnOk result (O.stream out.new ≡ extended (O.stream out.old) text.now) }
     ensures front_at_fault { OnErr result (

@@ -1,15 +1,16 @@
-//! Texts with quotes, and where they are cut: names that are given as text, and the lines of a
-//! table, have parts that end at an octet outside quotes.
+//! Cuts of a text outside quotes: the parts of a name that is given as text, and of a line of a
+//! table, end at an octet outside quotes.
 ghost use Rattle.std.specs.Prelude.{◌≡◌, MatchOption};
 ghost use Rattle.snmp_io.specs.Quotes.{HasNoneOutside, IsCut, IsFrontOf, is_quote, open_after};
 
-/// The texts before and after the first octet that equals `stop` and stands outside quotes, or None
-/// where there is none. A quote opens with `"` or `'`, and ends with the next octet of its kind.
+/// Splits `text` at the first octet that equals `stop` and is outside quotes. Returns what is
+/// before and after it, or `None` if there is none. A quote opens with `"` or `'`, and ends with
+/// the next octet of its kind.
 pub fn split_unquoted(text: &[u8], stop: u8) -> Option<(&[u8], &[u8])>
     ensures { MatchOption result (HasNoneOutside stop text.now)
         (λ parts. IsCut stop text.now parts.0.now parts.1.now) }
 {
-    // Hot: each octet of a table's line. Most have no quote.
+    // Hot: runs over each octet of a table's line. Most lines have no quote.
     'octets: for (at, octet) in text.iter().enumerate() {
         if *octet == stop {
             return Some((&text[..at], &text[at + 1..]));
@@ -21,7 +22,7 @@ pub fn split_unquoted(text: &[u8], stop: u8) -> Option<(&[u8], &[u8])>
     None
 }
 
-/// Whether the octet opens a quote.
+/// Returns whether `octet` opens a quote.
 #[inline]
 pub fn is_quote(octet: u8) -> bool
     ensures { result ≡ is_quote octet }
@@ -29,7 +30,7 @@ pub fn is_quote(octet: u8) -> bool
     octet == b'"' || octet == b'\''
 }
 
-/// What `split_unquoted` returns, of a text that may have quotes.
+/// [`split_unquoted`] for a text that may have quotes.
 fn split_quoted(text: &[u8], stop: u8) -> Option<(&[u8], &[u8])>
     ensures { MatchOption result (HasNoneOutside stop text.now)
         (λ parts. IsCut stop text.now parts.0.now parts.1.now) }
@@ -44,8 +45,8 @@ fn split_quoted(text: &[u8], stop: u8) -> Option<(&[u8], &[u8])>
     None
 }
 
-/// What stands before the first octet that equals `stop` and stands outside quotes, or the whole
-/// text where there is none.
+/// Returns what is before the first octet that equals `stop` and is outside quotes, or all of
+/// `text` if there is none.
 pub fn unquoted_front(text: &[u8], stop: u8) -> &[u8]
     ensures { IsFrontOf stop text.now result.now }
 {
@@ -55,7 +56,7 @@ pub fn unquoted_front(text: &[u8], stop: u8) -> &[u8]
     }
 }
 
-/// The quote that is open after one more octet.
+/// Returns the quote that is open after `octet`; `before` is the quote that was open before it.
 pub fn open_after(before: Option<u8>, octet: u8) -> Option<u8>
     ensures { result ≡ open_after before octet }
 {
