@@ -13,7 +13,7 @@ use crate::lexer::TokenKind;
 use crate::parser::{AfterComma, Parser, Production, keep};
 use crate::trees::{Index, IndexParts, Items, Name, Revision, Status, TokenText};
 
-/// A name in lower case.
+/// A name that begins with a lower-case letter.
 pub(crate) struct OneName;
 
 impl Production for OneName {
@@ -49,7 +49,7 @@ impl Production for OneRevision {
     }
 }
 
-/// A token before `::=`.
+/// A token before `::=`, in clauses that are stored as tokens.
 pub(crate) struct BeforeAssign;
 
 impl Production for BeforeAssign {
@@ -67,7 +67,7 @@ impl Production for BeforeAssign {
     }
 }
 
-/// A token before END.
+/// A token before END, in a macro.
 pub(crate) struct BeforeEnd;
 
 impl Production for BeforeEnd {
@@ -85,7 +85,7 @@ impl Production for BeforeEnd {
     }
 }
 
-/// How many braces are open after a token of this kind.
+/// Returns how many braces are open after a token of this kind. `depth` are open before it.
 fn depth_after(kind: TokenKind, depth: usize) -> usize
     requires { depth + 1 < 2 ^ 64 }
     ensures { result ≡ grammar.depth_after kind depth }
@@ -97,7 +97,8 @@ fn depth_after(kind: TokenKind, depth: usize) -> usize
     }
 }
 
-/// Whether a token of this kind closes a brace that isn't open.
+/// Returns whether a token of this kind closes a brace that isn't open. `depth` are open before
+/// it.
 fn is_outside(kind: TokenKind, depth: usize) -> bool
     ensures { result ≡ grammar.is_outside kind depth }
 {
@@ -152,7 +153,7 @@ impl<'a> Parser<'a> {
         }
     }
 
-    /// Reads the names of an INDEX: IMPLIED may stand before the last one.
+    /// Reads the names of an INDEX. IMPLIED may come before the last one.
     #[tactic(auto, unfolding(crate::proofs::Productions::of_index))]
     fn index_names(&mut self) -> Result<IndexParts, Stop>
         ensures { ReturnsReading result self.new (grammar.index_names.read self.old) }
@@ -210,14 +211,14 @@ impl<'a> Parser<'a> {
         }
     }
 
-    /// Whether a token is ahead that isn't `::=`.
+    /// Returns whether a token other than `::=` is ahead.
     fn at_other_than_assign(&self) -> bool
         ensures { result ≡ begins (no_kind TokenKind.Assign ∷ []) self.now }
     {
         matches!(self.peek(), Some(token) if token.kind != TokenKind::Assign)
     }
 
-    /// Reads a token that isn't `::=`.
+    /// Reads a token other than `::=`.
     fn before_assign(&mut self) -> Result<TokenText, Stop>
         ensures { ReturnsReading result self.new (grammar.before_assign.read self.old) }
     {
@@ -229,14 +230,14 @@ impl<'a> Parser<'a> {
         }
     }
 
-    /// Whether a token is ahead that isn't END.
+    /// Returns whether a token other than END is ahead.
     fn at_other_than_end(&self) -> bool
         ensures { result ≡ begins (no_word (codes "END") ∷ []) self.now }
     {
         self.peek().is_some() && !self.at_word(b"END")
     }
 
-    /// Reads a token that isn't END.
+    /// Reads a token other than END.
     fn before_end(&mut self) -> Result<TokenText, Stop>
         ensures { ReturnsReading result self.new (grammar.before_end.read self.old) }
     {

@@ -123,7 +123,7 @@ impl<'a> Parser<'a> {
         })
     }
 
-    /// Reads a definition that begins with `word`, and whose clauses are kept as tokens.
+    /// Reads a definition that begins with `word`, and stores its clauses as tokens.
     fn raw_definition(&mut self, word: &[u8]) -> Result<RawDefinition, Stop>
         ensures { ReturnsReading result self.new ((grammar.raw_definition word.now).read self.old) }
     {
@@ -133,7 +133,7 @@ impl<'a> Parser<'a> {
         Ok(RawDefinition { clauses, value })
     }
 
-    /// Reads what follows a name in lower case.
+    /// Reads what follows a name that begins with a lower-case letter.
     fn lower_definition(&mut self) -> Result<DefKind, Stop>
         ensures { ReturnsReading result self.new (grammar.lower_definition.read self.old) }
     {
@@ -245,7 +245,7 @@ impl<'a> Parser<'a> {
         Ok(DefKind::Macro(tokens))
     }
 
-    /// Reads what follows a name in upper case.
+    /// Reads what follows a name that begins with an upper-case letter.
     fn upper_definition(&mut self) -> Result<DefKind, Stop>
         ensures { ReturnsReading result self.new (grammar.upper_definition.read self.old) }
     {
@@ -257,7 +257,8 @@ impl<'a> Parser<'a> {
         }
     }
 
-    /// Whether a name in upper case is ahead.
+    /// Returns whether a name is ahead that begins with an upper-case letter and isn't a reserved
+    /// word.
     fn at_name(&self) -> bool
         ensures { result ≡ begins (a_name ∷ []) self.now }
     {
@@ -267,7 +268,7 @@ impl<'a> Parser<'a> {
         }
     }
 
-    /// Whether the word of a macro is ahead.
+    /// Returns whether the name of a macro is ahead.
     fn at_macro(&self) -> bool
         ensures { result ≡ begins grammar.macro_words self.now }
     {
@@ -277,7 +278,7 @@ impl<'a> Parser<'a> {
         }
     }
 
-    /// Reads the word of a macro.
+    /// Reads the name of a macro.
     fn macro_name(&mut self) -> Result<Name, Stop>
         ensures { ReturnsReading result self.new (grammar.macro_name.read self.old) }
     {
@@ -289,7 +290,7 @@ impl<'a> Parser<'a> {
         }
     }
 
-    /// Whether a definition is ahead.
+    /// Returns whether a definition is ahead.
     pub(crate) fn at_definition(&self) -> bool
         ensures { result ≡ begins grammar.definition.first self.now }
     {

@@ -9,11 +9,11 @@ pub enum ParseError {
     /// The text has octets that are not a token.
     #[error(transparent)]
     Lex(LexError),
-    /// No module text can continue with the token in this line, or the text ends too early, in this
-    /// line.
+    /// No module text can continue with the token on line `line`, or the text ends too early, on
+    /// that line.
     #[error("line {line}: no module goes on like this")]
     Syntax { line: usize },
-    /// The definition in this line is of a name that its module has already defined.
+    /// The definition on line `line` is of a name that its module has already defined.
     #[error("line {line}: a second definition of the name")]
     DoubleName { line: usize },
     /// An allocation was refused.
@@ -21,10 +21,10 @@ pub enum ParseError {
     Memory,
 }
 
-/// What ends the reading of a text.
+/// Why the reading of a text stops.
 #[derive(Clone, Copy, Debug)]
 pub(crate) enum Stop {
-    /// The text can't continue with the token ahead, or can't end here, in this line.
+    /// The text can't continue with the next token, or can't end here, on line `line`.
     Syntax { line: usize },
     /// The text breaks off in the lexer, with this fault.
     Lex(LexError),

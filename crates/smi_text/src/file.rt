@@ -25,7 +25,7 @@ use std::alloc::Global;
 use std::collections::BTreeSet;
 
 impl<'a> Parser<'a> {
-    /// The name of the definition that is ahead.
+    /// Returns the name of the definition that is ahead, if one is.
     fn label(&self) -> Option<&'a [u8]>
         ensures { IsLabelAhead result self.now }
     {
@@ -35,7 +35,7 @@ impl<'a> Parser<'a> {
         }
     }
 
-    /// Reads the definitions of a module. A second definition of a name is an error.
+    /// Reads the definitions of a module. Fails at the second definition of a name.
     fn definitions(&mut self) -> Result<Items<Def>, ParseError>
         ensures ok { IfOk result (λ defs. ReadsDefinitions defs self.old self.new) }
         ensures fault { IfErr result (λ error. DefinitionsFault error self.old) }
@@ -48,9 +48,9 @@ impl<'a> Parser<'a> {
         Ok(Items::new(defs))
     }
 
-    /// Reads the definition of a name, appends it to those before it, and adds the name to theirs.
-    /// It is an error where the name is among them.
-    // A definition is large: it moves from where it is read to the list alone.
+    /// Reads the definition of `label`, appends it to `defs`, and adds `label` to `names`. Fails
+    /// if `label` is among the names already.
+    // A definition is large: it is moved only from where it is read to the list.
     fn new_definition(
         &mut self,
         label: &'a [u8],
@@ -105,7 +105,7 @@ impl<'a> Parser<'a> {
     }
 }
 
-/// The fault where a text breaks off, if it does.
+/// Returns the fault at which `text` breaks off, if it does.
 fn first_fault(text: &[u8]) -> Option<LexError>
     ensures { IfSome result (λ fault. BreaksOff fault text.now) }
 {
@@ -117,8 +117,8 @@ fn first_fault(text: &[u8]) -> Option<LexError>
     None
 }
 
-/// The error that reports why the reading of a text stopped. A stop in the lexer is reported as the
-/// text's own fault.
+/// Returns the error to report if the reading of `text` stopped with `stop`. A stop in the lexer
+/// is reported as the text's own fault.
 fn cause_of(stop: ParseError, text: &[u8]) -> ParseError
     ensures { IsCauseOf stop result text.now }
 {
@@ -132,8 +132,8 @@ fn cause_of(stop: ParseError, text: &[u8]) -> ParseError
     }
 }
 
-/// Reads the modules of a text (RFC 2578, section 3). For a text without a module it returns an
-/// empty list.
+/// Reads the modules of `text` (RFC 2578, section 3). Returns an empty list for a text without a
+/// module.
 ///
 /// A fault anywhere refuses the whole text. The first fault in the text is reported.
 pub fn parse_modules(alloc: Global, text: &[u8]) -> Result<Vec<Module>, ParseError>
@@ -143,9 +143,9 @@ pub fn parse_modules(alloc: Global, text: &[u8]) -> Result<Vec<Module>, ParseErr
     ensures only { (ms : List Tree) → AreSpelledBy ms text.now → HasNoDoubles ms
         → MatchResult result (λ found. found.items ≡ ms) (λ error. error ≡ ParseError.Memory) }
 
-    // Each error is returned only with its cause.
-    // The lexer's fault where the text breaks off, Syntax where it spells no modules, and
-    // DoubleName with the line of the first definition of a name that its module has defined.
+    // Each error is returned only for its cause: the lexer's fault if the text breaks off,
+    // `Syntax` if it spells no modules, and `DoubleName` with the line of the first definition of
+    // a name that its module has already defined.
     ensures cause { IfErr result (λ error. IsCause error text.now) }
 {
     let mut parser = Parser::new(alloc, text);
@@ -157,15 +157,16 @@ pub fn parse_modules(alloc: Global, text: &[u8]) -> Result<Vec<Module>, ParseErr
 
 /// Tokens are the spelling of at most one list of modules.
 ///
-/// A law: the call does nothing, and its caller may use what it ensures.
+/// A law: the call does nothing, and its caller learns what the clause says.
 pub fn one_module_list()
     ensures { (ms ns : List Tree) (tokens : List Lexeme) → Stands (spelling ms) tokens []
         → Stands (spelling ns) tokens [] → ms ≡ ns }
 {}
 
-/// Kinds and texts of tokens are the spelling of at most one list of modules, apart from its lines.
+/// Kinds and texts of tokens are the spelling of at most one list of modules, apart from its
+/// lines.
 ///
-/// A law: the call does nothing, and its caller may use what it ensures.
+/// A law: the call does nothing, and its caller learns what the clause says.
 #[tactic(auto, using(crate::proofs::Lines::same_but_lines))]
 pub fn one_module_list_without_lines()
     ensures { (ms ns : List Tree) (tokens : List Lexeme)
@@ -173,10 +174,10 @@ pub fn one_module_list_without_lines()
         map unlined ms ≡ map unlined ns }
 {}
 
-/// Tokens between braces have a spelling exactly where each brace that opens among them is followed
-/// by the one that closes it, and no other brace closes among them.
+/// Tokens between braces have a spelling if and only if each brace that opens among them is
+/// followed by the one that closes it, and no other brace closes among them.
 ///
-/// A law: the call does nothing, and its caller may use what it ensures.
+/// A law: the call does nothing, and its caller learns what the clause says.
 #[tactic(auto, using(crate::proofs::Braces::counted, crate::proofs::Braces::balanced_counted, crate::proofs::Braces::fronts_counted))]
 pub fn balanced_braces()
     ensures { (xs : List TokenText) → has_balanced_braces xs ≡ true ↔ IsBalanced xs }

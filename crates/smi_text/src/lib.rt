@@ -1,5 +1,5 @@
 //! SMIv2 module texts (RFC 2578, RFC 2579, RFC 2580): their tokens, the module trees that they
-//! spell, and the parser from one to the other.
+//! spell, and the parser from tokens to trees.
 //!
 //! The lowest layer of module files: the crates of names and values read the trees.
 //!
@@ -39,6 +39,6 @@ pub use crate::trees::{
 pub use error::ParseError;
 pub use file::parse_modules;
 
-// For proofs alone.
+// Laws, for proofs only.
 pub use crate::lexer::one_token_list;
 pub use file::{balanced_braces, one_module_list, one_module_list_without_lines};

@@ -63,7 +63,7 @@ impl Production for OneImport {
 }
 
 impl<'a> Parser<'a> {
-    /// Whether a symbol is ahead.
+    /// Returns whether a symbol is ahead.
     #[tactic(auto, unfolding(crate::proofs::Productions::all))]
     fn at_symbol(&self) -> bool
         ensures { result ≡ begins grammar.imported_symbol.first self.now }
@@ -71,7 +71,7 @@ impl<'a> Parser<'a> {
         self.at_definition()
     }
 
-    /// Reads a symbol that is imported: a name, or the word of a macro.
+    /// Reads a symbol that is imported: a name, or that of a macro.
     fn symbol(&mut self) -> Result<TokenText, Stop>
         ensures { ReturnsReading result self.new (grammar.imported_symbol.read self.old) }
     {
@@ -99,7 +99,7 @@ impl<'a> Parser<'a> {
         })
     }
 
-    /// Reads what is imported.
+    /// Reads IMPORTS, with all that is imported.
     fn imports(&mut self) -> Result<Items<Import>, Stop>
         ensures { ReturnsReading result self.new (grammar.imports.read self.old) }
     {
@@ -109,7 +109,7 @@ impl<'a> Parser<'a> {
         Ok(imports)
     }
 
-    /// Reads what is imported, if IMPORTS is ahead.
+    /// Reads IMPORTS, if it is ahead.
     fn imports_if_any(&mut self) -> Result<Option<Items<Import>>, Stop>
         ensures { ReturnsReading result self.new ((format.maybe grammar.imports).read self.old) }
     {
@@ -166,7 +166,7 @@ impl<'a> Parser<'a> {
     }
 }
 
-/// Whether a token can be imported.
+/// Returns whether a token can be imported.
 fn is_symbol(kind: TokenKind, text: &[u8]) -> bool
     ensures { result ≡ number.is_symbol kind text.now }
 {

@@ -6,11 +6,11 @@ ghost use Rattle.smi_text.specs.{trees.Mark.same_text, private.Names.has, privat
 use crate::error::Stop;
 use std::collections::BTreeSet;
 
-/// A name, behind its last eight octets as one number. Most names of a module begin alike and end
+/// A name, after its last eight octets as one number. Most names of a module begin alike and end
 /// differently, so the numbers tell them apart without a look at the octets.
 pub(crate) type Key<'a> = (u64, &'a [u8]);
 
-/// The last eight octets of a name as one number; 0 for a shorter name.
+/// Returns the last eight octets of `name` as one number, or 0 if it is shorter.
 #[tactic(auto, unfolding(crate::specs::private::Names::last_eight))]
 fn last_eight(name: &[u8]) -> u64
     ensures { result ≡ last_eight name.now }
@@ -31,7 +31,7 @@ fn last_eight(name: &[u8]) -> u64
     ])
 }
 
-/// Adds a name to a set of names, and returns whether it is new.
+/// Adds `name` to `names`, and returns whether it is new. Fails only if memory runs out.
 pub(crate) fn add<'a>(names: &mut BTreeSet<Key<'a>>, name: &'a [u8]) -> Result<bool, Stop>
     ensures new { IfOk result (λ new. new ≡ not (has names.old name.now)) }
     ensures added { IfOk result (λ _. (x : List ℕ)

@@ -1,4 +1,4 @@
-//! The tokens that are left of a text, and the steps in which every production is read.
+//! The tokens that are left of a text, and the steps by which every production is read.
 #![tactic(auto, unfolding(crate::proofs::Productions::of_parser))]
 
 ghost use Rattle.std.specs.Prelude.{◌≡◌, ℕ, true, false, MatchBool, List, [], ◌∷◌, codes, map};
@@ -25,11 +25,11 @@ use std::marker::Model;
 /// read.
 #[derive(Drop)]
 pub(crate) struct Parser<'a> {
-    /// Where the trees get their memory.
+    /// The allocator of the trees.
     alloc: Global,
-    /// The tokens after the one that comes next.
+    /// The tokens after the next one.
     lexer: Lexer<'a>,
-    /// The token that comes next, or the fault where the text breaks off.
+    /// The next token, or the fault at which the text breaks off.
     ahead: Option<Result<Token<'a>, LexError>>,
     /// The whole text.
     text: &'a [u8],
@@ -46,14 +46,14 @@ impl<'a> Model for Parser<'a> {
     ghost view = { λ p. items_left p.ahead p.lexer };
 }
 
-/// A production of which there may be several in a row.
+/// A production that can occur several times in a row.
 pub(crate) trait Production {
     /// The part of the tree that it reads.
     type Output;
 
     ghost format: { Format Self.Output };
 
-    /// Whether one begins with the token ahead.
+    /// Returns whether one begins with the token ahead.
     fn is_ahead(parser: &Parser<'_>) -> bool
         ensures { result ≡ begins format.first parser.now };
 
@@ -99,7 +99,7 @@ impl<P: Production> Production for AfterBar<P> {
     }
 }
 
-/// Appends a part to a list.
+/// Appends `item` to `items`. Fails only if memory runs out.
 pub(crate) fn keep<T: Drop>(items: &mut Vec<T>, item: T) -> Result<(), Stop>
     ensures ok { OnOk result (items.new.items ≡ items.old.items ++ item ∷ []) }
     ensures err { IfErr result (λ e. e ≡ Stop.Memory) }
@@ -108,7 +108,7 @@ pub(crate) fn keep<T: Drop>(items: &mut Vec<T>, item: T) -> Result<(), Stop>
 }
 
 impl<'a> Parser<'a> {
-    /// The parser of a whole text.
+    /// Returns the parser of `text`, a whole text.
     pub(crate) fn new(alloc: Global, text: &'a [u8]) -> Parser<'a>
         ensures items { Lexes [] text.now result }
         ensures only { (items : List Item) → Lexes [] text.now items → items ≡ result }
@@ -123,21 +123,21 @@ impl<'a> Parser<'a> {
         }
     }
 
-    /// A set with no names in it.
+    /// Returns an empty set of names.
     pub(crate) fn name_set(&self) -> BTreeSet<Key<'a>>
         ensures { result.keys ≡ [] }
     {
         BTreeSet::new(self.alloc)
     }
 
-    /// A list with nothing in it.
+    /// Returns an empty list.
     pub(crate) fn list<T>(&self) -> Vec<T>
         ensures { result.items ≡ [] }
     {
         Vec::new(self.alloc)
     }
 
-    /// The token ahead.
+    /// Returns the token ahead. Returns `None` at the end of the text and at a fault.
     pub(crate) fn peek(&self) -> Option<Token<'a>>
         ensures none { IfNone result (token_ahead self.now ≡ None) }
         ensures some { IfSome result (λ t. self.now ≡ Ok (lexeme_of t) ∷ drop 1 self.now) }
@@ -148,7 +148,7 @@ impl<'a> Parser<'a> {
         }
     }
 
-    /// Whether the text is read to its end.
+    /// Returns whether the text is read to its end.
     pub(crate) fn is_at_end(&self) -> bool
         ensures { MatchBool result (self.now ≡ []) (self.now ≡ [] → ⊥) }
     {
@@ -164,14 +164,14 @@ impl<'a> Parser<'a> {
         }
     }
 
-    /// The line of the token ahead; 0 at the end, where no part stands.
+    /// Returns the line of the token ahead, or 0 if no token is ahead.
     pub(crate) fn line(&self) -> usize
         ensures { result ≡ line_ahead self.now }
     {
         self.peek().map_or(0, |token| token.line)
     }
 
-    /// Whether this word of the grammar is ahead.
+    /// Returns whether this word of the grammar is ahead.
     #[inline(always)]
     pub(crate) fn at_word(&self, word: &[u8]) -> bool
         ensures { result ≡ begins (a_word word.now ∷ []) self.now }
@@ -182,14 +182,14 @@ impl<'a> Parser<'a> {
         }
     }
 
-    /// Whether a token of this kind is ahead.
+    /// Returns whether a token of this kind is ahead.
     pub(crate) fn at_kind(&self, kind: TokenKind) -> bool
         ensures { result ≡ begins (a_kind kind ∷ []) self.now }
     {
         matches!(self.peek(), Some(token) if token.kind == kind)
     }
 
-    /// Whether a token of one of these two kinds is ahead.
+    /// Returns whether a token of one of these two kinds is ahead.
     #[tactic(auto, using(crate::proofs::Marks::begins_cons))]
     pub(crate) fn at_either(&self, first: TokenKind, second: TokenKind) -> bool
         ensures { result ≡ begins (a_kind first ∷ a_kind second ∷ []) self.now }
@@ -197,7 +197,7 @@ impl<'a> Parser<'a> {
         self.at_kind(first) || self.at_kind(second)
     }
 
-    /// The stop of a text that can't continue with what is ahead.
+    /// Returns the stop of a text that can't continue with what is ahead.
     #[cold]
     #[inline(never)]
     pub(crate) fn syntax(&self) -> Stop
@@ -239,7 +239,7 @@ impl<'a> Parser<'a> {
         }
     }
 
-    /// Moves past the token ahead, whose text is `text`, and keeps a copy of the text.
+    /// Moves past the token ahead, whose text is `text`, and returns a copy of the text.
     pub(crate) fn take_text(&mut self, text: &[u8]) -> Result<Text, Stop>
         ensures ok { IfOk result (λ x. (x ≡ text.now) × (self.new ≡ drop 1 self.old)) }
         ensures err { IfErr result (λ e. e ≡ Stop.Memory) }
@@ -249,7 +249,7 @@ impl<'a> Parser<'a> {
         Ok(text)
     }
 
-    /// Reads a token of this kind, and keeps its text.
+    /// Reads a token of this kind, and returns its text.
     pub(crate) fn text(&mut self, kind: TokenKind) -> Result<Text, Stop>
         ensures { ReturnsReading result self.new ((format.text kind).read self.old) }
     {
@@ -259,7 +259,7 @@ impl<'a> Parser<'a> {
         }
     }
 
-    /// Moves past the token ahead, which is the word `token`, and keeps a copy of it as a name.
+    /// Moves past the token ahead, which is the word `token`, and returns a copy of it as a name.
     pub(crate) fn take_name(&mut self, token: Token<'a>) -> Result<Name, Stop>
         requires { is_word_kind token.kind ≡ true }
         ensures ok { IfOk result (λ x. (name_of token.entry.text.now ≡ Some x)
@@ -270,7 +270,7 @@ impl<'a> Parser<'a> {
         Ok(Name { octets })
     }
 
-    /// Reads a name in lower case.
+    /// Reads a name that begins with a lower-case letter.
     pub(crate) fn lower(&mut self) -> Result<Name, Stop>
         ensures { ReturnsReading result self.new (format.lower.read self.old) }
     {
@@ -280,7 +280,7 @@ impl<'a> Parser<'a> {
         }
     }
 
-    /// Reads a name in upper case, which is not a reserved word.
+    /// Reads a name that begins with an upper-case letter and isn't a reserved word.
     pub(crate) fn name(&mut self) -> Result<Name, Stop>
         ensures { ReturnsReading result self.new (format.name.read self.old) }
     {
@@ -292,7 +292,7 @@ impl<'a> Parser<'a> {
         }
     }
 
-    /// Reads a word and the string after it.
+    /// Reads a word and the string after it, and returns the string.
     pub(crate) fn clause(&mut self, word: &[u8]) -> Result<Text, Stop>
         ensures { ReturnsReading result self.new ((grammar.clause word.now).read self.old) }
     {
@@ -300,7 +300,7 @@ impl<'a> Parser<'a> {
         self.text(TokenKind::Text)
     }
 
-    /// Reads a word and the string after it, if the word is ahead.
+    /// Reads a word and the string after it, if the word is ahead, and returns the string.
     pub(crate) fn clause_if_any(&mut self, word: &[u8]) -> Result<Option<Text>, Stop>
         ensures { ReturnsReading result self.new
             ((format.maybe (grammar.clause word.now)).read self.old) }
@@ -312,7 +312,7 @@ impl<'a> Parser<'a> {
         }
     }
 
-    /// Moves past the token ahead, which has this kind and text, and keeps a copy of them.
+    /// Moves past the token ahead, which has this kind and text, and returns a copy of them.
     pub(crate) fn take_token(&mut self, kind: TokenKind, text: &[u8]) -> Result<TokenText, Stop>
         ensures ok { IfOk result (λ x. (x ≡ record { kind = kind; text = text.now })
             × (self.new ≡ drop 1 self.old)) }
@@ -322,7 +322,7 @@ impl<'a> Parser<'a> {
         Ok(TokenText { kind, text })
     }
 
-    /// Reads any number of a production, and appends them to a list.
+    /// Reads a production any number of times. Returns `items`, with what was read appended.
     pub(crate) fn many_after<P: Production>(
         &mut self,
         items: Vec<P::Output>,
@@ -341,7 +341,7 @@ impl<'a> Parser<'a> {
         Ok(Items::new(items))
     }
 
-    /// Reads any number of a production.
+    /// Reads a production any number of times.
     #[tactic(auto, using(crate::proofs::Many::with_front_nil))]
     pub(crate) fn many<P: Production>(&mut self) -> Result<Items<P::Output>, Stop>
     where
@@ -352,7 +352,8 @@ impl<'a> Parser<'a> {
         self.many_after::<P>(items)
     }
 
-    /// Reads any number of a production, after a first part that was read before.
+    /// Reads a production any number of times. Returns `first`, which was read before, with what
+    /// was read appended.
     pub(crate) fn and_more<P: Production>(
         &mut self,
         first: P::Output,
@@ -369,7 +370,8 @@ impl<'a> Parser<'a> {
     }
 }
 
-/// The line of a text's last octet. Lines count from 1, and end with LF.
+/// Returns the line of the last octet of `text`, or 1 if it has none. Lines count from 1, and end
+/// with LF.
 fn last_line(text: &[u8]) -> usize {
     match text.split_last() {
         Some((_, front)) => front.iter().filter(|octet| **octet == b'\n').count() + 1,

@@ -33,7 +33,7 @@ impl Production for HeadingPart {
     }
 }
 
-/// A part of an identifier value in a later place.
+/// A part of an identifier value after the first.
 pub(crate) struct LaterPart;
 
 impl Production for LaterPart {
@@ -142,7 +142,7 @@ impl<'a> Parser<'a> {
         }
     }
 
-    /// Reads a part of an identifier value in the first place.
+    /// Reads the first part of an identifier value, or a part of a module's heading.
     fn part(&mut self) -> Result<Part, Stop>
         ensures { ReturnsReading result self.new (grammar.part.read self.old) }
     {
@@ -156,7 +156,7 @@ impl<'a> Parser<'a> {
         }
     }
 
-    /// Reads a part of an identifier value in a later place.
+    /// Reads a part of an identifier value after the first.
     fn later_part(&mut self) -> Result<Part, Stop>
         ensures { ReturnsReading result self.new (grammar.later_part.read self.old) }
     {
@@ -212,7 +212,7 @@ impl<'a> Parser<'a> {
         Ok(NamedNumber { name, number })
     }
 
-    /// Whether an end of a range is ahead.
+    /// Returns whether an end of a range is ahead.
     #[tactic(auto, using(crate::proofs::Marks::begins_cons))]
     fn at_bound(&self) -> bool
         ensures { result ≡ begins (a_kind TokenKind.Number ∷ a_kind TokenKind.Hex ∷ a_kind

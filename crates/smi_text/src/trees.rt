@@ -1,5 +1,5 @@
 //! Module trees of SMIv2 (RFC 2578, RFC 2579, RFC 2580): what a module text says, the tokens that
-//! state it, and what its names and numbers mean. The parser makes these trees, and the crates
+//! spell it, and what its names and numbers mean. The parser makes these trees, and the crates
 //! above read them.
 
 mod items;

@@ -4,14 +4,14 @@ ghost use Rattle.smi_text.specs.lexer.Reading.{class_of};
 
 use crate::lexer::token::TokenKind;
 
-/// What an octet may begin.
+/// What can begin with an octet.
 #[derive(Clone, Copy)]
 pub enum Class {
     /// A gap of one octet: tab, LF, VT, FF, CR or space.
     Blank,
-    /// A word.
+    /// A word that begins with a lower-case letter.
     Lowercase,
-    /// A word.
+    /// A word that begins with an upper-case letter.
     Uppercase,
     /// A number.
     Digit,
@@ -21,13 +21,13 @@ pub enum Class {
     Quote,
     /// A hexadecimal or binary literal.
     Apostrophe,
-    /// This symbol, or a longer one.
+    /// The symbol, or a longer one.
     Symbol(TokenKind),
     /// Nothing.
     Other,
 }
 
-/// The class of an octet.
+/// Returns the class of `octet`.
 pub fn class_of_octet(octet: u8) -> Class
     ensures { result ≡ class_of octet }
 {

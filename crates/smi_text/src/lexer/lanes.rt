@@ -1,14 +1,14 @@
-//! How many octets of one load, from the first, pass a test.
+//! Runs of octets that pass a test, 16 octets at a time.
 ghost use Rattle.std.specs.Prelude.{◌≡◌, ◌+◌, ◌≤◌, length};
 ghost use Rattle.smi_text.specs.lexer.Lexeme.{is_word_octet};
 ghost use Rattle.smi_text.specs.lexer.Reading.{IsRunIn, first_set, is_space_or_tab};
 
 use std::simd::prelude::*;
 
-/// How many octets one load has.
+/// The number of octets in one load.
 pub const LANES: usize = 16;
 
-/// The place of the lowest bit that is set in a mask of a load, or the number of its octets.
+/// Returns the index of the lowest bit that is set in the mask of a load, or `LANES` if none is.
 #[inline(always)]
 fn first_set(mask: u64) -> usize
     ensures { result ≡ first_set mask }
@@ -20,15 +20,15 @@ fn first_set(mask: u64) -> usize
     }
 }
 
-/// How many octets in a row from a place on, at most 16, are letters, digits or `_`.
+/// Returns how many octets in a row, from offset `at` on and at most 16, are letters, digits or
+/// `_`.
 #[inline(always)]
 pub fn word_run(text: &[u8], at: usize) -> usize
     requires { at + LANES ≤ length text.now }
     ensures { IsRunIn is_word_octet text.now at result }
 {
     let octets = u8x16::from_slice(&text[at..]);
-    // A letter of either case, less the code of `a`, is below 26, and a digit less that of `0` is
-    // below 10.
+    // With bit 0x20 set, a letter minus `a` is below 26; a digit minus `0` is below 10.
     let letters = (octets | u8x16::splat(0x20)) - u8x16::splat(b'a');
     let digits = octets - u8x16::splat(b'0');
     let neither = letters.simd_ge(u8x16::splat(26)) & digits.simd_ge(u8x16::splat(10));
@@ -36,7 +36,7 @@ pub fn word_run(text: &[u8], at: usize) -> usize
     first_set(stops.to_bitmask())
 }
 
-/// How many octets in a row from a place on, at most 16, are spaces or tabs.
+/// Returns how many octets in a row, from offset `at` on and at most 16, are spaces or tabs.
 #[inline(always)]
 pub fn blank_run(text: &[u8], at: usize) -> usize
     requires { at + LANES ≤ length text.now }

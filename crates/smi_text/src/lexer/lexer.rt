@@ -1,5 +1,5 @@
-//! The lexer: it returns the tokens of a text one after the other, and last the fault if it breaks
-//! off.
+//! The lexer: it returns the tokens of a text one after the other. If the text breaks off, the
+//! fault comes last.
 ghost use Rattle.std.specs.Prelude.{◌≡◌, ℕ, List, []};
 ghost use Rattle.smi_text.specs.lexer.Lexes.{AreInOrder, Lexes, fault_on};
 ghost use Rattle.smi_text.specs.lexer.Token.{Item, tokens_of};
@@ -8,15 +8,15 @@ use crate::lexer::scan::{gaps_at, is_open, lexeme_at, lines_in};
 use crate::lexer::token::{LexError, Span, Token};
 use std::marker::Model;
 
-/// An iterator over the tokens of a module text. Where neither a lexeme nor a gap begins it returns
-/// the fault, and then ends. It does not allocate.
+/// An iterator over the tokens of a module text. If neither a lexeme nor a gap begins at an octet,
+/// it returns the fault there and then ends. It doesn't allocate.
 #[derive(Drop)]
 pub struct Lexer<'a> {
     /// The octets that aren't read yet.
     rest: &'a [u8],
-    /// How many octets are read.
+    /// The number of octets read.
     at: usize,
-    /// How many lines have ended in them.
+    /// The number of lines that have ended in them.
     lines: usize,
 }
 
@@ -34,14 +34,14 @@ impl<'a> Model for Lexer<'a> {
 }
 
 impl<'a> Lexer<'a> {
-    /// The lexer of a whole text.
+    /// Returns the lexer of `text`, a whole module text.
     pub fn new(text: &'a [u8]) -> Self
         // The lexer returns the text's tokens, and then the fault if the text breaks off before its
         // end.
         ensures tokens { Lexes [] text.now result }
         // A text has no other list of tokens.
         ensures only { (items : List Item) → Lexes [] text.now items → items ≡ result }
-        // Tokens stand in order, and the text of each is the octets at its span.
+        // Tokens are in order, and the text of each is the octets at its span.
         ensures spans { AreInOrder text.now 0 (tokens_of result) }
     {
         Lexer {
@@ -94,7 +94,7 @@ impl<'a> Iterator for Lexer<'a> {
     }
 }
 
-/// Why no token begins at the front of the text, which stands on line `line`.
+/// Returns why no token begins at the start of `text`, which is on line `line`.
 fn fault_at(text: &[u8], line: usize) -> LexError
     ensures { result ≡ fault_on line text.now }
 {
@@ -105,9 +105,9 @@ fn fault_at(text: &[u8], line: usize) -> LexError
     }
 }
 
-/// A text has one list of tokens, and one fault at most.
+/// A text has one list of tokens, and at most one fault.
 ///
-/// A law: the call does nothing, and its caller may use what it ensures.
+/// A law: the call does nothing, and its caller learns what the clause says.
 #[tactic(auto, using(crate::proofs::LexerLaws::one_list))]
 pub fn one_token_list()
     ensures { (before text : List ℕ) (xs ys : List Item) →

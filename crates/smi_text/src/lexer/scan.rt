@@ -17,21 +17,21 @@ use crate::lexer::lanes::{LANES, blank_run, word_run};
 use crate::lexer::token::TokenKind;
 use memchr::{memchr, memchr_iter};
 
-/// Whether an octet is a gap by itself: tab, LF, VT, FF, CR or space.
+/// Returns whether `octet` is a gap by itself: tab, LF, VT, FF, CR or space.
 fn is_blank(octet: u8) -> bool
     ensures { result ≡ is_blank octet }
 {
     octet == b' ' || (octet >= b'\t' && octet <= b'\r')
 }
 
-/// Whether an octet is a letter, a digit or `_`.
+/// Returns whether `octet` is a letter, a digit or `_`.
 fn is_word_octet(octet: u8) -> bool
     ensures { result ≡ is_word_octet octet }
 {
     octet.is_ascii_alphanumeric() || octet == b'_'
 }
 
-/// Where the run of letters, digits and `_` that begins at a place ends.
+/// Returns the offset at which the run of letters, digits and `_` from offset `from` on ends.
 fn word_run_end(text: &[u8], from: usize) -> usize
     requires { from ≤ length text.now }
     ensures { IsRunBetween is_word_octet text.now from result }
@@ -51,7 +51,8 @@ fn word_run_end(text: &[u8], from: usize) -> usize
     n
 }
 
-/// How many of the octets after a word's first letter belong to the word.
+/// Returns how many octets of `text` belong to a word. `text` begins after the word's first
+/// letter.
 fn word_rest_len(text: &[u8]) -> usize
     ensures { IsLongestPassing is_word_rest text.now result }
 {
@@ -66,20 +67,21 @@ fn word_rest_len(text: &[u8]) -> usize
     n
 }
 
-/// Where the run of letters, digits and `_` after a hyphen ends.
+/// Returns the offset at which the run of letters, digits and `_` after a hyphen ends. The run
+/// begins at offset `from`.
 #[inline(always)]
 fn part_end(text: &[u8], from: usize) -> usize
     requires { from ≤ length text.now }
     ensures { IsRunBetween is_word_octet text.now from result }
 {
-    // For one octet before the next hyphen, a load would take twice as long.
+    // If the run is one octet before the next hyphen, a load would take twice as long.
     if from + 1 < text.len() && text[from + 1] == b'-' && is_word_octet(text[from]) {
         return from + 1;
     }
     word_run_end(text, from)
 }
 
-/// How many digits stand at the front.
+/// Returns the number of digits at the start of `text`.
 fn digits_len(text: &[u8]) -> usize
     ensures { IsLongestPassing (list_all is_ascii_digit) text.now result }
 {
@@ -90,7 +92,7 @@ fn digits_len(text: &[u8]) -> usize
     n
 }
 
-/// How many hyphens stand at the front.
+/// Returns the number of hyphens at the start of `text`.
 fn hyphens_len(text: &[u8]) -> usize
     ensures { IsLongestPassing (list_all is_hyphen) text.now result }
 {
@@ -101,7 +103,8 @@ fn hyphens_len(text: &[u8]) -> usize
     n
 }
 
-/// How many octets stand before the line ends or two hyphens stand in a row.
+/// Returns the number of octets before the end of the line or two hyphens in a row. If neither
+/// comes, this is the length of `text`.
 fn remark_len(text: &[u8]) -> usize
     ensures within { result ≤ length text.now }
     ensures same { GoesOn is_remark_rest text.now result }
@@ -118,7 +121,8 @@ fn remark_len(text: &[u8]) -> usize
     text.len()
 }
 
-/// How many of the octets after the first two hyphens of a comment belong to it.
+/// Returns how many octets of `text` belong to a comment. `text` begins after the first two
+/// hyphens.
 fn comment_rest_len(text: &[u8]) -> usize
     ensures { IsLongestPassing is_comment_rest text.now result }
 {
@@ -129,7 +133,7 @@ fn comment_rest_len(text: &[u8]) -> usize
     opening + (len + hyphens_len(closing))
 }
 
-/// Where an octet stands first, if it occurs.
+/// Returns the offset of the first `octet` in `text`, if it occurs.
 #[tactic(auto, using(crate::proofs::Places::first_place))]
 fn place_of(octet: u8, text: &[u8]) -> Option<usize>
     ensures { IsFirstPlace octet text.now result }
@@ -137,7 +141,8 @@ fn place_of(octet: u8, text: &[u8]) -> Option<usize>
     memchr(octet, text)
 }
 
-/// How many of the octets after a string's first quote belong to it.
+/// Returns the kind and the length of the rest of a string, its closing quote included. `text`
+/// begins after the opening quote. Returns `None` if there is no closing quote.
 #[tactic(auto, using(crate::proofs::Parts::string_none))]
 fn string_rest(text: &[u8]) -> Option<(TokenKind, usize)>
     ensures { IsLexemeFront string_part text.now result }
@@ -146,21 +151,22 @@ fn string_rest(text: &[u8]) -> Option<(TokenKind, usize)>
     Some((TokenKind::Text, end + 1))
 }
 
-/// Whether all of the octets are hexadecimal digits.
+/// Returns whether all of the octets are hexadecimal digits.
 fn is_hexadecimal(digits: &[u8]) -> bool
     ensures { result ≡ list_all is_ascii_hexdigit digits.now }
 {
     digits.iter().all(|digit| digit.is_ascii_hexdigit())
 }
 
-/// Whether each of the octets is a 0 or a 1.
+/// Returns whether each of the octets is a 0 or a 1.
 fn is_binary(digits: &[u8]) -> bool
     ensures { result ≡ list_all is_binary_digit digits.now }
 {
     digits.iter().all(|digit| *digit == b'0' || *digit == b'1')
 }
 
-/// The kind of a literal, by its digits and its letter.
+/// Returns the kind of the literal with these digits and this letter after the closing quote, or
+/// `None` if no literal has them.
 fn literal_kind(digits: &[u8], letter: u8) -> Option<TokenKind>
     ensures { option_map lexeme result ≡ literal_of digits.now letter }
 {
@@ -171,7 +177,8 @@ fn literal_kind(digits: &[u8], letter: u8) -> Option<TokenKind>
     }
 }
 
-/// How many of the octets after a literal's first quote belong to it.
+/// Returns the kind and the length of the rest of a literal, its letter included. `text` begins
+/// after the opening quote. Returns `None` if it isn't the rest of a literal.
 fn literal_rest(text: &[u8]) -> Option<(TokenKind, usize)>
     ensures { IsLexemeFront literal_part text.now result }
 {
@@ -184,7 +191,8 @@ fn literal_rest(text: &[u8]) -> Option<(TokenKind, usize)>
     Some((kind, end + 2))
 }
 
-/// How many of the octets after a hyphen belong to its number.
+/// Returns the kind and the length of the rest of a number. `text` begins after the hyphen.
+/// Returns `None` if no digit follows.
 fn number_rest(text: &[u8]) -> Option<(TokenKind, usize)>
     ensures { IsLexemeFront hyphen_part text.now result }
 {
@@ -196,7 +204,8 @@ fn number_rest(text: &[u8]) -> Option<(TokenKind, usize)>
     }
 }
 
-/// The longest symbol that begins with this one, and how many of the octets after it belong to it.
+/// Returns the longest symbol that begins with the symbol `kind`, and how many octets of `text`
+/// belong to it. `text` begins after that symbol.
 fn symbol_rest(kind: TokenKind, text: &[u8]) -> (TokenKind, usize)
     ensures { IsPartFront (symbol_part kind) text.now (lexeme result.0) result.1 }
 {
@@ -207,8 +216,9 @@ fn symbol_rest(kind: TokenKind, text: &[u8]) -> (TokenKind, usize)
     }
 }
 
-/// The longest lexeme that begins with an octet of this class, and how many of the octets after it
-/// belong to it.
+/// Returns the kind of the longest lexeme that begins with an octet of `class`, and how many
+/// octets of `text` belong to it. `text` begins after that octet. Returns `None` if there is no
+/// such lexeme.
 fn lexeme_rest(class: Class, text: &[u8]) -> Option<(TokenKind, usize)>
     ensures { IsLexemeFront (part_in class) text.now result }
 {
@@ -224,7 +234,8 @@ fn lexeme_rest(class: Class, text: &[u8]) -> Option<(TokenKind, usize)>
     }
 }
 
-/// The longest lexeme at the front of the text, and how many octets it has.
+/// Returns the kind and the length of the longest lexeme at the start of `text`, or `None` if no
+/// lexeme begins there.
 pub fn lexeme_at(text: &[u8]) -> Option<(TokenKind, usize)>
     ensures { IsLexemeFront part_of text.now result }
 {
@@ -233,12 +244,12 @@ pub fn lexeme_at(text: &[u8]) -> Option<(TokenKind, usize)>
     Some((kind, len + 1))
 }
 
-/// A place up to which there are only spaces and tabs from `from` on; more may follow it.
+/// Returns an offset up to which there are only spaces and tabs from `from` on. More may follow.
 fn blanks_end(text: &[u8], from: usize) -> usize
     requires { from ≤ length text.now }
     ensures { ArePassedBetween is_space_or_tab text.now from result }
 {
-    // After a space mostly a lexeme stands, and after a newline more spaces.
+    // A single space is mostly followed by a lexeme; more spaces mostly come after a newline.
     if from < text.len() && text[from] != b' ' {
         return from;
     }
@@ -253,7 +264,7 @@ fn blanks_end(text: &[u8], from: usize) -> usize
     n
 }
 
-/// How many octets of gaps stand at the front of the text, and how many lines end in them.
+/// Returns how many octets of gaps are at the start of `text`, and how many lines end in them.
 pub fn gaps_at(text: &[u8]) -> (usize, usize)
     ensures within { result.0 ≤ length text.now }
     ensures lines { result.1 ≤ result.0 }
@@ -280,7 +291,7 @@ pub fn gaps_at(text: &[u8]) -> (usize, usize)
     (n, lines)
 }
 
-/// How many lines end in a lexeme of this kind. A line can end only in a string.
+/// Returns how many lines end in `octets`, a lexeme of this kind. A line can end only in a string.
 #[tactic(auto, using(crate::proofs::PartLaws::one_line))]
 pub fn lines_in(kind: TokenKind, octets: &[u8]) -> usize
     ensures count { IsLexeme kind octets.now → result ≡ newlines octets.now }
@@ -292,7 +303,7 @@ pub fn lines_in(kind: TokenKind, octets: &[u8]) -> usize
     }
 }
 
-/// How many newlines a text has.
+/// Returns the number of newlines in `text`.
 #[tactic(auto, using(crate::proofs::Places::each_newline))]
 fn newlines_in(text: &[u8]) -> usize
     ensures count { result ≡ newlines text.now }
@@ -302,7 +313,7 @@ fn newlines_in(text: &[u8]) -> usize
     Iterator::count(memchr_iter(b'\n', text))
 }
 
-/// Whether a `"` or `'` stands at the front, with no other one after it.
+/// Returns whether `text` begins with a `"` or `'` that isn't followed by another of its kind.
 pub fn is_open(text: &[u8]) -> bool
     ensures { result ≡ is_open_string text.now }
 {

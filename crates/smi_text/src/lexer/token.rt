@@ -1,5 +1,4 @@
-//! The tokens of a module text, and what stands where none begins, as the lexer returns them to the
-//! parser.
+//! The tokens of a module text, and the errors of the lexer.
 ghost use Rattle.smi_text.specs.lexer.Lexeme.{IsLexeme};
 
 use thiserror::Error;
@@ -54,8 +53,8 @@ pub enum TokenKind {
     Equals,
 }
 
-/// Where a token stands in the source, in octets: from `start` up to `end`, which is not part of
-/// it.
+/// The position of a token in the source, in octets: from `start` up to `end`, which is not part
+/// of it.
 #[derive(Clone, Copy, Debug, PartialEq, Eq)]
 pub struct Span {
     pub start: usize,
@@ -66,7 +65,7 @@ pub struct Span {
 #[derive(Clone, Copy, Debug, PartialEq, Eq)]
 pub struct Token<'a> {
     pub kind: TokenKind,
-    /// Where it stands in the source.
+    /// Its position in the source.
     pub span: Span,
     /// Its octets, unchanged from the source.
     pub text: &'a [u8],
@@ -75,14 +74,13 @@ pub struct Token<'a> {
     pub ghost lexical: { ∥ IsLexeme kind text.now ∥₁ },
 }
 
-/// What stands where a lexeme should begin. Each error has the line where it begins, counted from
-/// 1.
+/// Why the lexer stopped. `line` is the line, from 1, on which the faulty lexeme begins.
 #[derive(Clone, Copy, Debug, PartialEq, Eq, Error)]
 pub enum LexError {
-    /// An octet with which no lexeme begins, or a `'` whose literal is malformed.
+    /// No lexeme begins with the octet, or it is a `'` whose literal is malformed.
     #[error("line {line}: no token begins here")]
     BadByte { line: usize },
-    /// A `"` or `'` without its end.
+    /// A `"` or `'` has no closing one.
     #[error("line {line}: the string has no end")]
     OpenString { line: usize },
 }

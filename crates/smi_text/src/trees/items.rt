@@ -1,16 +1,16 @@
-//! The lists and texts that a module tree owns, which contracts see as lists.
+//! The lists and texts that a module tree owns. Contracts see them as lists.
 ghost use Rattle.std.specs.Prelude.{◌≡◌, length, IfOk};
 
 use arrayvec::ArrayVec;
 use std::alloc::{AllocError, Global};
 use std::marker::Model;
 
-/// The octets of a text. Up to 24, as most names and numbers have, stand in place.
+/// The octets of a text. Up to 24 octets are stored inline; most names and numbers have no more.
 #[derive(Drop, Debug)]
 enum Octets {
-    /// Up to 24, in place.
+    /// Up to 24 octets, inline.
     Few(ArrayVec<u8, 24>),
-    /// Any number, elsewhere.
+    /// Any number of octets, on the heap.
     Many(Vec<u8>),
 }
 
@@ -20,7 +20,7 @@ pub struct Text {
     octets: Octets,
 }
 
-// Written by hand, so that an owner of texts drops each by a call: a derived one stands in line
+// Written by hand, so that an owner of texts drops each by a call. A derived `drop` is inlined
 // wherever an owner's scope ends, with a branch for each variant.
 impl Drop for Text {
     fn drop(self) {
@@ -39,7 +39,7 @@ impl Model for Text {
 }
 
 impl Text {
-    /// The text of these octets, which are copied.
+    /// Returns the text of `octets`, which are copied.
     pub fn copied(alloc: Global, octets: &[u8]) -> Result<Text, AllocError>
         ensures { IfOk result (λ text. text ≡ octets.now) }
     {
@@ -50,7 +50,7 @@ impl Text {
         Ok(Text { octets })
     }
 
-    /// The octets.
+    /// Returns the octets.
     pub fn as_bytes(&self) -> &[u8]
         ensures { result.now ≡ self.now }
     {
@@ -60,7 +60,7 @@ impl Text {
         }
     }
 
-    /// Returns the octets as a `Vec`: the one that holds them, or a copy if they are at most 24.
+    /// Returns the octets as a `Vec`: the one that stores them, or a copy if they are at most 24.
     pub fn into_vec(self, alloc: Global) -> Result<Vec<u8>, AllocError>
         ensures { IfOk result (λ octets. octets.items ≡ self) }
     {
@@ -78,7 +78,7 @@ pub struct Items<T> {
     items: Vec<T>,
 }
 
-// By hand, as that of `Text`.
+// Written by hand, as for `Text`.
 impl<T: Drop> Drop for Items<T> {
     fn drop(self) {
         let Items { items: _items } = self;
@@ -94,14 +94,14 @@ impl<T> Model for Items<T> {
 }
 
 impl<T> Items<T> {
-    /// The list of these parts.
+    /// Returns the list of `items`.
     pub fn new(items: Vec<T>) -> Items<T>
         ensures { result ≡ items.items }
     {
         Items { items }
     }
 
-    /// The `Vec` of the parts, which takes no memory.
+    /// Returns the parts as a `Vec`, without allocating.
     pub fn into_vec(self) -> Vec<T>
         ensures { result.items ≡ self }
     {
@@ -109,14 +109,14 @@ impl<T> Items<T> {
         items
     }
 
-    /// The parts as a slice.
+    /// Returns the parts as a slice.
     pub fn as_slice(&self) -> &[T]
         ensures { result.now ≡ self.now }
     {
         &self.items
     }
 
-    /// How many parts there are.
+    /// Returns the number of parts.
     pub fn len(&self) -> usize
         ensures { result ≡ length self.now }
     {

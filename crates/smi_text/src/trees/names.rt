@@ -4,8 +4,8 @@ ghost use Rattle.smi_text.specs.trees.Word.{is_word};
 
 use crate::trees::items::Text;
 
-/// A name: a letter, and then letters, digits, `_`, and hyphens that one of these follows (RFC
-/// 2578, section 3.1).
+/// A name: a letter, and then letters, digits, `_`, and hyphens that one of the others follows
+/// (RFC 2578, section 3.1).
 #[derive(Debug, Drop)]
 pub struct Name {
     /// Its octets.
@@ -14,7 +14,7 @@ pub struct Name {
 }
 
 impl Name {
-    /// The octets of the name.
+    /// Returns the octets of the name.
     pub fn as_bytes(&self) -> &[u8]
         ensures octets { result.now ≡ self.now.octets }
         ensures word { is_word result.now ≡ true }

@@ -7,7 +7,7 @@ ghost use Rattle.smi_text.specs.trees.Number as number;
 
 use crate::lexer::TokenKind;
 
-/// The value of a digit of a base up to 16, in either case.
+/// Returns the value of a digit to a base up to 16, in either case.
 fn digit_value(digit: u8) -> u8
     ensures value { result ≡ number.digit_value digit }
     ensures octet { result < 256 }
@@ -21,7 +21,7 @@ fn digit_value(digit: u8) -> u8
     }
 }
 
-/// The number that the digits stand for, if it is at most `most`.
+/// Returns the number that `digits` write to the base `base`, if it is at most `most`.
 #[tactic(auto, using(crate::proofs::Digits::worths, std::proofs::lemmas::Grind::common_steps))]
 fn value_up_to(base: u64, digits: &[u8], most: u64) -> Option<u64>
     requires { 0 < base }
@@ -35,22 +35,22 @@ fn value_up_to(base: u64, digits: &[u8], most: u64) -> Option<u64>
     if value <= most { Some(value) } else { None }
 }
 
-/// Whether a hyphen stands before the digits.
+/// Returns whether `text` begins with a hyphen.
 fn is_negative(text: &[u8]) -> bool
     ensures { result ≡ is_negative text.now }
 {
     matches!(text, [b'-', ..])
 }
 
-/// The digits of a number token, without its hyphen.
+/// Returns the digits of a number token, without its hyphen.
 fn digits(text: &[u8]) -> &[u8]
     ensures { result.now ≡ (if is_negative text.now then drop 1 text.now else text.now) }
 {
     if is_negative(text) { &text[1..] } else { text }
 }
 
-/// The number of an identifier that a number token states, 0 to 4294967295 (RFC 2578, section 3.5).
-/// `-0` is 0.
+/// Returns the number of an identifier that a number token writes, 0 to 4294967295 (RFC 2578,
+/// section 3.5), or `None` if it writes none. `-0` is 0.
 #[tactic(auto, unfolding(crate::specs::trees::Number::is_arc))]
 pub fn arc(text: &[u8]) -> Option<u32>
     ensures { result ≡ number.arc_in text.now }
@@ -59,15 +59,15 @@ pub fn arc(text: &[u8]) -> Option<u32>
     Some(value_up_to(10, digits(text), most)? as u32)
 }
 
-/// Whether a number token can be a number of an identifier.
+/// Returns whether a number token can be a number of an identifier.
 pub fn is_arc(text: &[u8]) -> bool
     ensures { result ≡ number.is_arc text.now }
 {
     arc(text).is_some()
 }
 
-/// The number that a number token states outside identifiers, -9223372036854775808 to
-/// 18446744073709551615 (RFC 2578, section 7.1.1).
+/// Returns the number that a number token writes outside identifiers, -9223372036854775808 to
+/// 18446744073709551615 (RFC 2578, section 7.1.1), or `None` if it is out of this range.
 #[tactic(auto, unfolding(crate::specs::trees::Number::is_number))]
 pub fn number(text: &[u8]) -> Option<i128>
     ensures { result ≡ number.stated_number text.now }
@@ -82,14 +82,14 @@ pub fn number(text: &[u8]) -> Option<i128>
     Some(if negative { 0 - magnitude } else { magnitude })
 }
 
-/// Whether a number token is in the range of numbers outside identifiers.
+/// Returns whether a number token is in the range of numbers outside identifiers.
 pub fn is_number(text: &[u8]) -> bool
     ensures { result ≡ number.is_number text.now }
 {
     number(text).is_some()
 }
 
-/// The value of a hexadecimal or binary literal, if it is at most 18446744073709551615.
+/// Returns the value of a hexadecimal or binary literal, if it is at most 18446744073709551615.
 #[tactic(auto, unfolding(crate::specs::trees::Number::is_literal))]
 fn literal(base: u64, text: &[u8]) -> Option<u64>
     requires { 0 < base }
@@ -104,8 +104,8 @@ fn literal(base: u64, text: &[u8]) -> Option<u64>
     value_up_to(base, digits, u64::MAX)
 }
 
-/// The value of an end of a range: a number token, or a literal up to 18446744073709551615 (RFC
-/// 2578, section 7.1.1).
+/// Returns the value of an end of a range: a number token, or a literal up to 18446744073709551615
+/// (RFC 2578, section 7.1.1). Returns `None` if the token can't be one.
 #[tactic(auto, unfolding(crate::specs::trees::Number::is_bound))]
 pub fn bound(kind: TokenKind, text: &[u8]) -> Option<i128>
     ensures { result ≡ number.bound_in kind text.now }
@@ -119,7 +119,7 @@ pub fn bound(kind: TokenKind, text: &[u8]) -> Option<i128>
     Some(i128::from(literal(base, text)?))
 }
 
-/// Whether a token can be an end of a range.
+/// Returns whether a token can be an end of a range.
 pub fn is_bound(kind: TokenKind, text: &[u8]) -> bool
     ensures { result ≡ number.is_bound kind text.now }
 {

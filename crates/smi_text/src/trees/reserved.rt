@@ -1,5 +1,5 @@
-//! The reserved words: those that stand in quotes in the grammar. Of names, only that of a macro
-//! may be one of them.
+//! The reserved words: those in quotes in the grammar. A name can't be one of them, unless it
+//! names a macro.
 #![tactic(auto, unfolding(crate::specs::trees::Reserved::is_reserved, crate::specs::trees::Number::is_macro))]
 
 ghost use Rattle.std.specs.Prelude.{◌≡◌, get_or, map};
@@ -69,7 +69,7 @@ const RESERVED: [&[u8]; 44] = [
     b"SIZE",
 ];
 
-/// Whether a text is one of these words.
+/// Returns whether `text` is one of `words`.
 #[tactic(auto, using(crate::proofs::Words::is_one_of_drop, crate::proofs::Words::is_one_of_none))]
 fn is_among(words: &[&[u8]], text: &[u8]) -> bool
     ensures { result ≡ list_any (same_text text.now) (map (λ word. word.now) words.now) }
@@ -82,25 +82,25 @@ fn is_among(words: &[&[u8]], text: &[u8]) -> bool
     false
 }
 
-/// Whether an upper-case letter stands in the second place.
+/// Returns whether the second octet is an upper-case letter.
 fn has_upper_second(text: &[u8]) -> bool
     ensures { result ≡ is_ascii_uppercase (get_or text.now 1 0) }
 {
     text.len() > 1 && text[1].is_ascii_uppercase()
 }
 
-/// Whether a word is reserved.
+/// Returns whether a word is reserved.
 pub fn is_reserved(text: &[u8]) -> bool
     ensures { result ≡ words.is_reserved text.now }
 {
-    // Each reserved word has such a letter there, and most names have none.
+    // Each reserved word has such a letter there, and most names don't.
     if !has_upper_second(text) {
         return false;
     }
     is_among(&RESERVED, text)
 }
 
-/// Whether a word names a macro.
+/// Returns whether a word names a macro.
 pub fn is_macro(text: &[u8]) -> bool
     ensures { result ≡ number.is_macro text.now }
 {

@@ -1,8 +1,8 @@
 //! Module trees: what a module text says, without blanks and comments (RFC 2578, sections 3 to 8;
 //! RFC 2579; RFC 2580), and what it defines and imports.
 //!
-//! A tree owns its texts, which are the unchanged texts of the tokens: strings keep their quotes,
-//! numbers their zeros.
+//! A tree owns its texts, which are the unchanged texts of the tokens: strings with their quotes,
+//! numbers with their zeros.
 ghost use Rattle.std.specs.{Prelude.◌≡◌, Option.option_copied};
 ghost use Rattle.smi_text.specs.trees.Lookup as lookup;
 
@@ -24,7 +24,8 @@ pub struct Module {
     pub defs: Items<Def>,
 }
 
-// By hand, as that of `Text`: who owns a module calls this, and needs the drop of no other part.
+// Written by hand, as for `Text`: an owner of a module calls this `drop`, and those of no other
+// part.
 impl Drop for Module {
     fn drop(self) {
         let Module {
@@ -37,14 +38,16 @@ impl Drop for Module {
 }
 
 impl Module {
-    /// The first definition of a name in the text, if the module has one (RFC 2578, section 3.1).
+    /// Returns the first definition of `name` in the text, if the module has one (RFC 2578,
+    /// section 3.1).
     pub fn define(&self, name: &[u8]) -> Option<&Def>
         ensures { option_copied result ≡ lookup.definition_of self.now name.now }
     {
         definition_among(self.defs.as_slice(), name)
     }
 
-    /// The first FROM clause in the text that imports a name, if one does (RFC 2578, section 3.2).
+    /// Returns the first FROM clause in the text that imports `name`, if one does (RFC 2578,
+    /// section 3.2).
     pub fn import(&self, name: &[u8]) -> Option<&Import>
         ensures { option_copied result ≡ lookup.import_of self.now name.now }
     {
@@ -56,7 +59,7 @@ impl Module {
 /// The symbols that one FROM clause imports (RFC 2578, section 3.2).
 #[derive(Debug, Drop)]
 pub struct Import {
-    /// At least one, in the order of the text.
+    /// The symbols, at least one, in the order of the text.
     pub symbols: Items<TokenText>,
     /// The module after FROM.
     pub source: Name,
@@ -64,7 +67,7 @@ pub struct Import {
     pub line: usize,
 }
 
-/// A token that a tree keeps unchanged.
+/// A token that a tree stores unchanged.
 #[derive(Debug, Drop)]
 pub struct TokenText {
     pub kind: TokenKind,
@@ -114,7 +117,8 @@ pub enum DefKind {
 }
 
 impl Def {
-    /// The identifier value of the definition (RFC 2578, section 7.10). Types and macros have none.
+    /// Returns the identifier value of the definition (RFC 2578, section 7.10). Types and macros
+    /// have none.
     pub fn identifier(&self) -> Option<&Items<Part>>
         ensures { option_copied result ≡ lookup.identifier_value_of self.now.kind }
     {
@@ -134,8 +138,8 @@ impl Def {
         }
     }
 
-    /// The words that say what is defined, such as `OBJECT-TYPE`. The assignment of a type has
-    /// none.
+    /// Returns the words that say what is defined, such as `OBJECT-TYPE`. They are empty for the
+    /// assignment of a type.
     pub fn kind_words(&self) -> &'static [u8]
         ensures { result.now ≡ lookup.kind_words self.now.kind }
     {
@@ -163,15 +167,14 @@ impl Def {
 pub enum Part {
     /// A number from 0 to 4294967295.
     Number(Text),
-    /// A name alone. In a definition's value it stands in the first place only.
+    /// A name without a number. In a definition's value, only the first part can be one.
     Name(Name),
     /// A name with its number.
     NamedNumber(NamedNumber),
 }
 
 impl Part {
-    /// The number of a part of an identifier value, 0 to 4294967295, if it has one (RFC 2578,
-    /// section 7.10).
+    /// Returns the number of the part, 0 to 4294967295, if it has one (RFC 2578, section 7.10).
     pub fn number(&self) -> Option<u32>
         ensures { result ≡ lookup.part_number self.now }
     {
@@ -248,9 +251,9 @@ pub enum Index {
 /// The objects of an INDEX clause (RFC 2578, section 7.7).
 #[derive(Debug, Drop)]
 pub struct IndexParts {
-    /// At least one.
+    /// The objects, at least one.
     pub names: Items<Name>,
-    /// Whether IMPLIED stands before the last one.
+    /// Whether IMPLIED is before the last one.
     pub implied: bool,
 }
 
@@ -271,7 +274,7 @@ pub struct Group {
     pub value: Items<Part>,
 }
 
-/// A definition whose clauses are kept as tokens.
+/// A definition whose clauses are stored as tokens.
 #[derive(Debug, Drop)]
 pub struct RawDefinition {
     /// The tokens before `::=`.
@@ -352,7 +355,7 @@ pub struct Range {
     pub high: Option<TokenText>,
 }
 
-/// Whether one of the symbols of a FROM clause is this name.
+/// Returns whether one of the symbols of `import` is `name`.
 fn imports(import: &Import, name: &[u8]) -> bool
     ensures { result ≡ lookup.is_imported_by name.now import.now }
 {
@@ -363,14 +366,14 @@ fn imports(import: &Import, name: &[u8]) -> bool
         .any(|symbol| symbol.text.as_bytes() == name)
 }
 
-/// The first of these clauses that imports the name.
+/// Returns the first of `clauses` that imports `name`, if one does.
 fn import_among<'a>(clauses: &'a [Import], name: &[u8]) -> Option<&'a Import>
     ensures { option_copied result ≡ lookup.first_import name.now clauses.now }
 {
     clauses.iter().find(|clause| imports(clause, name))
 }
 
-/// The first of these definitions that defines the name.
+/// Returns the first of `defs` that defines `name`, if one does.
 fn definition_among<'a>(defs: &'a [Def], name: &[u8]) -> Option<&'a Def>
     ensures { option_copied result ≡ lookup.first_definition name.now defs.now }
 {
