@@ -1,4 +1,4 @@
--- What a text says of modules, and its faults.
+-- What a module text says, and why a text is refused.
 use Rattle.std.specs.Prelude.{◌≡◌, ℕ, true, List, [], ◌++◌, Option, Some, None}
 use Rattle.std.specs.List.{flat_map, list_any, list_all}
 use Rattle.smi_text.specs.lexer.Token.{Lexeme, Item, tokens_of, first_fault}
@@ -22,13 +22,13 @@ pub record AreSpelledBy (ms : List Module) (text : List ℕ) : Type 0 where
 abbrev pub HasNoDoubles : List Module → Type 0
 HasNoDoubles ms = list_all (λ m. are_distinct (labels m.defs)) ms ≡ true
 
--- the text breaks off with this fault
+-- the text breaks off with the fault
 pub record BreaksOff (fault : LexError) (text : List ℕ) : Type 0 where
   pub items : List Item
   pub lexed : Lexes [] text items
   pub at : first_fault items ≡ Some fault
 
--- the tokens begin with definitions; the last of them stands on this line, and is the first to
+-- the tokens begin with definitions; the last of these is on line `line`, and is the first to
 -- define a name a second time
 pub record HasSecond (line : ℕ) (tokens : List Lexeme) : Type 0 where
   pub before : List Def
@@ -39,7 +39,8 @@ pub record HasSecond (line : ℕ) (tokens : List Lexeme) : Type 0 where
   pub defined : list_any (same_text second.label.octets) (labels before) ≡ true
   pub on_line : second.line ≡ line
 
--- such definitions stand in a module of the text, after modules none of which defines a name twice
+-- the tokens begin with modules that define no name twice, and go on with one that defines a name
+-- a second time, on line `line`
 pub record DefinesAgain (line : ℕ) (tokens : List Lexeme) : Type 0 where
   pub modules : List Module
   pub once : HasNoDoubles modules
@@ -55,7 +56,7 @@ pub record HasDouble (line : ℕ) (text : List ℕ) : Type 0 where
   pub lexed : Lexes [] text items
   pub again : DefinesAgain line (tokens_of items)
 
--- when each error is returned; the text is not the cause where memory runs out
+-- the text has the cause of the error; if memory runs out, the text isn't the cause
 abbrev pub IsCause : ParseError → List ℕ → Type 0
 IsCause (E.Lex fault) text = BreaksOff fault text
 IsCause (E.Syntax line) text = (ms : List Module) → AreSpelledBy ms text → ⊥

@@ -1,4 +1,4 @@
--- The lexemes of a module text and what may stand between them, each as a relation on octets. SMIv2
+-- The lexemes of a module text and what can be between them, each as a relation on octets. SMIv2
 -- takes them from ASN.1 (RFC 2578, section 3; X.208, section 8). This lexer accepts more, because
 -- texts in use need it: `_` in words, a hyphen before digits as part of the number, and lower-case
 -- digits and letters in literals.
@@ -30,20 +30,20 @@ is_word_octet c = is_ascii_alphanumeric c || c == 95
 abbrev pub is_binary_digit : ℕ → Bool
 is_binary_digit c = c == 48 || c == 49
 
--- there is a first octet, and it passes the test
+-- whether there is a first octet, and it passes the test
 abbrev pub begins : (ℕ → Bool) → List ℕ → Bool
 begins test [] = false
 begins test (c ∷ cs) = test c
 
 -- ---- lexemes
 
--- letters, digits, `_`, and hyphens that one of these follows
+-- whether these are letters, digits, `_`, and hyphens that one of the others follows
 abbrev pub is_word_rest : List ℕ → Bool
 is_word_rest [] = true
 is_word_rest (c ∷ cs) = (is_word_octet c ||
     (is_hyphen c && begins is_word_octet cs)) && is_word_rest cs
 
--- a word: a first letter that passes the test, and then what may follow it
+-- a word: a first octet that passes the test, and then the rest of a word
 abbrev pub IsWord : (ℕ → Bool) → List ℕ → Type 0
 IsWord is_first text = (c : ℕ) × (rest : List ℕ) × (text ≡ c ∷ rest) × IsTrue (is_first c)
     × IsTrue (is_word_rest rest)
@@ -58,13 +58,13 @@ abbrev pub IsString : List ℕ → Type 0
 IsString text = (body : List ℕ) × (text ≡ codes "\"" ++ body ++ codes "\"")
     × IsTrue (list_all (λ c. not (c == 34)) body)
 
--- digits of a base, or none, between two `'`, and the base's letter in either case
+-- digits of a base, perhaps none, between two `'`, and then the base's letter in either case
 abbrev pub IsLiteral : (ℕ → Bool) → ℕ → ℕ → List ℕ → Type 0
 IsLiteral is_digit upper lower text = (digits : List ℕ) × (letter : ℕ)
     × (text ≡ codes "'" ++ digits ++ codes "'" ++ letter ∷ [])
     × IsTrue (list_all is_digit digits) × ((letter ≡ upper) ⊎ (letter ≡ lower))
 
--- the one text of a sign; none for a word, a number, a string or a literal
+-- the only text of a sign; it is empty for a word, a number, a string and a literal
 abbrev pub sign_text : TokenKind → List ℕ
 sign_text K.Assign = codes "::="
 sign_text K.Range = codes ".."
@@ -100,12 +100,12 @@ IsLexeme kind text = text ≡ sign_text kind
 abbrev pub IsRunOfHyphens : List ℕ → Type 0
 IsRunOfHyphens octets = (2 ≤ length octets) × IsTrue (list_all is_hyphen octets)
 
--- octets of one line, no two hyphens in a row among them
+-- whether these are octets of one line, with no two hyphens in a row
 abbrev pub is_remark : List ℕ → Bool
 is_remark [] = true
 is_remark (c ∷ cs) = not (is_newline c) && not (is_hyphen c && begins is_hyphen cs) && is_remark cs
 
--- A run of hyphens, a remark, and the next run or nothing. Where no other run follows on the line,
+-- A run of hyphens, a remark, and the next run or nothing. If no other run follows on the line,
 -- the longest comment ends before the line does.
 abbrev pub IsComment : List ℕ → Type 0
 IsComment text = (opening remark closing : List ℕ) × (text ≡ opening ++ remark ++ closing)
@@ -126,7 +126,7 @@ abbrev pub IsPart : Part → List ℕ → Type 0
 IsPart gap text = IsGap text
 IsPart (lexeme kind) text = IsLexeme kind text
 
--- a `"` or `'` with no other one after it
+-- whether the text begins with a `"` or `'` that isn't followed by another of its kind
 abbrev pub is_open_string : List ℕ → Bool
 is_open_string [] = false
 is_open_string (c ∷ cs) = (c == 34 || c == 39) && list_all (λ d. not (d == c)) cs

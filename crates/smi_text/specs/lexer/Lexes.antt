@@ -7,11 +7,11 @@ use Rattle.smi_text.specs.declared.lexer.token.LexError.TheVariants.{BadByte, Op
 use Rattle.smi_text.specs.lexer.Token.{Lexeme, Item}
 use Rattle.smi_text.specs.lexer.Lexeme.{Part, gap, lexeme, IsPart, is_newline, is_open_string}
 
--- the line of what follows these octets: lines count from 1, and end with LF
+-- the line of what follows `before`: lines count from 1, and end with LF
 abbrev pub line_behind : List ℕ → ℕ
 line_behind before = count_by is_newline before + 1
 
--- the lexeme that these octets are, after the octets before it
+-- the lexeme of the octets `text` after the octets `before`
 abbrev pub lexeme_behind : List ℕ → TokenKind → List ℕ → Lexeme
 lexeme_behind before kind text = record {
   kind = kind;
@@ -20,19 +20,18 @@ lexeme_behind before kind text = record {
   line = line_behind before;
 }
 
--- the fault of a text on this line at whose front no token or gap stands
+-- the fault of a text on line `line` at whose start no token or gap begins
 abbrev pub fault_on : ℕ → List ℕ → LexError
 fault_on line text = if is_open_string text then OpenString line else BadByte line
 
--- the first n octets of the text are this part, and no front with more octets is a part
+-- the first n octets of the text are the part, and no longer prefix is a part
 pub record IsLongest (part : Part) (n : ℕ) (text : List ℕ) : Type 0 where
   pub within : n ≤ length text
   pub is_one : IsPart part (take n text)
   pub longest : (other : Part) (m : ℕ) → n < m → m ≤ length text → IsPart other (take m text) → ⊥
 
--- After the octets `before`, the text is a sequence of gaps and lexemes, each the longest that
--- could stand there. The items are its tokens, and last the fault if the text breaks off before its
--- end.
+-- After the octets `before`, the text is a sequence of gaps and lexemes, each the longest that can
+-- begin there. The items are its tokens, and last the fault if the text breaks off before its end.
 pub data Lexes : List ℕ → List ℕ → List Item → Type 0 where
   ends : {before : List ℕ} → Lexes before [] []
   passes : {before text : List ℕ} {items : List Item} (n : ℕ) → IsLongest gap n text
@@ -46,8 +45,8 @@ pub data Lexes : List ℕ → List ℕ → List Item → Type 0 where
       → IsPart part (take m (c ∷ cs)) → ⊥)
       → Lexes before (c ∷ cs) (Err (fault_on (line_behind before) (c ∷ cs)) ∷ [])
 
--- from this place on each token comes after the one before it, is not empty, and has the source's
--- octets in its span as its text
+-- from offset `from` on, each token comes after the one before it, isn't empty, and has the
+-- source's octets in its span as its text
 abbrev pub AreInOrder : List ℕ → ℕ → List Lexeme → Type 0
 AreInOrder source from [] = Unit {0}
 AreInOrder source from (t ∷ ts) = (from ≤ t.span.start) × (t.span.start < t.span.end)

@@ -1,5 +1,6 @@
--- The tokens of a text, computed in the plain, slow way: every front of what is left is tried, the
--- longest first. A `Lexer` is seen as these. The law that this agrees with `Lexes` is in proofs/.
+-- The tokens of a text, computed in the plain, slow way: every prefix of what is left is tried,
+-- the longest first. Contracts see a `Lexer` as these. The law that this agrees with `Lexes` is in
+-- proofs/.
 use Rattle.std.specs.Prelude.{◌≡◌, ℕ, zero, suc, pred, ◌+◌, ◌<◌, ◌≤◌, ◌⊎◌, not, get_or, Bool, true}
 use Rattle.std.specs.Prelude.{false, if◌then◌else◌, ◌&&◌, ◌||◌, ◌==◌, Option, Some, None, Ok, Err}
 use Rattle.std.specs.Prelude.{List, [], ◌∷◌, length, take, drop, count_by}
@@ -28,7 +29,7 @@ symbol_among [] c = C.Other
 symbol_among (symbol ∷ others) c =
     if c == symbol.0 then C.Symbol symbol.1 else symbol_among others c
 
--- what an octet may begin
+-- what can begin with an octet
 abbrev pub class_of : ℕ → Class
 class_of c =
     if is_blank c then C.Blank
@@ -44,28 +45,28 @@ abbrev pub is_nothing : List ℕ → Bool
 is_nothing [] = true
 is_nothing (c ∷ cs) = false
 
--- one octet, which passes the test
+-- whether this is one octet, which passes the test
 abbrev pub is_sole : (ℕ → Bool) → List ℕ → Bool
 is_sole test [] = false
 is_sole test (c ∷ cs) = test c && is_nothing cs
 
--- the rest of a comment, after the run of hyphens that it begins with
+-- whether this is the rest of a comment, after the run of hyphens that it begins with
 abbrev pub is_remark_rest : List ℕ → Bool
 is_remark_rest [] = true
 is_remark_rest (c ∷ cs) = if is_newline c then false else
     (if is_hyphen c && begins is_hyphen cs then list_all is_hyphen cs else is_remark_rest cs)
 
--- the rest of a comment, after its first two hyphens
+-- whether this is the rest of a comment, after its first two hyphens
 abbrev pub is_comment_rest : List ℕ → Bool
 is_comment_rest [] = true
 is_comment_rest (c ∷ cs) = if is_hyphen c then is_comment_rest cs else is_remark_rest (c ∷ cs)
 
--- the rest of a string, after its first `"`
+-- whether this is the rest of a string, after its first `"`
 abbrev pub is_string_rest : List ℕ → Bool
 is_string_rest [] = false
 is_string_rest (c ∷ cs) = if c == 34 then is_nothing cs else is_string_rest cs
 
--- the rest of a literal, after its first `'`
+-- whether this is the rest of a literal, after its first `'`
 abbrev pub is_literal_rest : (ℕ → Bool) → (ℕ → Bool) → List ℕ → Bool
 is_literal_rest is_digit is_letter [] = false
 is_literal_rest is_digit is_letter
@@ -97,7 +98,7 @@ symbol_part K.Colon (c ∷ cs) = then_some (c == 58 && is_sole (λ d. d == 61) c
 symbol_part K.Dot (c ∷ cs) = then_some (c == 46 && is_nothing cs) (lexeme K.Range)
 symbol_part _ (c ∷ cs) = None
 
--- the part that an octet of this class and the octets after it are, if they are one
+-- the part that an octet of the class and the octets after it make, if they make one
 abbrev pub part_in : Class → List ℕ → Option Part
 part_in C.Blank cs = then_some (is_nothing cs) gap
 part_in C.Lowercase cs = then_some (is_word_rest cs) (lexeme K.Lower)
@@ -113,14 +114,14 @@ unfoldable pub part_of : List ℕ → Option Part
 part_of [] = None
 part_of (c ∷ cs) = part_in (class_of c) cs
 
--- ---- the longest front
+-- ---- the longest prefix
 
 -- the part of this length if there is one, otherwise the shorter one
 abbrev pub part_or_shorter : ℕ → Option Part → Option (Part × ℕ) → Option (Part × ℕ)
 part_or_shorter n None shorter = shorter
 part_or_shorter n (Some part) shorter = Some (part, n)
 
--- the longest front of at most n octets that is a part, and its length
+-- the part that the longest prefix of at most n octets makes, and its length
 abbrev pub longest_front : ℕ → List ℕ → Option (Part × ℕ)
 longest_front zero text = None
 longest_front (suc n) text = part_or_shorter (suc n) (part_of (take (suc n) text))
@@ -139,23 +140,24 @@ lexeme_at at lines kind text = record {
   line = lines + 1;
 }
 
--- what a part of these octets gives, before the items of the rest
+-- the items of a part, before those of the rest
 abbrev pub part_items : ℕ → ℕ → Part → List ℕ → List Item → List Item
 part_items at lines gap octets rest = rest
 part_items at lines (lexeme kind) octets rest = Ok (lexeme_at at lines kind octets) ∷ rest
 
--- what the longest front gives, before the items of the rest
+-- the items of the longest prefix that is a part, before those of the rest; or the fault, if no
+-- prefix is one
 abbrev pub front_items : ℕ → ℕ → List ℕ → Option (Part × ℕ) → List Item → List Item
 front_items at lines text None rest = Err (fault_on (lines + 1) text) ∷ []
 front_items at lines text (Some front) rest = part_items at lines front.0 (take front.1 text) rest
 
--- how far the front goes beyond its first octet
+-- the number of octets of the prefix after its first
 abbrev pub front_rest : Option (Part × ℕ) → ℕ
 front_rest None = 0
 front_rest (Some front) = pred front.1
 
 -- the items of a text of which the first `skipped` octets are read already; `at` octets, in which
--- `lines` lines end, stand before it
+-- `lines` lines end, are before it
 unfoldable pub items_at : ℕ → ℕ → ℕ → List ℕ → List Item
 items_at skipped at lines [] = []
 items_at (suc skipped) at lines (c ∷ cs) = items_at skipped (at + 1) (lines + newlines (c ∷ [])) cs
@@ -166,26 +168,26 @@ items_at zero at lines (c ∷ cs) =
 
 -- ---- for private functions
 
--- the kind of literal that these digits and this letter make, if they make one
+-- the kind of literal that the digits and the letter make, if they make one
 abbrev pub literal_of : List ℕ → ℕ → Option Part
 literal_of digits letter =
     if list_all is_ascii_hexdigit digits && is_hex_letter letter then Some (lexeme K.Hex)
     else then_some (list_all is_binary_digit digits && is_binary_letter letter) (lexeme K.Binary)
 
--- the front of n octets passes the test, and no front with more octets does
+-- n is the length of the longest prefix of the text that passes the test
 pub record IsLongestPassing (test : List ℕ → Bool) (text : List ℕ) (n : ℕ) : Type 0 where
   pub within : n ≤ length text
   pub passes : test (take n text) ≡ true
   pub longest : (m : ℕ) → n < m → m ≤ length text → test (take m text) ≡ false
 
--- the front of n octets reads as this part, and no front with more octets reads as a part
+-- the prefix of n octets reads as the part, and no longer prefix reads as a part
 pub record IsPartFront (reading : List ℕ
     → Option Part) (text : List ℕ) (part : Part) (n : ℕ) : Type 0 where
   pub within : n ≤ length text
   pub reads : reading (take n text) ≡ Some part
   pub longest : (m : ℕ) → n < m → m ≤ length text → reading (take m text) ≡ None
 
--- no front reads as a lexeme; no front is a gap
+-- no prefix reads as a lexeme, and no prefix is a gap
 abbrev pub HasNoLexeme : (List ℕ → Option Part) → List ℕ → Type 0
 HasNoLexeme reading text = (kind : TokenKind) (m : ℕ)
     → reading (take m text) ≡ Some (lexeme kind) → ⊥
@@ -193,22 +195,23 @@ HasNoLexeme reading text = (kind : TokenKind) (m : ℕ)
 abbrev pub HasNoGap : List ℕ → Type 0
 HasNoGap text = (m : ℕ) → part_of (take m text) ≡ Some gap → ⊥
 
--- the kind and length of the lexeme that the longest front is, or None if no front is a lexeme
+-- the result is the kind and the length of the lexeme that the longest prefix makes, or None if no
+-- prefix makes a lexeme
 abbrev pub IsLexemeFront : (List ℕ → Option Part) → List ℕ → Option (TokenKind × ℕ) → Type 0
 IsLexemeFront reading text None = HasNoLexeme reading text
 IsLexemeFront reading text (Some front) = IsPartFront reading text (lexeme front.0) front.1
 
--- the first n octets, in which this many lines end, give no item
+-- the first n octets, in which `lines` lines end, add no item
 abbrev pub Skips : List ℕ → ℕ → ℕ → Type 0
 Skips text n lines = (at before : ℕ)
     → items_at 0 at before text ≡ items_at 0 (at + n) (before + lines) (drop n text)
 
--- the first n octets make no difference to the test of a front of n octets or more
+-- the first n octets make no difference to the test of a prefix of n octets or more
 pub record GoesOn (test : List ℕ → Bool) (text : List ℕ) (n : ℕ) : Type 0 where
   pub within : n ≤ length text
   pub same : (k : ℕ) → test (take (n + k) text) ≡ test (take k (drop n text))
 
--- the line ends here, or two hyphens stand here
+-- the text is empty, or begins with a newline or two hyphens
 abbrev pub IsRemarkEnd : List ℕ → Type 0
 IsRemarkEnd [] = Unit {0}
 IsRemarkEnd (c ∷ []) = c ≡ 10
@@ -217,36 +220,36 @@ IsRemarkEnd (c ∷ d ∷ cs) = (c ≡ 10) ⊎ ((c ≡ 45) × (d ≡ 45))
 abbrev pub is_space_or_tab : ℕ → Bool
 is_space_or_tab c = c == 32 || c == 9
 
--- the place of the lowest bit that is set in the mask of a load, or 16, the octets of a load
+-- the index of the lowest bit that is set in the mask of a load, or 16, the number of its octets
 abbrev pub first_set : ℕ → ℕ
 first_set mask = if mask == 0 then 16 else trailing_zeros w64 mask
 
--- of the 16 octets from `at` on, the first `run` pass the test, and the next one, if there is one,
--- fails it
+-- of the 16 octets from offset `at` on, the first `run` pass the test, and the next one, if there
+-- is one, fails it
 pub record IsRunIn (test : ℕ → Bool) (text : List ℕ) (at run : ℕ) : Type 0 where
   pub within : run ≤ 16
   pub passes : (k : ℕ) → at ≤ k → k < at + run → test (get_or text k 0) ≡ true
   pub stops : run < 16 → test (get_or text (at + run) 0) ≡ false
 
--- the octets from one place up to the other pass the test
+-- the octets from offset `from` up to offset `to` pass the test
 pub record ArePassedBetween (test : ℕ → Bool) (text : List ℕ) (from to : ℕ) : Type 0 where
   pub ordered : from ≤ to
   pub within : to ≤ length text
   pub passes : (k : ℕ) → from ≤ k → k < to → test (get_or text k 0) ≡ true
 
--- the octets from one place up to the other pass the test, and the octet at the other place, if
--- there is one, fails it
+-- the octets from offset `from` up to offset `to` pass the test, and the octet at `to`, if there
+-- is one, fails it
 pub record IsRunBetween (test : ℕ → Bool) (text : List ℕ) (from to : ℕ) : Type 0 where
   pub ordered : from ≤ to
   pub within : to ≤ length text
   pub passes : (k : ℕ) → from ≤ k → k < to → test (get_or text k 0) ≡ true
   pub stops : to < length text → test (get_or text to 0) ≡ false
 
--- the octet is another one than this
+-- whether the octet is another one than `octet`
 abbrev pub is_other : ℕ → ℕ → Bool
 is_other octet c = not (c == octet)
 
--- where an octet stands first, or None where it does not occur
+-- the result is the offset of the first such octet, or None if it doesn't occur
 abbrev pub IsFirstPlace : ℕ → List ℕ → Option ℕ → Type 0
 IsFirstPlace octet text None = list_all (is_other octet) text ≡ true
 IsFirstPlace octet text (Some i) = (i < length text) × (get_or text i 0 ≡ octet)

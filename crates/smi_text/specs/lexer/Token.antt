@@ -1,9 +1,9 @@
--- Tokens as contracts see them: what a token says, without where its text lies in memory.
+-- Tokens as contracts see them: what a token says, without where its text is in memory.
 use Rattle.std.specs.Prelude.{ℕ, List, [], ◌∷◌, Option, Some, None, Result, Ok, Err}
 use Rattle.smi_text.specs.{declared.lexer.token.TokenKind.TokenKind, declared.lexer.token.Span.Span}
 use Rattle.smi_text.specs.{declared.lexer.token.Token.Token, declared.lexer.token.LexError.LexError}
 
--- a token: its kind, where it stands in the source, its octets, and the line of the first of them
+-- a token: its kind, its position in the source, its octets, and the line of the first of them
 pub record Lexeme : Type 0 where
   pub kind : TokenKind
   pub span : Span

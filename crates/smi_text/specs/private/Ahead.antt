@@ -1,5 +1,5 @@
--- What is left of a text while it is read: the item that the lexer returned last, and those that it
--- will still return.
+-- What is left of a text while it is read: the item that the lexer returned last, and those that
+-- it will still return.
 use Rattle.std.specs.Prelude.{List, [], ◌∷◌, Option, Some, None, Result}
 use Rattle.smi_text.specs.{lexer.Token.Item, lexer.Token.item_of, declared.lexer.token.Token.Token}
 use Rattle.smi_text.specs.declared.lexer.token.LexError.{LexError}

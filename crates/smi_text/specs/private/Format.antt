@@ -1,4 +1,4 @@
--- Productions of the grammar as values: how a part of the tree is read from the front of the
+-- Productions of the grammar as values: how a part of the tree is read from the start of the
 -- tokens, what it begins with, and what must not follow it.
 use Rattle.std.specs.Prelude.{◌≡◌, ℕ, Bool, true, false, ◌&&◌, ◌||◌, not, List, [], ◌∷◌, ◌++◌}
 use Rattle.std.specs.Prelude.{length, Option, Some, None, Ok, Err, drop, if◌then◌else◌}
@@ -12,8 +12,8 @@ use Rattle.smi_text.specs.{trees.Reserved.is_reserved, declared.trees.names.Name
 use Rattle.smi_text.specs.trees.Mark.{Mark, same_kind, same_text, MarksToken}
 use Rattle.smi_text.specs.lexer.Lexeme.{sign_text}
 
--- a condition on the token ahead: it is this word of the grammar, a name in upper case, or of this
--- kind; or it is not this word, or not of this kind
+-- a condition on the token ahead: it is this word of the grammar, a name that begins with an
+-- upper-case letter, or of this kind; or it isn't this word, or isn't of this kind
 pub data Ahead : Type 0 where
   a_word : List ℕ → Ahead
   a_name : Ahead
@@ -31,7 +31,7 @@ meets t (a_kind k) = same_kind t.kind k
 meets t (no_word w) = not (is_this_word w t)
 meets t (no_kind k) = not (same_kind t.kind k)
 
--- the token ahead, if the text neither ends nor breaks off here
+-- the token ahead, unless the text ends or breaks off here
 abbrev pub token_ahead : List Item → Option Lexeme
 token_ahead [] = None
 token_ahead (Ok t ∷ items) = Some t
@@ -41,18 +41,18 @@ abbrev pub meets_any : List Ahead → Option Lexeme → Bool
 meets_any cs None = false
 meets_any cs (Some t) = list_any (meets t) cs
 
--- the items begin with one of these tokens
+-- whether the items begin with a token that meets one of the conditions
 unfoldable pub begins : List Ahead → List Item → Bool
 begins cs items = meets_any cs (token_ahead items)
 
--- the items are the tokens that the marks say, and then the rest
+-- the items are the tokens that the marks say, followed by `rest`
 abbrev pub StandsAhead : List Mark → List Item → List Item → Type 0
 StandsAhead [] items rest = items ≡ rest
 StandsAhead (m ∷ ms) [] rest = ⊥
 StandsAhead (m ∷ ms) (Ok t ∷ items) rest = MarksToken m t × StandsAhead ms items rest
 StandsAhead (m ∷ ms) (Err fault ∷ items) rest = ⊥
 
--- no token meets both conditions; those of different forms are compared in one order only
+-- whether no token meets both conditions; those of different forms are compared in one order only
 abbrev pub half_apart : Ahead → Ahead → Bool
 half_apart (a_word v) (a_word w) = not (same_text v w)
 half_apart (a_word v) a_name = is_reserved v
@@ -64,7 +64,7 @@ half_apart (a_kind j) (no_kind k) = same_kind j k
 half_apart (a_kind j) (no_word w) = false
 half_apart _ _ = false
 
--- no token meets a condition of each of the two lists
+-- whether no token meets a condition of each of the two lists
 abbrev pub apart : List Ahead → List Ahead → Bool
 apart cs ds = list_all (λ c. list_all (λ d. half_apart c d || half_apart d c) ds) cs
 
@@ -81,7 +81,7 @@ pub record Format (A : Type 0) : Type 0 where
   -- whether it may be read from no token
   pub empty : Bool
 
--- one token: what `pick` takes from it, if it takes anything, and the items after it
+-- one token: what `pick` takes from it, if anything, and the items after it
 abbrev pub one : {A : Type 0} → List Ahead → (Lexeme → Option A) → Format A
 one cs pick = record {
   read = λ ts. option_map (λ x. (x, drop 1 ts)) (option_and_then pick (token_ahead ts));
@@ -119,16 +119,16 @@ name_when x false other = None
 abbrev pub name_of : List ℕ → Option Name
 name_of x = name_when x (is_word x) refl
 
--- a name that passes a test, of a token of this kind
+-- a name that passes the test, from a token of this kind
 abbrev pub name_where : List Ahead → TokenKind → (List ℕ → Bool) → Format Name
 name_where cs k ok =
     one cs (λ t. if same_kind t.kind k && ok t.text then name_of t.text else None)
 
--- a name in lower case
+-- a name that begins with a lower-case letter
 unfoldable pub lower : Format Name
 lower = name_where (a_kind Lower ∷ []) Lower (λ _. true)
 
--- a name in upper case, which is not a reserved word
+-- a name that begins with an upper-case letter and isn't a reserved word
 unfoldable pub name : Format Name
 name = name_where (a_name ∷ []) Upper (λ x. not (is_reserved x))
 
@@ -154,7 +154,7 @@ shaped to f = record {
   empty = f.empty;
 }
 
--- a part that follows tokens of which nothing is kept, and one before such tokens
+-- a part after tokens that aren't stored, and a part before such tokens
 unfoldable pub behind : {A : Type 0} → Format (Unit {0}) → Format A → Format A
 behind {A} w f = shaped (λ (p : (Unit {0}) × A). p.1) (pair w f)
 
@@ -181,7 +181,7 @@ either f g = record {
   empty = false;
 }
 
--- any number of one part, read while one begins; the number bounds the recursion
+-- any number of one part, read as long as one begins; the number bounds the recursion
 unfoldable pub read_many : {A : Type 0} → Format A → ℕ → List Item → Parsed (List A)
 read_many f zero ts = Some ([], ts)
 read_many f (suc n) ts =
@@ -196,7 +196,7 @@ many f = record {
   empty = true;
 }
 
--- these parts before those that were read
+-- `xs` before the parts that were read
 unfoldable pub with_front : {A : Type 0} → List A → Parsed (List A) → Parsed (List A)
 with_front xs r = option_map (λ p. (xs ++ p.0, p.1)) r
 
@@ -213,7 +213,7 @@ some_of f g = record {
 unfoldable pub separated : {A : Type 0} → TokenKind → Format A → Format (List A)
 separated k f = some_of f (behind (token k) f)
 
--- the line of the token ahead
+-- the line of the token ahead, or 0 if no token is ahead
 abbrev pub line_ahead : List Item → ℕ
 line_ahead items = unwrap_or (option_map (λ t. t.line) (token_ahead items)) 0
 

@@ -1,5 +1,5 @@
 -- The productions of the grammar as formats: each reads the part of the tree that its case of the
--- spelling states.
+-- spelling spells.
 use Rattle.std.specs.Prelude.{ℕ, ◌+◌, ◌-◌, ◌==◌, Bool, true, false, ◌&&◌, not, List, [], ◌∷◌, ◌++◌}
 use Rattle.std.specs.Prelude.{length, Option, Some, None, Ok, Err, codes, map, if◌then◌else◌}
 use Rattle.std.specs.Prelude.{option_and_then, option_map}
@@ -52,7 +52,7 @@ braced f = behind (token K.OpenBrace) (before f (token K.CloseBrace))
 unfoldable pub parenthesized : {A : Type 0} → Format A → Format A
 parenthesized f = behind (token K.OpenParen) (before f (token K.CloseParen))
 
--- a token that is kept unchanged, for which a test holds
+-- a token that is stored unchanged, and passes a test
 abbrev pub kept_text : Lexeme → TokenText
 kept_text t = record { kind = t.kind; text = t.text }
 
@@ -69,7 +69,7 @@ to_part (inl n) = P.Number n
 to_part (inr (x, None)) = P.Name x
 to_part (inr (x, Some n)) = P.NamedNumber (record { name = x; number = n })
 
--- a part in the first place, or in a heading
+-- the first part of an identifier value, or a part of a heading
 unfoldable pub part : Format Part
 part = shaped to_part (either arc (pair lower (maybe (parenthesized arc))))
 
@@ -77,7 +77,7 @@ abbrev pub to_later_part : List ℕ ⊎ (Name × List ℕ) → Part
 to_later_part (inl n) = P.Number n
 to_later_part (inr (x, n)) = P.NamedNumber (record { name = x; number = n })
 
--- a part in a later place
+-- a part of an identifier value after the first
 unfoldable pub later_part : Format Part
 later_part = shaped to_later_part (either arc (pair lower (parenthesized arc)))
 
@@ -173,7 +173,7 @@ implied_name = behind (word (codes "IMPLIED")) lower
 abbrev pub index_parts : List Name → Bool → IndexParts
 index_parts xs implied = record { names = xs; implied = implied }
 
--- these names, and then those that were read
+-- `xs` before the names that were read
 unfoldable pub with_names : List Name → Parsed IndexParts → Parsed IndexParts
 with_names xs r = option_map (λ p. (index_parts (xs ++ p.0.names) p.0.implied, p.1)) r
 
@@ -218,13 +218,13 @@ unfoldable pub before_end : Format TokenText
 before_end = kept (no_word (codes "END") ∷ []) (λ k x. not (same_kind k K.Upper && same_text x
     (codes "END")))
 
--- how many braces are open after a token of this kind
+-- how many braces are open after a token of this kind; `depth` are open before it
 abbrev pub depth_after : TokenKind → ℕ → ℕ
 depth_after k depth =
     if same_kind k K.OpenBrace then depth + 1 else
     (if same_kind k K.CloseBrace then depth - 1 else depth)
 
--- a token of this kind closes a brace where none is open
+-- whether a token of this kind closes a brace that isn't open; `depth` are open before it
 abbrev pub is_outside : TokenKind → ℕ → Bool
 is_outside k depth = same_kind k K.CloseBrace && (depth == 0)
 
@@ -320,7 +320,7 @@ textual_convention =
     (behind (word (codes "TEXTUAL-CONVENTION"))
     (pair (maybe (clause (codes "DISPLAY-HINT"))) (pair status syntax_clause)))
 
--- a definition of a name in lower case, by what follows the name
+-- a definition of a name that begins with a lower-case letter, by what follows the name
 abbrev pub to_lower : ObjectType ⊎ (List Part ⊎ (ObjectIdentity ⊎ (ModuleIdentity
     ⊎ (NotificationType ⊎ (Group ⊎ (Group ⊎ (RawDefinition ⊎ RawDefinition))))))) → DefKind
 to_lower (inl d) = D.ObjectType d
@@ -350,7 +350,7 @@ tag =
     (before (text_where K.Number is_number) (behind (token K.CloseBracket) (word
     (codes "IMPLICIT")))))
 
--- what follows a name in upper case and `::=`
+-- what follows a name that begins with an upper-case letter and `::=`
 abbrev pub Assigned : Type 0
 Assigned = TextualConvention ⊎ (List TokenText ⊎ ((List ℕ
     × Syntax) ⊎ ((List Field ⊎ Name) ⊎ SimpleType)))
@@ -385,12 +385,12 @@ abbrev pub to_upper : DefKind ⊎ DefKind → DefKind
 to_upper (inl k) = k
 to_upper (inr k) = k
 
--- what follows a name in upper case
+-- what follows a name that begins with an upper-case letter
 unfoldable pub upper_definition : Format DefKind
 upper_definition = shaped to_upper (either (behind
     (token K.Assign) assigned) macro_definition)
 
--- the name of a macro that is a reserved word
+-- the token ahead is a reserved word that names a macro
 abbrev pub macro_words : List Ahead
 macro_words = map a_word macros
 

@@ -19,8 +19,8 @@ abbrev pub is_memory : Stop → Bool
 is_memory Memory = true
 is_memory _ = false
 
--- the part that is read and the tokens after it; or a stop, where no part can be read or memory ran
--- out
+-- the step returns the part that is read, and leaves the tokens after it; or it stops, because no
+-- part can be read or memory ran out
 abbrev pub ReturnsReading : {A : Type 0} → Result A Stop → List Item → Parsed A → Type 0
 ReturnsReading (Ok x) rest r = r ≡ Some (x, rest)
 ReturnsReading (Err e) rest r = is_memory e ≡ false → r ≡ None
@@ -37,7 +37,7 @@ error_of Memory = E.Memory
 abbrev pub text_ahead : List Item → List ℕ
 text_ahead items = unwrap_or (option_map (λ t. t.text) (token_ahead items)) []
 
--- the name of the definition that is ahead
+-- the result is the name of the definition that is ahead, or None if no definition is
 abbrev pub IsLabelAhead : Option (Bor (List ℕ)) → List Item → Type 0
 IsLabelAhead None tokens = begins definition.first tokens ≡ false
 IsLabelAhead (Some x) tokens = (begins definition.first tokens ≡ true) × (x.now ≡ text_ahead tokens)
@@ -46,20 +46,20 @@ pub record ReadsDefinitions (defs : List Def) (tokens rest : List Item) : Type 0
   pub read : (many definition).read tokens ≡ Some (defs, rest)
   pub distinct : are_distinct (labels defs) ≡ true
 
--- the definition ahead is read, and stands behind those before it
+-- the definition ahead is read, and appended to those before it
 pub record AppendsDefinition (before after : List Def) (tokens rest : List Item) : Type 0 where
   pub def : Def
   pub read : definition.read tokens ≡ Some (def, rest)
   pub appended : after ≡ before ++ def ∷ []
 
--- the definition ahead is on this line
+-- the definition ahead is on line `line`
 pub record IsDefinitionOn (line : ℕ) (tokens : List Item) : Type 0 where
   pub def : Def
   pub rest : List Item
   pub read : definition.read tokens ≡ Some (def, rest)
   pub on_line : def.line ≡ line
 
--- why there is no new definition ahead; `defined` says that its name is defined already
+-- why no new definition is ahead; `defined` says that its name is defined already
 abbrev pub NewDefinitionFault : ParseError → (defined : Bool) → List Item → Type 0
 NewDefinitionFault (E.DoubleName line) defined tokens =
     (defined ≡ true) × IsDefinitionOn line tokens
@@ -75,7 +75,7 @@ pub record ReadsModule (m : Module) (tokens rest : List Item) : Type 0 where
   pub read : module_text.read tokens ≡ Some (m, rest)
   pub distinct : are_distinct (labels m.defs) ≡ true
 
--- a module up to the second definition of a name
+-- the tokens begin with a module up to its second definition of a name, on line `line`
 pub record OpensTwice (line : ℕ) (tokens : List Lexeme) : Type 0 where
   pub name : Name
   pub heading : Option (List Part)
@@ -98,14 +98,14 @@ ModulesFault (E.DoubleName line) tokens = DefinesAgain line (tokens_of tokens)
 ModulesFault E.Memory tokens = Unit {0}
 ModulesFault _ tokens = (ms : List Module) → file.read tokens ≡ Some (ms, []) → ⊥
 
--- what may be reported where the reading stopped at a fault of the lexer: the fault at which the
--- text breaks off, or wrong syntax
+-- what may be reported if the reading stopped at a fault of the lexer: the fault at which the text
+-- breaks off, or wrong syntax
 abbrev pub IsLexFault : ParseError → List ℕ → Type 0
 IsLexFault (E.Lex fault) text = BreaksOff fault text
 IsLexFault (E.Syntax line) text = Unit {0}
 IsLexFault _ text = ⊥
 
--- what may be reported for the error with which the reading stopped: any other one as it is
+-- what may be reported for the error with which the reading stopped: any other error as it is
 abbrev pub IsCauseOf : ParseError → ParseError → List ℕ → Type 0
 IsCauseOf (E.Lex fault) error text = IsLexFault error text
 IsCauseOf stop error text = error ≡ stop

@@ -1,12 +1,12 @@
--- Balanced braces, as X.208 and RFC 2578 mean them where a value or a type stands between braces
--- and is kept as tokens; and the same by counting, as the law `balanced_braces` says.
+-- Balanced braces, as X.208 and RFC 2578 mean them for a value or a type between braces that is
+-- stored as tokens; and the same by counting, as the law `balanced_braces` says.
 use Rattle.std.specs.Prelude.{◌≡◌, ◌≢◌, ℕ, ◌==◌, Bool, ◌&&◌, nat_le, List, [], ◌∷◌, ◌++◌, map}
 use Rattle.std.specs.{Prelude.count_by, List.list_all}
 use Rattle.smi_text.specs.declared.lexer.token.TokenKind.TheVariants.{OpenBrace, CloseBrace}
 use Rattle.smi_text.specs.{declared.trees.tree.TokenText.TokenText, trees.Mark.same_kind}
 
--- each opening brace is followed by the brace that closes it, with balanced tokens between the two,
--- and there is no other closing brace
+-- each opening brace is followed by the brace that closes it, with balanced tokens between the
+-- two, and no other token is a closing brace
 pub data IsBalanced : List TokenText → Type 0 where
   none : IsBalanced []
   other : {x : TokenText} {xs : List TokenText} → x.kind ≢ OpenBrace → x.kind ≢ CloseBrace
@@ -15,20 +15,20 @@ pub data IsBalanced : List TokenText → Type 0 where
       → last.kind ≡ CloseBrace → IsBalanced inner → IsBalanced rest
       → IsBalanced (first ∷ (inner ++ last ∷ rest))
 
--- how many of the tokens open a brace, and how many close one
+-- the number of tokens that open a brace, and of those that close one
 abbrev pub opening_braces : List TokenText → ℕ
 opening_braces xs = count_by (λ x. same_kind x.kind OpenBrace) xs
 
 abbrev pub closing_braces : List TokenText → ℕ
 closing_braces xs = count_by (λ x. same_kind x.kind CloseBrace) xs
 
--- the fronts of the tokens, the empty one and the whole list included
+-- the prefixes of the tokens, the empty one and the whole list included
 abbrev pub fronts : List TokenText → List (List TokenText)
 fronts [] = [] ∷ []
 fronts (x ∷ xs) = [] ∷ map (λ front. x ∷ front) (fronts xs)
 
--- each front opens at least as many braces as it closes, and the whole list opens as many as it
--- closes
+-- whether each prefix opens at least as many braces as it closes, and the whole list opens as many
+-- as it closes
 unfoldable pub has_balanced_braces : List TokenText → Bool
 has_balanced_braces xs =
     list_all (λ front. nat_le (closing_braces front) (opening_braces front)) (fronts xs)

@@ -4,12 +4,12 @@ use Rattle.smi_text.specs.{trees.Mark.Mark, trees.Mark.spelled, trees.Mark.on_li
 use Rattle.smi_text.specs.{declared.trees.tree.Module.Module, declared.trees.tree.Def.Def}
 use Rattle.smi_text.specs.declared.trees.tree.Import.{Import}
 
--- what a mark says of a token, without its line
+-- what the mark says of a token, without its line
 abbrev pub plain : Mark → Mark
 plain (spelled k x ok) = spelled k x ok
 plain (on_line n m) = plain m
 
--- the tree with 0 in place of each line
+-- the module with 0 as each line
 abbrev pub unlined : Module → Module
 unlined m = record m {
   imports = option_map (map (λ (x : Import). record x { line = 0 })) m.imports;

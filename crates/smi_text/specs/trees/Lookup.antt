@@ -9,15 +9,15 @@ use Rattle.smi_text.specs.declared.trees.tree.DefKind.{DefKind}
 use Rattle.smi_text.specs.declared.trees.tree.DefKind.TheVariants as D
 use Rattle.smi_text.specs.declared.trees.tree.Part.TheVariants as P
 
--- the definition is of this name
+-- whether the definition is of the name
 abbrev pub defines : List ℕ → Def → Bool
 defines name d = same_text d.label.octets name
 
--- this name is one of the symbols of the clause
+-- whether the name is one of the symbols of the clause
 abbrev pub is_imported_by : List ℕ → Import → Bool
 is_imported_by name i = list_any (λ s. same_text s.text name) i.symbols
 
--- the FROM clauses of a module, none if it has no IMPORTS
+-- the FROM clauses of a module; none if it has no IMPORTS
 abbrev pub import_clauses : Module → List Import
 import_clauses m = unwrap_or m.imports []
 
@@ -40,13 +40,12 @@ import_of m name = first_import name (import_clauses m)
 abbrev pub labels : List Def → List (List ℕ)
 labels ds = map (λ d. d.label.octets) ds
 
--- no label occurs twice
+-- whether no label occurs twice
 abbrev pub are_distinct : List (List ℕ) → Bool
 are_distinct [] = true
 are_distinct (x ∷ xs) = not (list_any (same_text x) xs) && are_distinct xs
 
--- the identifier that a definition gives its name (RFC 2578, section 3.6); types and macros give
--- none
+-- the identifier value of a definition (RFC 2578, section 3.6); types and macros have none
 abbrev pub identifier_value_of : DefKind → Option (List Part)
 identifier_value_of (D.ObjectIdentifier v) = Some v
 identifier_value_of (D.ModuleIdentity d) = Some d.value

@@ -1,4 +1,4 @@
--- The marks with which a module tree is spelled, and when tokens are what marks say.
+-- The marks that spell a module tree, and when tokens are what marks say.
 use denote.Enum.Bare.{sameb}
 use Rattle.std.specs.Prelude.{◌≡◌, ℕ, Bool, true, List, [], ◌∷◌}
 use Rattle.std.specs.Str.{bytes_eq}
@@ -10,18 +10,18 @@ use Rattle.smi_text.specs.lexer.Lexeme.{sign_text}
 abbrev pub same_kind : TokenKind → TokenKind → Bool
 same_kind = sameb the_type
 
--- the same octets
+-- whether two texts have the same octets
 abbrev pub same_text : List ℕ → List ℕ → Bool
 same_text = bytes_eq
 
 -- what the tree says of one token
 pub data Mark : Type 0 where
-  -- a token of this kind and text, for which the flag holds
+  -- a token of this kind and text, if the flag is true; otherwise no token
   spelled : TokenKind → List ℕ → Bool → Mark
   -- such a token, on this line
   on_line : ℕ → Mark → Mark
 
--- a token of this kind, which has one text
+-- a token of this kind, which has only one text
 abbrev pub sign : TokenKind → Mark
 sign k = spelled k (sign_text k) true
 
@@ -30,7 +30,7 @@ abbrev pub MarksToken : Mark → Lexeme → Type 0
 MarksToken (spelled k x ok) t = (t.kind ≡ k) × (t.text ≡ x) × (ok ≡ true)
 MarksToken (on_line n m) t = MarksToken m t × (t.line ≡ n)
 
--- the tokens are those that the marks say, and then the rest
+-- the tokens are those that the marks say, followed by `rest`
 abbrev pub Stands : List Mark → List Lexeme → List Lexeme → Type 0
 Stands [] ts rest = ts ≡ rest
 Stands (m ∷ ms) [] rest = ⊥

@@ -1,5 +1,5 @@
--- The reserved words: those that stand in quotes in the grammar. Of names, only that of a macro may
--- be one of them.
+-- The reserved words: those in quotes in the grammar. A name can't be one of them, unless it names
+-- a macro.
 use Rattle.std.specs.Prelude.{ℕ, Bool, List, [], ◌∷◌, codes}
 use Rattle.std.specs.List.{list_any}
 use Rattle.smi_text.specs.trees.Mark.{same_text}
@@ -30,6 +30,6 @@ reserved_words =
     codes "INDEX" ∷ codes "IMPLIED" ∷ codes "AUGMENTS" ∷ codes "OF" ∷ codes "INTEGER" ∷
     codes "OCTET" ∷ codes "STRING" ∷ codes "BITS" ∷ codes "SIZE" ∷ []
 
--- the text is one of these
+-- whether the text is a reserved word
 unfoldable pub is_reserved : List ℕ → Bool
 is_reserved x = list_any (same_text x) reserved_words

@@ -45,7 +45,7 @@ upper x = spelled K.Upper x.octets (not (is_reserved x.octets))
 abbrev pub lower : Name → Mark
 lower x = spelled K.Lower x.octets true
 
--- a LOWER that is kept as a text, not as a name
+-- a LOWER that is stored as a text, not as a name
 abbrev pub lower_text : List ℕ → Mark
 lower_text x = spelled K.Lower x true
 
@@ -99,7 +99,7 @@ of_part (P.Number n) = arc n ∷ []
 of_part (P.Name x) = lower x ∷ []
 of_part (P.NamedNumber n) = of_named_arc n
 
--- a part in a later place: not LOWER alone
+-- a part after the first: not LOWER without a number
 abbrev pub of_later_part : Part → List Mark
 of_later_part (P.Number n) = arc n ∷ []
 of_later_part (P.Name x) = nothing
@@ -172,16 +172,16 @@ abbrev pub of_index : Index → List Mark
 of_index (I.Own p) = word (codes "INDEX") ∷ braces (of_index_names p.names p.implied)
 of_index (I.Augments x) = word (codes "AUGMENTS") ∷ braces (lower x ∷ [])
 
--- raw, between braces
+-- tokens stored as they are, between braces
 abbrev pub of_balanced : List TokenText → List Mark
 of_balanced xs = if has_balanced_braces xs then map
     (λ x. spelled x.kind x.text true) xs else nothing
 
--- raw, before "::="
+-- tokens stored as they are, before "::="
 abbrev pub of_raw_clauses : List TokenText → List Mark
 of_raw_clauses xs = flat_map (λ x. spelled x.kind x.text (not (same_kind x.kind K.Assign)) ∷ []) xs
 
--- raw, before END
+-- tokens stored as they are, before END
 abbrev pub of_raw_body : List TokenText → List Mark
 of_raw_body xs = flat_map (λ x. spelled x.kind x.text (not
     (same_kind x.kind K.Upper && same_text x.text (codes "END"))) ∷ []) xs
@@ -237,8 +237,8 @@ of_type_assignment d =
     (codes "APPLICATION") ∷ number n ∷ sign K.CloseBracket ∷ word
     (codes "IMPLICIT") ∷ []) d.tag ++ of_syntax d.syntax
 
--- the name of a definition is in lower case, that of a type in upper case, and that of a macro in
--- upper case or its reserved word
+-- the label is UPPER for a type, UPPER or a macro's reserved word for a macro, and LOWER for any
+-- other definition
 abbrev pub label : Name → DefKind → Mark
 label x (D.TextualConvention d) = upper x
 label x (D.TypeAssignment d) = upper x
@@ -278,7 +278,7 @@ of_def d = on_line d.line (label d.label d.kind) ∷ of_kind d.kind
 abbrev pub imported_symbol : TokenText → Mark
 imported_symbol x = spelled x.kind x.text (is_symbol x.kind x.text)
 
--- the marks, the first of them on this line
+-- the marks, the first of them on line n
 abbrev pub put_line : ℕ → List Mark → List Mark
 put_line n [] = nothing
 put_line n (m ∷ ms) = on_line n m ∷ ms
