@@ -1,4 +1,4 @@
--- Counting open braces finds exactly the balanced tokens, and those whose beginnings open as many braces as they close, or more.
+-- Counting braces finds exactly the balanced tokens: those whose prefixes open at least as many braces as they close, and which open as many as they close.
 use Rattle.std.proofs.{lemmas.Grind.common_steps, lemmas.List.Folds.list_all-map, lemmas.List.Sums.sum_by-cons}
 use Rattle.std.proofs.Common.{◌≡◌, ℕ, zero, suc, ◌+◌, Bool, true, false, ◌&&◌, if◌then◌else◌, not, List, [], ◌∷◌, nat_le, refl, ◌∙◌, arith, zero-add}
 use Rattle.std.proofs.Common.{◌-◌, ◌++◌, sym, ap, add-one, append_assoc, append-nil}
@@ -11,12 +11,12 @@ use Rattle.smi_text.specs.trees.Braces.{opening_braces, closing_braces, fronts, 
 use Rattle.smi_text.proofs.Marks.{same_kind-eq}
 use Rattle.smi_text.specs.trees.Braces.{IsBalanced, none, other, nested}
 
--- after `depth` open braces, the tokens close each brace that is open, and none that is not
+-- after `depth` open braces, the tokens close each brace that is open, and no other
 unfoldable pub is_balanced : ℕ → List TokenText → Bool
 is_balanced depth [] = depth == 0
 is_balanced depth (x ∷ xs) = not (is_outside x.kind depth) && is_balanced (depth_after x.kind depth) xs
 
--- with d braces open before them
+-- a prefix closes no more braces than it opens, with d braces open before it
 abbrev is_within : ℕ → List TokenText → Bool
 is_within d front = nat_le (closing_braces front) (d + opening_braces front)
 
@@ -27,14 +27,14 @@ all-same : {A : Type 0} (p q : A → Bool) → ((x : A) → p x ≡ q x) → (xs
 all-same p q h [] = refl
 all-same p q h (x ∷ xs) = λ i. h x i && all-same p q h xs i
 
--- how many braces a token of this kind opens, and how many it closes
+-- the number of braces that a token of this kind opens, and that it closes
 abbrev opens : TokenKind → ℕ
 opens k = if same_kind k K.OpenBrace then 1 else 0
 
 abbrev closes : TokenKind → ℕ
 closes k = if same_kind k K.CloseBrace then 1 else 0
 
--- the first token of a front is counted
+-- the first token of a list is counted
 opening-cons : (x : TokenText) (xs : List TokenText) → opening_braces (x ∷ xs) ≡ opens x.kind + opening_braces xs
 opening-cons x xs = sum_by-cons (λ y. opens y.kind) x xs
 
@@ -47,7 +47,7 @@ within-none d = grind arith
 shifted : (d n o c : ℕ) → d + o ≡ n + c → (a b : ℕ) → (nat_le (c + a) (d + (o + b)) ≡ nat_le a (n + b)) × ((d + (o + b) == c + a) ≡ (n + b == a))
 shifted d n o c e a b = (grind arith, grind arith)
 
--- the fronts of tokens behind one more, where that one takes the count from d to n
+-- if the token x takes the count from d to n, then the tokens after x are whole after n open braces if and only if all are after d
 step : (d n : ℕ) (x : TokenText) (xs : List TokenText) → d + opens x.kind ≡ n + closes x.kind → is_whole d (x ∷ xs) ≡ is_whole n xs
 step d n x xs e = grind (arith, common_steps, shifted, within-none, list_all-map, all-same, opening-cons, closing-cons)
 
@@ -72,7 +72,7 @@ fronts_counted xs = simp (is_within, zero-add) at (counted-as 0 xs)
 
 -- ---- balanced tokens leave the count as it was
 
--- a token that is no brace
+-- a token that isn't a brace
 passing : (k : TokenKind) (d : ℕ) → k ≢ K.OpenBrace → k ≢ K.CloseBrace → (is_outside k d ≡ false) × (depth_after k d ≡ d)
 passing k d o c = grind (arith, common_steps)
 
@@ -87,7 +87,7 @@ leaves (other {x} {xs} n m b) d rest = grind (arith, common_steps, passing, past
 leaves (nested first last inner more k l b c) d rest =
     grind (arith, common_steps, past, append_assoc, leaves b (d + 1) (last ∷ (more ++ rest)), leaves c d rest)
 
--- ---- counted tokens are balanced, but for the braces that close those which are open
+-- ---- counted tokens are balanced, except for the braces that close those already open
 
 abbrev Closes : ℕ → List TokenText → Type 0
 Closes zero xs = IsBalanced xs
@@ -104,7 +104,7 @@ closes-opening (suc d) x xs k (inner, last, rest, e, l, b, (more, end, after, f,
     let split : xs ≡ (inner ++ last ∷ more) ++ end ∷ after = e ∙ ap (λ ys. inner ++ last ∷ ys) f ∙ sym (append_assoc inner (last ∷ more) (end ∷ after)) in
     (x ∷ (inner ++ last ∷ more), end, after, ap (λ ys. x ∷ ys) split, g, nested x last inner more k l b h, c)
 
--- one token more, of each kind
+-- one more token, of each kind
 closes-more : (k : TokenKind) (d : ℕ) (x : TokenText) (xs : List TokenText) → x.kind ≡ k → is_outside k d ≡ false → Closes (depth_after k d) xs
     → Closes d (x ∷ xs)
 closes-more K.OpenBrace d x xs e inside c = closes-opening d x xs e (rw add-one at c)

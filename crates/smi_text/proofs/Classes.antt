@@ -1,4 +1,4 @@
--- What the class of an octet says of it.
+-- What the class of an octet says about it.
 use Rattle.std.proofs.Common.{arith, ◌≡◌, ℕ, true, List, [], ◌∷◌, subst}
 use Rattle.std.proofs.{lemmas.Grind.common_steps, lemmas.Bool.eqb-true}
 use Rattle.std.specs.Char.{is_ascii_lowercase, is_ascii_uppercase, is_ascii_digit}
@@ -6,7 +6,7 @@ use Rattle.smi_text.specs.{declared.lexer.class.Class.Class, declared.lexer.toke
 use Rattle.smi_text.specs.{lexer.Reading.class_of, lexer.Reading.symbol_among}
 use Rattle.smi_text.specs.declared.lexer.class.Class.TheVariants as C
 
--- what an octet of the class is
+-- the octet is as its class says
 abbrev pub HasClass : Class → ℕ → Type 0
 HasClass C.Blank c = is_blank c ≡ true
 HasClass C.Lowercase c = is_ascii_lowercase c ≡ true

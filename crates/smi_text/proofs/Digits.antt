@@ -1,11 +1,11 @@
--- What digits write, read from the front.
+-- The number that digits write, read from the start.
 use Rattle.std.proofs.{lemmas.Grind.common_steps, lemmas.List.drop_all, lemmas.Bool.lt-leb, lemmas.Bool.le-leb}
 use Rattle.std.proofs.Common.{◌≡◌, ℕ, suc, ◌+◌, ◌*◌, ◌^◌, ◌<◌, ◌≤◌, List, [], ◌∷◌, length, get_or, drop, refl, ◌∙◌, ap, arith, drop-cons, add-one}
 use Rattle.std.specs.Prelude.{Some, None}
 use Rattle.std.proofs.Math.Nat.{le-mul_of_pos_right, one-le-pow, mul_comm, mul_assoc, mul-one, pow-zero, pow-succ'}
 use Rattle.smi_text.specs.trees.Number.{digit_value, number_value, up_to}
 
--- what digits write after those that wrote n
+-- the number that the digits cs write after digits that wrote n
 abbrev pub worth : ℕ → ℕ → List ℕ → ℕ
 worth base n cs = n * base ^ length cs + number_value base cs
 
@@ -16,15 +16,15 @@ pub worth-digit : (base n c : ℕ) (cs : List ℕ) → worth base n (c ∷ cs) �
 unfolding number_value
 worth-digit base n c cs = grind (arith, common_steps, pow-succ', mul_assoc, mul_comm, add-mul)
 
--- more digits write no smaller number
+-- if more digits follow, then the number is no smaller
 pub worth-grows : (base n : ℕ) (cs : List ℕ) → 0 < base → n ≤ worth base n cs
 worth-grows base n cs h = grind (arith, common_steps, le-mul_of_pos_right, one-le-pow)
 
--- one digit more
+-- after one more digit
 pub worth_step : (base n i : ℕ) (cs : List ℕ) → i < length cs → worth base n (drop i cs) ≡ worth base (base * n + digit_value (get_or cs i 0)) (drop (i + 1) cs)
 worth_step base n i cs h = rw (add-one, drop-cons cs i 0) (worth-digit base n (get_or cs i 0) (drop (suc i) cs))
 
--- where the digits so far are worth too much, all of them are
+-- if the digits so far write more than `most`, then so do all digits
 pub worth_above : (base n i most : ℕ) (cs : List ℕ) → 0 < base → i < length cs → worth base n (drop i cs) ≡ number_value base cs
     → most < base * n + digit_value (get_or cs i 0) → None ≡ up_to most (number_value base cs)
 worth_above base n i most cs pos h e over = grind (arith, common_steps, worth-grows, worth_step, lt-leb)

@@ -1,4 +1,4 @@
--- Where definitions define a name again, no modules without a double name are read.
+-- If a module of a text defines a name a second time, then no modules without a double name are read from the text.
 use Rattle.std.proofs.Common.{arith, ◌≡◌, ℕ, true, false, List, [], ◌∷◌, ◌++◌, Some, None, refl, sym, ◌∙◌, ap}
 use Rattle.std.proofs.{lemmas.Grind.common_steps, lemmas.List.map-append, lemmas.List.Folds.list_any-append}
 use Rattle.std.proofs.lemmas.Bool.{and_parts, or_left, or_right, or_cases}
@@ -19,7 +19,7 @@ unfolding with_front
 fronts-inv xs None ys rest h = absurd (cc)
 fronts-inv {A} xs (Some p) ys rest h = grind (arith, common_steps, some-inj)
 
--- parts that are spelled before one that begins again are read first, and then that one
+-- if parts are spelled before another part of the same kind, then they are read first, and then that one
 module _ {A : Type 0} {s : A → List Mark} {f : Format A} (law : Lawful s f) (solid : f.empty ≡ false) (far : apart f.stop f.first ≡ true) where
   begin-again : (xs : List A) (ts mid : List Item) → StandsAhead (flat_map s xs) ts mid → begins f.first mid ≡ true → begins f.first ts ≡ true
   begin-again [] ts mid h b = ap (begins f.first) h ∙ b
@@ -42,7 +42,7 @@ module _ {A : Type 0} {s : A → List Mark} {f : Format A} (law : Lawful s f) (s
       let later = many-before xs p.0 mid rest q.0 p.2 b q.1 in
       (later.0, later.1, later.2, later.3, cc (q.2, later.4))
 
--- names that stand twice
+-- names that occur twice
 
 any-middle : (x y : List ℕ) (xs ys : List (List ℕ)) → same_text y x ≡ true → list_any (same_text x) (xs ++ y ∷ ys) ≡ true
 any-middle x y xs ys h = grind (arith, common_steps, list_any-append, or_right, or_left, same-sym x y)

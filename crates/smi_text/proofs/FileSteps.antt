@@ -1,4 +1,4 @@
--- Definitions one after the other, with the names that they define, and the steps of the loops over definitions and over modules.
+-- The steps of the loops over definitions and over modules: what is read so far, and the names that are defined so far.
 use Rattle.std.proofs.Common.{arith, ◌≡◌, ℕ, true, false, ◌||◌, List, [], ◌∷◌, ◌++◌, Some, Ok, refl, sym, ◌∙◌, ap, append-nil, ◌<◌, Bool, length}
 use Rattle.std.proofs.Common.{None, Bor}
 use Rattle.std.proofs.{lemmas.Grind.common_steps, lemmas.Grind.flat_map-append, lemmas.Bool.and_parts, lemmas.Bool.and_from, lemmas.Bool.or_parts}
@@ -45,7 +45,7 @@ spelled-label d _ rest h = absurd h
 pub read-label : (d : Def) (ts rest : List Item) → definition.read ts ≡ Some (d, rest) → d.label.octets ≡ text_ahead ts
 read-label d ts rest h = spelled-label d ts rest (definition-law.takes ts rest d h)
 
--- one more
+-- one more part, label or module
 
 flat-more : {A : Type 0} (f : A → List Mark) (xs : List A) (x : A) → flat_map f (xs ++ x ∷ []) ≡ flat_map f xs ++ f x
 flat-more f xs x = flat_map-append f xs (x ∷ []) ∙ ap (λ (ms : List Mark). flat_map f xs ++ ms) (append-nil (f x))
@@ -134,7 +134,7 @@ module _ (names : BTreeSet (ℕ × Bor (List ℕ))) (defs : List Def) (from now 
       on_line = refl;
     }
 
--- a fault of a new definition is one of the definitions
+-- a fault of a new definition is a fault of the definitions
 
 pub definitions-fault : (names : BTreeSet (ℕ × Bor (List ℕ))) (defs : List Def) (from now : List Item) → HasRead names defs from now
     → (x : List ℕ) → begins definition.first now ≡ true → x ≡ text_ahead now
@@ -144,7 +144,7 @@ definitions-fault names defs from now have x ahead label (E.DoubleName line) f =
 definitions-fault names defs from now have x ahead label E.Memory f = tt
 definitions-fault names defs from now have x ahead label _ f = has_read-stuck names defs from now have ahead f
 
--- a stop is a fault of the module
+-- if no module can be read, then the stop is a fault of the module
 pub module-stop : (stop : Stop) (ts : List Item) → (is_memory stop ≡ false → module_text.read ts ≡ None) → ModuleFault (error_of stop) ts
 module-stop stop ts h = grind (arith, common_steps)
 

@@ -1,4 +1,4 @@
--- Gaps: blank octets and comments, and where none begins.
+-- Gaps: blank octets and comments, and offsets at which no gap begins.
 use Rattle.std.proofs.{lemmas.Grind.common_steps, lemmas.List.drop_all}
 use Rattle.std.proofs.Common.{◌≡◌, ℕ, zero, suc, ◌+◌, ◌<◌, ◌≤◌, true, false, cond, List, [], ◌∷◌, length, get_or, take, drop, refl, sym, ap, ◌∙◌, inl}
 use Rattle.std.proofs.Common.{inr, arith, ◌-◌, add-zero, Option}
@@ -43,7 +43,7 @@ skips_space : (text : List ℕ) (n lines : ℕ) → n < length text → is_space
     → Skips text n lines → Skips text (n + 1) lines
 skips_space text n lines here is skips = grind (arith, common_steps, skips_other, ends_no_line)
 
--- a space, and the spaces and tabs behind it
+-- a space, and the spaces and tabs after it
 pub skips_run : (text : List ℕ) (n to lines : ℕ) → n < length text → get_or text n 0 ≡ 32 → ArePassedBetween is_space_or_tab text (n + 1) to
     → Skips text n lines → Skips text to lines
 skips_run text n to lines here space run skips =
@@ -71,7 +71,7 @@ skips_comment text n lines k here first second front skips =
     rw add-zero at (skips_gap text n lines (2 + k) 0 (rw rest (comment_part behind k front))
     (rw (rest, two) (comment_one_line (45 ∷ 45 ∷ take k behind) (two_hyphens (take k behind) front.passes))) skips)
 
--- ---- where no gap begins
+-- ---- the end of the gaps
 
 pub no_gap_of_nothing : HasNoGap []
 unfolding part_of

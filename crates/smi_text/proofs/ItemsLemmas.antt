@@ -1,4 +1,4 @@
--- The computed items of a text: what its longest front makes of them.
+-- The computed items of a text, by its longest prefix that is a part.
 use Rattle.std.proofs.{lemmas.Grind.common_steps, lemmas.Bool.cases_lt, lemmas.List.drop-drop, lemmas.List.Sums.sum_by-append}
 use Rattle.std.proofs.Common.{◌≡◌, ℕ, zero, suc, ◌+◌, ◌<◌, ◌≤◌, cond, Option, Some, None, Ok, Err, List, [], ◌∷◌, length, take, drop, refl, sym, ap}
 use Rattle.std.proofs.Common.{◌∙◌, inl, inr, arith, zero-add, add-zero, length-take-le}
@@ -8,7 +8,7 @@ use Rattle.smi_text.specs.lexer.Reading.{HasNoGap, HasNoLexeme, IsPartFront, Ski
 use Rattle.smi_text.specs.lexer.Reading.{items_at, newlines}
 use Rattle.smi_text.proofs.Parts.{none_some}
 
--- ---- the longest front
+-- ---- the longest prefix
 
 pub longest_is : (n : ℕ) (text : List ℕ) (part : Part) (k : ℕ) → IsPartFront part_of text part k → 0 < k → k ≤ n → n ≤ length text
     → longest_front n text ≡ Some (part, k)
@@ -29,7 +29,7 @@ unfolding part_of
 front_some text part zero front = absurd (none_some part front.reads)
 front_some text part (suc k) front = omega arith
 
--- ---- places and lines
+-- ---- offsets and lines
 
 pub newlines-cons : (c : ℕ) (s : List ℕ) → newlines (c ∷ s) ≡ newlines (c ∷ []) + newlines s
 newlines-cons c s = sum_by-append (λ d. cond (is_newline d) 1 0) (c ∷ []) s
@@ -37,14 +37,14 @@ newlines-cons c s = sum_by-append (λ d. cond (is_newline d) 1 0) (c ∷ []) s
 pub newlines-one : (c : ℕ) → newlines (c ∷ []) ≡ cond (is_newline c) 1 0
 newlines-one c = zero-add (cond (is_newline c) 1 0)
 
--- octets that are read give no item
+-- octets that are read already add no item
 pub items-skipped : (k at before : ℕ) (text : List ℕ) → items_at k at before text ≡ items_at 0 (at + k) (before + newlines (take k text)) (drop k text)
 unfolding items_at
 items-skipped zero at before text = simp add-zero
 items-skipped (suc k) at before [] = refl
 items-skipped (suc k) at before (c ∷ cs) = grind (arith, common_steps, items-skipped k (at + 1) (before + newlines (c ∷ [])) cs, newlines-cons)
 
--- the longest front gives its item, before those of the rest
+-- the longest prefix adds its item, before those of the rest
 pub items-front : (text : List ℕ) (part : Part) (k at before : ℕ) → IsPartFront part_of text part k
     → items_at 0 at before text ≡ part_items at before part (take k text) (items_at 0 (at + k) (before + newlines (take k text)) (drop k text))
 unfolding items_at part_of
@@ -56,7 +56,7 @@ items-front (c ∷ cs) part (suc k) at before front =
     ap (λ f. front_items at before (c ∷ cs) f (items_at (front_rest f) (at + 1) (before + newlines (c ∷ [])) cs)) found
     ∙ ap (part_items at before part (c ∷ take k cs)) (items-skipped (suc k) at before (c ∷ cs))
 
--- where nothing begins, the fault is all
+-- if no part begins, then the fault is the only item
 pub items-none : (c : ℕ) (cs : List ℕ) (at before : ℕ) → ((m : ℕ) → part_of (take m (c ∷ cs)) ≡ None)
     → items_at 0 at before (c ∷ cs) ≡ Err (fault_on (before + 1) (c ∷ cs)) ∷ []
 unfolding items_at
@@ -81,7 +81,7 @@ skips_gap text n lines k more front ended skips at before =
 neither : (r : Option Part) → (r ≡ Some gap → ⊥) → ((kind : TokenKind) → r ≡ Some (lexeme kind) → ⊥) → r ≡ None
 neither r gaps lexemes = grind (arith, common_steps)
 
--- behind the gaps, where no lexeme stands
+-- after the gaps, if no lexeme begins
 pub items-fault : (c : ℕ) (cs : List ℕ) (at before : ℕ) → HasNoGap (c ∷ cs) → HasNoLexeme part_of (c ∷ cs)
     → items_at 0 at before (c ∷ cs) ≡ Err (fault_on (before + 1) (c ∷ cs)) ∷ []
 items-fault c cs at before gaps lexemes = items-none c cs at before (λ m. neither (part_of (take m (c ∷ cs))) (gaps m) (λ kind. lexemes kind m))
@@ -89,7 +89,7 @@ items-fault c cs at before gaps lexemes = items-none c cs at before (λ m. neith
 pub items-empty : (at before : ℕ) (text : List ℕ) → length text ≡ 0 → items_at 0 at before text ≡ []
 items-empty at before text empty = grind (arith, common_steps, items-nothing)
 
--- behind the gaps of what isn't read stands this text
+-- `text` is what follows the gaps of the octets that aren't read yet
 module _ (unread text : List ℕ) (at before n ended : ℕ) (skips : Skips unread n ended) (is_rest : text ≡ drop n unread) where
   behind_gaps : items_at 0 at before unread ≡ items_at 0 (at + n) (before + ended) text
   behind_gaps = skips at before ∙ ap (items_at 0 (at + n) (before + ended)) (sym is_rest)

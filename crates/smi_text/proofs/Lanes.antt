@@ -6,7 +6,7 @@ use Rattle.std.specs.List.{prefix_len}
 use lib.Lanes.{chunk, mask_l, top}
 use Rattle.smi_text.specs.lexer.Reading.{IsRunIn, first_set}
 
--- a lane of the mask is set just where the octet fails the test
+-- if the top bit of each lane is set exactly when its octet fails the test, then the run ends at the lowest lane that is set
 pub run_in : (test : ℕ → Bool) (text : List ℕ) (at run : ℕ) (lanes : List ℕ) → at + 16 ≤ length text
     → ((k : ℕ) → Fits w8 (get_or text k 0)) → run ≡ first_set (mask_l (map (top 7) lanes) % 2 ^ 64)
     → (f : ℕ → ℕ) → lanes ≡ map f (chunk at 16 text) → agree_below (λ x. top 7 (f x)) (λ x. not (test x)) 256 ≡ true

@@ -1,4 +1,4 @@
--- When a format is sound for a spelling: what it reads is what is spelled, and what is spelled is read.
+-- When a format is sound and complete for a spelling: what it reads is what is spelled, and what is spelled is read.
 use Rattle.std.specs.Prelude.{◌≡◌, true, false, List, Some}
 use Rattle.std.proofs.Common.{◌⊎◌}
 use Rattle.smi_text.specs.{lexer.Token.Item, trees.Mark.Mark, private.Format.StandsAhead, private.Format.Format, private.Format.begins}
@@ -6,7 +6,7 @@ use Rattle.smi_text.specs.{lexer.Token.Item, trees.Mark.Mark, private.Format.Sta
 pub record Lawful {A : Type 0} (s : A → List Mark) (f : Format A) : Type 0 where
   -- what is read is spelled by the tokens that are taken
   pub takes : (ts rest : List Item) (x : A) → f.read ts ≡ Some (x, rest) → StandsAhead (s x) ts rest
-  -- what is spelled is read, where nothing follows that must not
+  -- what is spelled is read, unless something follows that must not
   pub again : (x : A) (ts rest : List Item) → StandsAhead (s x) ts rest → begins f.stop rest ≡ false → f.read ts ≡ Some (x, rest)
-  -- what is spelled begins as the format says, or is no token
+  -- what is spelled begins as the format says, or has no token
   pub starts : (x : A) (ts rest : List Item) → StandsAhead (s x) ts rest → (begins f.first ts ≡ true) ⊎ ((f.empty ≡ true) × (ts ≡ rest))

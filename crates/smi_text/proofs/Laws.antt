@@ -1,4 +1,4 @@
--- Each way of making a format keeps it lawful.
+-- Each way of making a format out of lawful ones makes a lawful one.
 use Rattle.std.proofs.lemmas.Grind.{common_steps}
 use Rattle.std.proofs.Common.{◌≡◌, ℕ, zero, suc, Bool, true, false, ◌&&◌, not, List, [], ◌∷◌, ◌++◌, Option, Some, None, if◌then◌else◌, refl}
 use Rattle.std.proofs.Common.{sym, ◌∙◌, ap, subst, arith, inl, inr, ◌⊎◌}
@@ -18,11 +18,11 @@ pub use Rattle.smi_text.proofs.NameLaws.{some-inj}
 use Rattle.smi_text.proofs.Marks.{same_kind-eq, same_kind-same, same_text-eq, same_text-same, if-inv, StandsAhead-append, StandsAhead-split, map-inv}
 use Rattle.smi_text.proofs.Marks.{then-inv, begins-append, apart-false}
 
--- no token is marked so
+-- no tokens meet the marks `nothing`
 pub never-stands : (ts rest : List Item) → StandsAhead say.nothing ts rest → ⊥
 never-stands ts rest h = grind (arith, common_steps)
 
--- what is spelled by a format that is not empty begins as it says
+-- what is spelled begins as the format says, if the format isn't empty
 pub starts-with : {A : Type 0} {s : A → List Mark} {f : Format A} → Lawful s f → f.empty ≡ false → (x : A) (ts rest : List Item) → StandsAhead (s x) ts rest
     → begins f.first ts ≡ true
 starts-with law solid x ts rest h = grind (arith, common_steps)
@@ -94,7 +94,7 @@ module _ {A B : Type 0} {s : A → List Mark} {t : B → List Mark} {f : Format 
   }
 
 module _ {A : Type 0} {s : A → List Mark} {f : Format A} (law : Lawful s f) (solid : f.empty ≡ false) where
-  -- read where a first token stands, else nothing: a spelling begins with one, and what follows nothing doesn't
+  -- a part is read if a token that begins one is ahead, otherwise none: a spelling begins with such a token, and what may follow doesn't
   pub maybe-law : Lawful (say.of_option s) (maybe f)
   unfolding maybe
   maybe-law = grind (arith, common_steps, if-inv, map-inv, some-inj, neither, starts-with)
@@ -109,12 +109,12 @@ decides f g = not f.empty && not g.empty && apart f.first g.first
 
 module _ {A B : Type 0} {s : A → List Mark} {t : B → List Mark} {f : Format A} {g : Format B} (f-law : Lawful s f) (g-law : Lawful t g)
     (decided : decides f g ≡ true) where
-  -- no token begins both: what is read is of the side that its first token begins, and no spelling of one side is read by the other
+  -- no token begins both: what is read belongs to the side that its first token begins, and no spelling of one side is read by the other
   sides-law : Lawful (of_either s t) (either f g)
   unfolding either
   sides-law = grind (arith, common_steps, and_parts, not-true, if-inv, map-inv, starts-with, neither, apart-false, begins-left, begins-right)
 
--- a spelling told otherwise
+-- the same spelling, written otherwise
 pub spelled-as : {A : Type 0} {s u : A → List Mark} {f : Format A} → Lawful s f → ((x : A) → s x ≡ u x) → Lawful u f
 spelled-as {f = f} law same = subst (λ v. Lawful v f) (λ i x. same x i) law
 
@@ -122,7 +122,7 @@ pub either-law : {A B : Type 0} {u : A ⊎ B → List Mark} {f : Format A} {g : 
     → decides f g ≡ true → Lawful u (either f g)
 either-law f-law g-law decided = spelled-as (sides-law f-law g-law decided) (elim [ inl x ↦ refl | inr y ↦ refl ])
 
--- parts in a row, and parts between which the token ahead decides, each with `last` at its end: lawful if all their tests hold, as one `refl` says
+-- parts in a row, and parts between which the token ahead decides, each with `last` at its end: they are lawful if all their tests hold, which one `refl` says
 infixr 20 ◌▸◌
 infixr 20 ◌∣◌
 pub ◌▸◌ : {A B : Type 0} {s : A → List Mark} {t : B → List Mark} {f : Format A} {g : Format B} {b : Bool} → Lawful s f → (b ≡ true → Lawful t g)
@@ -165,7 +165,7 @@ module _ {A : Type 0} {s : A → List Mark} {f : Format A} (law : Lawful s f) (s
   unfolding many
   many-law = grind (arith, common_steps, many-takes-from, many-again, neither, many-starts)
 
--- what is spelled of the pieces is what is spelled of the part that they make, which has pieces
+-- if the pieces and the part that they make have the same spelling, then the format of the part is lawful
 module _ {A B : Type 0} {to : A → B} {u : B → List Mark} {s : A → List Mark} {f : Format A} (law : Lawful s f)
     (forth : (ts rest : List Item) (x : A) → StandsAhead (s x) ts rest → StandsAhead (u (to x)) ts rest)
     (back : (ts rest : List Item) (y : B) → StandsAhead (u y) ts rest → (x : A) × (to x ≡ y) × StandsAhead (s x) ts rest) where
@@ -173,7 +173,7 @@ module _ {A B : Type 0} {to : A → B} {u : B → List Mark} {s : A → List Mar
   unfolding shaped
   made-law = grind (arith, common_steps, map-inv)
 
--- a part is spelled by its pieces where it is made of some, and else not at all
+-- a part is spelled by its pieces if it is made of some, and has no spelling otherwise
 pub shaped-law : {A B : Type 0} {to : A → B} {u : B → List Mark} {f : Format A} → Lawful (λ x. u (to x)) f
     → ((y : B) → ((x : A) × (to x ≡ y)) ⊎ (u y ≡ say.nothing)) → Lawful u (shaped to f)
 unfolding shaped
@@ -189,7 +189,7 @@ pub before-law : {A : Type 0} {s : A → List Mark} {v : Unit {0} → List Mark}
 unfolding before
 before-law f-law w-law far = shaped-law (pair-law f-law w-law far) (λ x. inl ((x, tt), refl))
 
--- one part and then others read as a pair that is made a list
+-- one part and then others are read as a pair is that is made into a list
 some-read : {A : Type 0} (f g : Format A) (ts : List Item)
     → (some_of f g).read ts ≡ (shaped (λ (p : A × List A). p.0 ∷ p.1) (pair f (many g))).read ts
 unfolding some_of shaped pair with_front
@@ -224,7 +224,7 @@ module _ {A : Type 0} {s : A → List Mark} {f : Format A} (law : Lawful s f) (s
 
 -- parts of productions
 
--- a part behind a word, and behind a sign
+-- a part after a word, and a part after a sign
 pub after-word : {A : Type 0} {w : List ℕ} {s : A → List Mark} {f : Format A} → Lawful s f → Lawful (λ x. say.word w ∷ s x) (behind (word w) f)
 unfolding word
 after-word law = behind-law word-law law refl

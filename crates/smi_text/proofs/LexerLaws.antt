@@ -1,4 +1,4 @@
--- The computed items are those that `Lexes` says, and no others are.
+-- The computed items of a text are those that `Lexes` says (`lexes`), and no others are (`sole_items`).
 use Rattle.std.proofs.{lemmas.Grind.common_steps, lemmas.Bool.cases_lt, Math.Seq.drop-append_seam, lemmas.List.Sums.sum_by-append}
 use Rattle.std.proofs.Common.{◌≡◌, ℕ, zero, suc, ◌+◌, ◌<◌, ◌≤◌, Option, Some, None, Ok, List, [], ◌∷◌, ◌++◌, length, take, drop, refl, sym, ap, ◌∙◌}
 use Rattle.std.proofs.Common.{⊎_elim, arith, length-append, length-take-le, length-drop, append_assoc, slice_range}
@@ -9,7 +9,7 @@ use Rattle.smi_text.specs.lexer.Reading.{IsPartFront, items_at, longest_front, n
 use Rattle.smi_text.proofs.ItemsLemmas.{front_some, items-front, items-none, items-nothing}
 use Rattle.smi_text.proofs.{PartLaws.is_part, PartLaws.part_is, Parts.none_some}
 
--- ---- the longest front, by the relation and by the reading
+-- ---- the longest prefix, by the relation and by the reading
 
 none_unless : (r : Option Part) → ((part : Part) → r ≡ Some part → ⊥) → r ≡ None
 none_unless r h = grind (arith, common_steps)
@@ -24,7 +24,7 @@ front-longest part n text longest = record {
   longest = λ m above within. none_unless (part_of (take m text)) (λ other h. longest.longest other m above within (part_is (take m text) other h));
 }
 
--- what the search for the longest front finds
+-- what the search finds is the longest prefix of at most n octets that is a part, or None if no such prefix is a part
 abbrev Finds : ℕ → List ℕ → Option (Part × ℕ) → Type 0
 Finds n text None = (m : ℕ) → m ≤ n → part_of (take m text) ≡ None
 Finds n text (Some front) = (front.1 ≤ n) × (part_of (take front.1 text) ≡ Some front.0) × ((m : ℕ) → front.1 < m → m ≤ n → part_of (take m text) ≡ None)
@@ -46,21 +46,21 @@ unfolding part_of
 finds zero text = λ m within. let e : m ≡ 0 = omega arith in ap (λ k. part_of (take k text)) e
 finds (suc n) text = finds_step n text (part_of (take (suc n) text)) (longest_front n text) refl (finds n text)
 
--- ---- places
+-- ---- offsets
 
--- behind a front of n octets
+-- after n octets of the text
 behind : (before text : List ℕ) (n : ℕ) → n ≤ length text
     → items_at 0 (length (before ++ take n text)) (newlines (before ++ take n text)) (drop n text) ≡ items_at 0 (length before + n)
     (newlines before + newlines (take n text)) (drop n text)
 behind before text n within = grind (arith, common_steps, length-append, length-take-le, sum_by-append)
 
--- no front at all is a part
+-- if the search finds nothing, then no prefix is a part
 none_of : (text : List ℕ) → Finds (length text) text None → (m : ℕ) → part_of (take m text) ≡ None
 none_of text none m = grind (arith, common_steps, ⊎_elim, take_all, cases_lt)
 
 -- ---- the items
 
--- a text has the items that are computed
+-- the computed items are those of the text
 pub lexes : (n : ℕ) (before text : List ℕ) → length text ≤ n → Lexes before text (items_at 0 (length before) (newlines before) text)
 lexes n before [] within = rw (items-nothing (length before) (newlines before)) ends
 lexes zero before (c ∷ cs) within = absurd (omega arith)
@@ -89,7 +89,7 @@ lexes (suc n) before (c ∷ cs) within = by_front (longest_front (length (c ∷ 
         let some : 0 < found.1 = front_some (c ∷ cs) found.0 found.1 front in
         by_part found.0 found.1 front (below (before ++ take found.1 (c ∷ cs)) (drop found.1 (c ∷ cs)) (omega (arith, length-drop found.1 (c ∷ cs))))
 
--- and no others
+-- the text has no other items
 pub sole_items : {before text : List ℕ} {items : List Item} → Lexes before text items → items ≡ items_at 0 (length before) (newlines before) text
 sole_items (ends {before}) = sym (items-nothing (length before) (newlines before))
 sole_items (passes {before} {text} {items} n longest rest) =
@@ -110,7 +110,7 @@ earlier : (source : List ℕ) (low high : ℕ) (tokens : List Lexeme) → low �
 earlier source low high [] below h = tt
 earlier source low high (t ∷ ts) below h = (omega (arith, h.0), h.1, h.2, h.3, h.4)
 
--- the octets of a span are those behind what stands before it
+-- the octets of a span are those after the octets before it
 span_of : (before text : List ℕ) (n : ℕ) → n ≤ length text → take n text ≡ slice_range (before ++ text) (length before) (length before + length (take n text))
 span_of before text n within = grind (arith, common_steps, length-take-le, drop-append_seam)
 

@@ -1,4 +1,4 @@
--- Trees with one spelling but for lines are the same but for lines: with 0 in the place of each line both stand in the same tokens.
+-- If two trees have the same spelling except for lines, then they are the same except for lines: with 0 as each line, both are spelled by the same tokens.
 use Rattle.std.proofs.Common.{arith, ◌≡◌, ℕ, Bool, true, false, List, [], ◌∷◌, ◌++◌, Option, if◌then◌else◌, refl, ◌∙◌, ap}
 use Rattle.std.proofs.{lemmas.Grind.common_steps, lemmas.List.map-append, lemmas.List.Folds.flat_map-map, lemmas.Simd.map-map}
 use Rattle.std.specs.{Prelude.map, Prelude.option_map, List.flat_map}
@@ -14,12 +14,12 @@ use Rattle.smi_text.specs.declared.trees.tree.Syntax.TheVariants as T
 use Rattle.smi_text.specs.declared.trees.tree.Refinement.TheVariants as R
 use Rattle.smi_text.proofs.{Laws.some-inj, Tokens.tokens-read}
 
--- the mark with 0 in the place of its line
+-- the mark with 0 as its line
 abbrev zeroed : Mark → Mark
 zeroed (spelled k x ok) = spelled k x ok
 zeroed (on_line n m) = on_line 0 (zeroed m)
 
--- parts of which each has its marks
+-- parts, each with its marks
 each : {A : Type 0} (f : A → List Mark) (xs : List A) → map zeroed (flat_map f xs) ≡ flat_map (λ x. map zeroed (f x)) xs
 each f [] = refl
 each f (x ∷ xs) = map-append zeroed (f x) (flat_map f xs) ∙ ap (λ ms. map zeroed (f x) ++ ms) (each f xs)
@@ -39,7 +39,7 @@ put_line-zeroed line ms = grind (arith, common_steps)
 
 ruleset zeroing = (map-append, each, some, option)
 
--- ---- productions that say no line
+-- ---- productions without a line
 
 part : (p : Part) → map zeroed (say.of_part p) ≡ say.of_part p
 part p = grind (arith, common_steps)

@@ -1,4 +1,4 @@
--- Readings of any number of one part.
+-- Reading any number of one part.
 use Rattle.std.proofs.lemmas.Grind.{common_steps}
 use Rattle.std.proofs.Common.{◌≡◌, ℕ, zero, suc, ◌+◌, ◌<◌, ◌≤◌, true, false, List, [], ◌∷◌, ◌++◌, length, Some, None, Ok, if◌then◌else◌}
 use Rattle.std.proofs.Common.{option_map, option_and_then, refl, ◌∙◌, ap, arith, append_assoc, append-nil}
@@ -6,7 +6,7 @@ use Rattle.smi_text.specs.{lexer.Token.Item, trees.Mark.Mark}
 use Rattle.smi_text.specs.private.Format.{StandsAhead, Format, Parsed, begins, read_many, many, with_front}
 use Rattle.smi_text.proofs.Lawful.{Lawful}
 
--- tokens that are spelled by no mark are the rest; else the rest is shorter
+-- the tokens that the marks spell are one for each mark
 pub StandsAhead-length : (ms : List Mark) (ts rest : List Item) → StandsAhead ms ts rest → length ts ≡ length ms + length rest
 StandsAhead-length [] ts rest h = ap length h ∙ omega arith
 StandsAhead-length (m ∷ ms) (Ok t ∷ ts) rest h = omega (arith, StandsAhead-length ms ts rest h.1)
@@ -24,7 +24,7 @@ reading-shorter law solid x ts rest h = shorter law solid x ts rest (law.takes t
 abbrev put_one : {A : Type 0} → Format A → ℕ → A × List Item → Parsed (List A)
 put_one f n p = option_map (λ q. (p.0 ∷ q.0, q.1)) (read_many f n p.1)
 
--- a longer bound reads the same
+-- a greater bound reads the same
 enough : {A : Type 0} {s : A → List Mark} {f : Format A} → Lawful s f → f.empty ≡ false → (n m : ℕ) (ts : List Item) → length ts ≤ n → length ts ≤ m
     → read_many f (suc n) ts ≡ read_many f (suc m) ts
 unfolding read_many begins
@@ -41,12 +41,12 @@ enough {A} {s} {f} law solid (suc n) (suc m) (t ∷ ts) h k =
           ap (λ (r : Parsed (List A)). option_map (λ (q : List A × List Item). (p.0 ∷ q.0, q.1)) r) (enough law solid n m p.1 (omega arith) (omega arith))
     ] refl)
 
--- where the part begins and is not read, nor are several
+-- if the part begins and isn't read, then none of several is
 pub many-fails : {A : Type 0} (f : Format A) (ts : List Item) → begins f.first ts ≡ true → f.read ts ≡ None → (many f).read ts ≡ None
 unfolding many read_many
 many-fails f ts b e = rw (b, e) refl
 
--- a part that is read goes before the others
+-- if a part is read, then it is before the others
 pub many-goes_on : {A : Type 0} {s : A → List Mark} {f : Format A} → Lawful s f → f.empty ≡ false → (x : A) (ts rest : List Item) → begins f.first ts ≡ true
     → f.read ts ≡ Some (x, rest) → (many f).read ts ≡ with_front (x ∷ []) ((many f).read rest)
 unfolding many read_many begins with_front
@@ -56,7 +56,7 @@ many-goes_on {A} {s} {f} law solid x (t ∷ ts) rest b e =
     rw (b, e) (ap (λ (r : Parsed (List A)). option_map (λ (q : List A
     × List Item). (x ∷ q.0, q.1)) r) (enough law solid (length ts) (length rest) rest (omega arith) (omega arith)))
 
--- where the part does not begin, there are none
+-- if the part doesn't begin, then there are no parts
 pub many-done : {A : Type 0} (f : Format A) (ts : List Item) → begins f.first ts ≡ false → (many f).read ts ≡ Some ([], ts)
 unfolding many read_many
 many-done f ts b = rw b refl
@@ -77,7 +77,7 @@ pub with_front_nil : {A : Type 0} (r : Parsed (List A)) → with_front [] r ≡ 
 unfolding with_front
 with_front_nil r = grind (arith, common_steps)
 
--- one step of a loop that reads several parts: what is left to read, and a bound that is enough for it
+-- one step of a loop that reads several parts: the parts that are still to be read, and a bound that is enough for them
 pub next-many : {A : Type 0} (f : Format A) (n : ℕ) (x : A) (ts rest : List Item) → begins f.first ts ≡ true → f.read ts ≡ Some (x, rest) → length ts ≤ n
     → length rest < length ts
     → (m : ℕ) × (length rest ≤ m) × (read_many f (suc n) ts ≡ with_front (x ∷ []) (read_many f (suc m) rest))

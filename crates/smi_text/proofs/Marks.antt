@@ -51,7 +51,7 @@ then-inv k (Some x) y h = (x, refl, h)
 pub if-inv : {A : Type 0} (b : Bool) (x y z : A) → (if b then x else y) ≡ z → ((b ≡ true) × (x ≡ z)) ⊎ ((b ≡ false) × (y ≡ z))
 if-inv b x y z h = grind (arith, common_steps)
 
--- what stands ahead
+-- the token ahead
 
 pub begins-append : (cs ds : List Ahead) (ts : List Item) → begins (cs ++ ds) ts ≡ (begins cs ts || begins ds ts)
 unfolding begins
@@ -89,7 +89,7 @@ module _ (t : Lexeme) where
   lists-sound [] ds a h k = cc
   lists-sound (c ∷ cs) ds a h k = grind (arith, common_steps, or_cases, and_parts, list-sound, lists-sound cs ds)
 
--- a token that begins one of these begins none of those
+-- if two lists of conditions are apart, then no token meets a condition of each
 pub apart-sound : (cs ds : List Ahead) (ts : List Item) → apart cs ds ≡ true → begins cs ts ≡ true → begins ds ts ≡ true → ⊥
 unfolding begins
 apart-sound cs ds (Ok t ∷ ts) a h k = lists-sound t cs ds a h k

@@ -1,4 +1,4 @@
--- The name of octets that are a word: there is one, and one alone.
+-- If octets are a word, then there is exactly one name of them.
 use Rattle.std.proofs.Common.{◌≡◌, ℕ, Bool, true, false, List, Some, refl, sym, ◌∙◌, ap}
 use Rattle.std.proofs.{Math.Bool.Bool-set, lemmas.Bool.false≢true}
 use Rattle.smi_text.specs.{trees.Word.is_word, declared.trees.names.Name.Name, private.Format.name_when, private.Format.name_of}
@@ -14,7 +14,7 @@ unfolding named
 same-when x w true e = ap (λ v. Some (named x v)) (Bool-set (is_word x) true e w)
 same-when x w false e = absurd (false≢true (sym e ∙ w))
 
--- the octets of a name give that name
+-- a name is the name of its octets
 pub name_of-octets : (n : Name) → name_of n.octets ≡ Some n
 unfolding named
 name_of-octets n = same-when n.octets n.lexical (is_word n.octets) refl
@@ -23,6 +23,6 @@ octets-when : (x : List ℕ) (b : Bool) (e : is_word x ≡ b) (n : Name) → nam
 octets-when x true e n h = ap (λ (m : Name). m.octets) (sym (some-inj (record { octets = x; lexical = e }) n h))
 octets-when x false e n h = absurd (cc)
 
--- a name that octets give has those octets
+-- the name of octets has these octets
 pub name_of-is : (x : List ℕ) (n : Name) → name_of x ≡ Some n → n.octets ≡ x
 name_of-is x n h = octets-when x (is_word x) refl n h

@@ -1,4 +1,4 @@
--- A stretch of octets is a part exactly where it reads as one.
+-- A stretch of octets is a part if and only if it reads as one.
 use Rattle.std.proofs.{lemmas.Grind.common_steps, Math.Bool.and-false, lemmas.Bool.Decides.nat_tests, lemmas.List.Folds.list_all-append}
 use Rattle.std.proofs.Common.{◌≡◌, ◌≢◌, ℕ, ◌⊎◌, Bool, true, false, cond, not, ◌&&◌, ◌||◌, Some, List, [], ◌∷◌, ◌++◌, refl, sym, ap, ◌∙◌, inl}
 use Rattle.std.proofs.Common.{inr, arith, eqb, append_assoc, append-nil}
@@ -17,7 +17,7 @@ use Rattle.smi_text.proofs.Parts.{none_some, string_step, literal_reads, literal
 
 -- ---- what reads as a part is one
 
--- a test that was passed
+-- if a test was passed, and passing it shows that octets are a part, then they are the part that was read
 then_is : (b : Bool) (part other : Part) (s : List ℕ) → then_some b part ≡ Some other → (b ≡ true → IsPart part s) → IsPart other s
 then_is b part other s h is = grind (arith, common_steps)
 
@@ -50,7 +50,7 @@ literal_body is_digit is_letter (c ∷ cs) h =
           (c ∷ r.0, r.1, ap (λ s. c ∷ s) r.2, and_from (is_digit c) (list_all is_digit r.0) both.0 r.3, r.4)
     ]
 
--- behind the first quote
+-- after the first quote
 literal_is : (is_digit : ℕ → Bool) (upper lower : ℕ) (s : List ℕ) → is_literal_rest is_digit (λ c. eqb c upper || eqb c lower) s ≡ true
     → IsLiteral is_digit upper lower (39 ∷ s)
 literal_is is_digit upper lower s h = grind (arith, common_steps, literal_body, or_cases, eqb-true, append_assoc)
@@ -59,7 +59,7 @@ literal_part_is : (s : List ℕ) (part : Part) → literal_part s ≡ Some part 
 literal_part_is s part h = grind (arith, common_steps, if-inv, then_is, literal_is)
 
 -- comments
--- a front of octets that begin no run
+-- if octets begin no run of hyphens, then no prefix of them does
 begins_front : (b : Bool) (front rest : List ℕ) → (b && begins is_hyphen (front ++ rest)) ≡ false → (b && begins is_hyphen front) ≡ false
 begins_front b front rest h = grind (arith, common_steps, and-false)
 
@@ -152,7 +152,7 @@ upper_class c h = grind (arith, nat_tests)
 digit_class : (c : ℕ) → is_ascii_digit c ≡ true → class_of c ≡ C.Digit
 digit_class c h = grind (arith, nat_tests)
 
--- an octet that passes is none that fails
+-- an octet that passes a test isn't one that fails it
 other : (p : ℕ → Bool) (octet : ℕ) → p octet ≡ false → (c : ℕ) → p c ≡ true → eqb c octet ≡ false
 other p octet fail c pass = ne_eqb c octet (λ e. false≢true (sym fail ∙ ap p (sym e) ∙ pass))
 
@@ -188,11 +188,11 @@ lexeme_of_kind K.Hex s (digits, letter, is, all, case) = grind (arith, common_st
 lexeme_of_kind K.Binary s (digits, letter, is, all, case) = grind (arith, common_steps, binary_letter, literal_reads_of, all_other, and-false)
 lexeme_of_kind _ s h = rw h refl
 
--- comments: hyphens and nothing else may close a remark
+-- comments: only hyphens may close a remark
 all_hyphens : (closing : List ℕ) → (closing ≡ []) ⊎ IsRunOfHyphens closing → list_all is_hyphen closing ≡ true
 all_hyphens closing h = grind (arith, common_steps)
 
--- the first two of a run
+-- the first two hyphens of a run
 run_opens : (run : List ℕ) → IsRunOfHyphens run → (more : List ℕ) × (run ≡ 45 ∷ 45 ∷ more) × (list_all is_hyphen more ≡ true)
 run_opens [] h = absurd (omega (arith, h.0))
 run_opens (c ∷ []) h = absurd (omega (arith, h.0))
@@ -233,7 +233,7 @@ comment_opens c s (opening, remark, closing, is, run, remark_is, closes) = grind
 
 -- ---- lines
 
--- no line ends in octets that are other than a newline
+-- no line ends in octets other than newlines
 others_one_line : (s : List ℕ) → list_all (is_other 10) s ≡ true → newlines s ≡ 0
 others_one_line [] h = refl
 others_one_line (c ∷ cs) h = grind (arith, common_steps, and_parts, newlines-cons, newlines-one, not-true, others_one_line cs)

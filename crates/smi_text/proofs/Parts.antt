@@ -1,4 +1,4 @@
--- The parts that the scans find, behind their first octet.
+-- The parts that the scans find, after their first octet.
 use Rattle.std.proofs.{lemmas.Grind.common_steps, lemmas.Bool.and_parts, lemmas.Bool.cases_lt, lemmas.Bool.not-true, Math.Bool.and-false}
 use Rattle.std.proofs.{Math.Bool.and-true, Math.Bool.and_assoc, Math.Seq.take-add, lemmas.List.Folds.list_all-append}
 use Rattle.std.proofs.Common.{◌≡◌, ℕ, zero, suc, ◌+◌, ◌-◌, ◌<◌, ◌≤◌, Bool, true, false, cond, if◌then◌else◌, ◌&&◌, ◌⊎◌, Option, Some, None, List, []}
@@ -13,7 +13,7 @@ use Rattle.smi_text.specs.declared.lexer.class.Class.{Class}
 use Rattle.smi_text.specs.lexer.Reading.{class_of, part_in, part_of}
 use Rattle.smi_text.proofs.Scans.{rest_at, longest_behind, goes_on_past}
 
--- a front that a test decides
+-- the longest prefix, if a test decides what it reads as
 pub part_front : (test : List ℕ → Bool) (reading : List ℕ → Option Part) (part : Part) (text : List ℕ) (n : ℕ)
     → ((s : List ℕ) → reading s ≡ then_some (test s) part) → IsLongestPassing test text n → IsPartFront reading text part n
 part_front test reading part text n read front = grind (arith, common_steps)
@@ -21,12 +21,12 @@ part_front test reading part text n read front = grind (arith, common_steps)
 pub none_some : (part : Part) → ◌≡◌ {A = Option Part} None (Some part) → ⊥
 none_some part h = cc
 
--- no front that a test decides
+-- no prefix, if a test decides what it reads as
 pub no_front : (test : List ℕ → Bool) (reading : List ℕ → Option Part) (part : Part) (text : List ℕ)
     → ((s : List ℕ) → reading s ≡ then_some (test s) part) → ((m : ℕ) → test (take m text) ≡ false) → HasNoLexeme reading text
 no_front test reading part text read fails kind m h = none_some (lexeme kind) (sym (read (take m text) ∙ ap (λ b. then_some b part) (fails m)) ∙ h)
 
--- each front of octets that pass is such
+-- if all octets pass, then those of each prefix do
 pub list_all-take : (p : ℕ → Bool) (m : ℕ) (s : List ℕ) → list_all p s ≡ true → list_all p (take m s) ≡ true
 list_all-take p m s h =
     (and_parts (list_all p (take m s)) (list_all p (drop m s)) (sym (list_all-append p (take m s) (drop m s)) ∙ ap (list_all p) (take-append-drop m s) ∙ h)).0
@@ -65,18 +65,18 @@ string_some text i h =
 
 -- ---- literals
 
--- up to the first quote nothing ends a literal
+-- before its second quote, a literal isn't complete
 pub literal_open : (is_digit is_letter : ℕ → Bool) (s : List ℕ) → list_all (is_other 39) s ≡ true → is_literal_rest is_digit is_letter s ≡ false
 literal_open is_digit is_letter [] h = refl
 literal_open is_digit is_letter (c ∷ cs) h = grind (arith, common_steps, and_parts, other_not, and-false, literal_open is_digit is_letter cs)
 
--- behind the second quote the letter decides
+-- after the second quote, the letter decides
 pub literal_closed : (is_digit is_letter : ℕ → Bool) (digits s : List ℕ) → list_all (is_other 39) digits ≡ true
     → is_literal_rest is_digit is_letter (digits ++ 39 ∷ s) ≡ (list_all is_digit digits && is_sole is_letter s)
 literal_closed is_digit is_letter [] s h = refl
 literal_closed is_digit is_letter (c ∷ cs) s h = grind (arith, common_steps, and_parts, other_not, and_assoc, literal_closed is_digit is_letter cs s)
 
--- what stands behind a literal's digits decides
+-- what follows a literal's digits decides its kind
 abbrev pub literal_behind : List ℕ → List ℕ → Option Part
 literal_behind digits s =
     if list_all is_ascii_hexdigit digits && is_sole is_hex_letter s then Some (lexeme Hex)
@@ -94,12 +94,12 @@ literal_unended digits = rw (and-false (list_all is_ascii_hexdigit digits), and-
 literal_unclosed : (s : List ℕ) → list_all (is_other 39) s ≡ true → literal_part s ≡ None
 literal_unclosed s h = rw (literal_open is_ascii_hexdigit is_hex_letter s h, literal_open is_binary_digit is_binary_letter s h) refl
 
--- a front that ends behind the second quote
+-- a prefix that ends after the second quote
 literal_long : (k i : ℕ) (text : List ℕ) → IsFirstPlace 39 text (Some i)
     → literal_part (take (i + suc k) text) ≡ literal_behind (take i text) (take k (drop (i + 1) text))
 literal_long k i text h = grind (arith, common_steps, take-add, rest_at, literal_reads)
 
--- each front ends before the second quote or behind it
+-- each prefix ends before the second quote or after it
 literal_at : (text : List ℕ) (i : ℕ) → IsFirstPlace 39 text (Some i) → (m : ℕ)
     → (literal_part (take m text) ≡ None)
     ⊎ ((k : ℕ) × (m ≡ i + suc k) × (literal_part (take m text) ≡ literal_behind (take i text) (take k (drop (i + 1) text))))
@@ -114,11 +114,11 @@ literal_at text i h m =
 pub literal_none : (text : List ℕ) → IsFirstPlace 39 text None → IsLexemeFront literal_part text None
 literal_none text h kind m is = none_some (lexeme kind) (sym (literal_unclosed (take m text) (list_all-take (is_other 39) m text h)) ∙ is)
 
--- no letter follows the second quote
+-- if no letter follows the second quote, then no prefix is a literal
 pub literal_ends : (text : List ℕ) (i : ℕ) → IsFirstPlace 39 text (Some i) → i + 1 ≡ length text → IsLexemeFront literal_part text None
 literal_ends text i h last kind m is = grind (arith, common_steps, literal_at, none_some, drop_all, take_all, literal_unended)
 
--- one octet behind it is the letter, and more are no literal
+-- the octet after the second quote is the letter, and with more octets there is no literal
 literal_letter : (digits : List ℕ) (c : ℕ) (cs : List ℕ) (k : ℕ) → (literal_behind digits (take k (c ∷ cs)) ≡ None) ⊎ (take k (c ∷ cs) ≡ c ∷ [])
 literal_letter digits c cs zero = inl (literal_unended digits)
 literal_letter digits c cs (suc zero) = inr refl
@@ -135,7 +135,7 @@ literal_front text i h next digits front found kind_is = by_kind found (rw front
         ≡ literal_behind (take i text) (take k (get_or text (i + 1) 0 ∷ drop ((i + 1) + 1) text))
     rest k = ap (λ s. literal_behind (take i text) (take k s)) (rest_at text (i + 1) next)
 
-    -- each front is no literal, or this one
+    -- each prefix is no literal, or is this one
     each : (m : ℕ) → (literal_part (take m text) ≡ None)
         ⊎ ((m ≤ length text → m ≡ i + 2) × (literal_part (take m text) ≡ literal_of (take i text) (get_or text (i + 1) 0)))
     each m =
@@ -161,7 +161,7 @@ literal_front text i h next digits front found kind_is = by_kind found (rw front
 
 -- ---- with the first octet
 
--- a front behind one octet more
+-- a prefix with one octet before it
 pub front_cons : (reading inner : List ℕ → Option Part) (c : ℕ) (cs : List ℕ) (part : Part) (n : ℕ) → ((s : List ℕ) → reading (c ∷ s) ≡ inner s)
     → IsPartFront inner cs part n → IsPartFront reading (c ∷ cs) part (n + 1)
 front_cons reading inner c cs part n read front = rw (add-one n) (record {

@@ -1,4 +1,4 @@
--- Where an octet stands first, and how often a newline does.
+-- The offset at which an octet first occurs, and the number of newlines.
 use Rattle.std.proofs.{lemmas.Grind.common_steps, lemmas.List.take_all, lemmas.List.append-nil, lemmas.List.Folds.list_all_more}
 use Rattle.std.proofs.Common.{◌≡◌, ℕ, zero, suc, ◌+◌, ◌<◌, ◌≤◌, Bool, true, cond, ◌==◌, List, [], ◌∷◌, ◌++◌, length, get_or, take, drop}
 use Rattle.std.proofs.Common.{Option, Some, None, refl, ap, ◌∙◌, arith, add-one}
@@ -8,7 +8,7 @@ use Rattle.memchr.specs.Find.{IsFirstByte, TakesFirst, is_byte, places, places_f
 use Rattle.smi_text.specs.{lexer.Reading.IsFirstPlace, lexer.Reading.is_other, lexer.Reading.newlines}
 use Rattle.smi_text.proofs.{ItemsLemmas.newlines-cons, ItemsLemmas.newlines-one, Scans.rest_at}
 
--- no octet of the front is this one
+-- no octet of the prefix is `octet`
 others : (octet : ℕ) (text : List ℕ) (n : ℕ) → n ≤ length text
     → ((k : ℕ) → k < n → (get_or text k 0 == octet) ≡ true → ⊥)
     → list_all (is_other octet) (take n text) ≡ true
@@ -25,7 +25,7 @@ first_place octet text None none =
     (others octet text (length text) (omega arith) (λ k below. none k (omega arith) below))
 first_place octet text (Some i) found = grind (arith, common_steps, eqb-true, others)
 
--- one place more where an octet passes the test
+-- one more offset, if an octet passes the test
 placed : (b : Bool) (i : ℕ) (later : List ℕ) (m : ℕ) → length later ≡ m
     → length (cond b (i ∷ later) later) ≡ cond b 1 0 + m
 placed b i later m h = grind (arith, common_steps)

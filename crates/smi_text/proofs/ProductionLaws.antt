@@ -1,5 +1,5 @@
--- Each production is lawful: it reads what its case of the grammar spells, and nothing else. A law names the pieces of its production in their order, whose
--- words stand in the grammar, and says of what pieces each part is made. A `refl` says that the token ahead tells the pieces apart.
+-- Each production is lawful: it reads what its case of the grammar spells, and nothing else. A law names the pieces of its production in order, with the words
+-- of the grammar, and says which pieces each part is made of. A `refl` says that the token ahead tells the pieces apart.
 use Rattle.std.proofs.Common.{arith, ◌≡◌, ℕ, true, if◌then◌else◌, List, [], ◌∷◌, Option, Some, None, Ok, refl, inl, inr, ◌⊎◌}
 use Rattle.std.proofs.{lemmas.Grind.common_steps, lemmas.Bool.and_parts, lemmas.Bool.or_right, lemmas.Bool.or_cases}
 use Rattle.std.specs.{Prelude.drop, Prelude.◌==◌, List.list_any}
@@ -98,7 +98,7 @@ index-law : Lawful say.of_index g.index
 index-law = unfold all in shaped-law (either-law (after-word (braced-law index_names-law refl)) (after-word (braced-law lower-law refl)) refl)
     (elim [ I.Own p ↦ inl (inl p, refl) | I.Augments x ↦ inl (inr x, refl) ])
 
--- definitions of a name in lower case
+-- definitions of a name that begins with a lower-case letter
 
 module_identity-law : Lawful say.of_module_identity g.module_identity
 module_identity-law = unfold all in shaped-law
@@ -125,7 +125,7 @@ textual_convention-law : Lawful say.of_textual_convention g.textual_convention
 textual_convention-law = unfold all in shaped-law
     (after-word ((maybe-law clause-law refl ▸ status-law ▸ last (after-word syntax_type-law)) refl)) (λ d. inl (_, refl))
 
--- how a kind is written: behind a name in lower case (0), behind a name in upper case and `::=` (1), or as a macro (2)
+-- how a kind is written: after a name in lower case (0), after a name in upper case and `::=` (1), or as a macro (2)
 abbrev class : DefKind → ℕ
 class (D.TextualConvention d) = 1
 class (D.TypeAssignment d) = 1
@@ -134,7 +134,7 @@ class (D.Choice xs) = 1
 class (D.Macro xs) = 2
 class _ = 0
 
--- what is spelled of the kinds of one class, and nothing of the others
+-- the spelling of the kinds of one class, and no spelling of the others
 abbrev only : ℕ → (DefKind → List Mark) → DefKind → List Mark
 only n s k = if class k == n then s k else say.nothing
 
@@ -155,7 +155,7 @@ lower_definition-law = unfold all in shaped-law
       | _ ↦ inr refl
     ])
 
--- definitions of a name in upper case
+-- definitions of a name that begins with an upper-case letter
 
 abbrev of_assigned : DefKind → List Mark
 of_assigned = only 1 (λ k. drop 1 (say.of_kind k))
@@ -185,7 +185,7 @@ macro_definition-law = unfold all in shaped-law
     (after-word (after-sign (after-word (before-law (many-law before_end-law refl refl) word-law refl))))
     (elim [ D.Macro xs ↦ inl (xs, refl) | _ ↦ inr refl ])
 
--- what is spelled of a kind whose names are in upper case
+-- the spelling of a kind whose names begin with an upper-case letter
 abbrev of_upper : DefKind → List Mark
 of_upper (D.Macro xs) = say.of_kind (D.Macro xs)
 of_upper k = sign K.Assign ∷ of_assigned k
@@ -210,7 +210,7 @@ begins_macro t ts e = rw e refl
 
 -- definitions
 
--- what is spelled of a definition: of a name in lower case, of one in upper case, or of the reserved word of a macro
+-- the spelling of a definition, by its name: one in lower case, one in upper case, or the reserved word of a macro
 abbrev of_labelled : g.Labelled ⊎ (g.Labelled ⊎ g.Labelled) → List Mark
 of_labelled (inl p) = on_line p.0.0 (say.lower p.0.1) ∷ only 0 say.of_kind p.1
 of_labelled (inr (inl p)) = on_line p.0.0 (say.upper p.0.1) ∷ of_upper p.1
@@ -233,7 +233,7 @@ definition-law = unfold all in made-law {s = of_labelled}
 
 -- imports and modules
 
--- a symbol is a word in lower case, a name, or the name of a macro
+-- a symbol is a word in lower case, a name in upper case, or the name of a macro
 symbol-ahead : (t : Lexeme) → is_symbol t.kind t.text ≡ true → list_any (meets t) (a_kind K.Lower ∷ a_name ∷ g.macro_words) ≡ true
 unfolding is_symbol
 symbol-ahead t h = grind (arith, common_steps, or_cases, and_parts, or_right, macro-ahead)

@@ -39,7 +39,7 @@ unfolding formats braced module_identity object_identity object_type notificatio
     default_value
 of_definitions = 0
 
--- no more than the parts of these two, which have many
+-- only what is needed for these two, which have many parts
 unfoldable pub of_many : ℕ
 unfolding shaped pair behind module_identity textual_convention
 of_many = 0
@@ -53,7 +53,7 @@ unfoldable pub of_modules : ℕ
 unfolding formats braced imported_symbol import_clause imports heading opening head module_text is_symbol
 of_modules = 0
 
--- each of them
+-- all of them
 unfoldable pub all : ℕ
 unfolding of_types of_clauses of_definitions of_modules file many is_reserved
 all = 0

@@ -1,4 +1,5 @@
--- Raw runs of tokens and indexes are lawful. Of an index, one of a bounded number of names is made as other formats are, and is read as an index is.
+-- Runs of tokens that are stored as they are, and indexes, are lawful. An index of a bounded number of names is made as other formats are, and is read as an
+-- index is.
 use Rattle.std.proofs.lemmas.Grind.{common_steps}
 use Rattle.std.proofs.Common.{◌≡◌, ℕ, zero, suc, ◌≤◌, nat_le, Bool, true, false, List, [], ◌∷◌, length, Option, Some, None, if◌then◌else◌, refl, sym}
 use Rattle.std.proofs.Common.{◌∙◌, arith, inl, inr, ◌⊎◌, ◌&&◌, not, Ok}
@@ -18,13 +19,13 @@ use Rattle.smi_text.proofs.Laws.{kept-law}
 use Rattle.smi_text.specs.declared.trees.tree.IndexParts.{IndexParts}
 use Rattle.std.proofs.lemmas.Bool.{and_parts, and_from, or_parts, not-true, not-false}
 
--- the last name, after IMPLIED or alone, or a name that has others behind a comma
+-- the last name, after IMPLIED or without it, or a name with others after a comma
 abbrev to_names : Name ⊎ (Name × Option IndexParts) → IndexParts
 to_names (inl x) = index_parts (x ∷ []) true
 to_names (inr (x, None)) = index_parts (x ∷ []) false
 to_names (inr (x, Some p)) = index_parts (x ∷ p.names) p.implied
 
--- an index of this many names at most
+-- an index of at most n names
 abbrev up_to : ℕ → Format IndexParts
 up_to zero = record { read = λ ts. None; first = a_word (codes "IMPLIED") ∷ a_kind K.Lower ∷ []; stop = []; empty = false }
 up_to (suc n) = shaped to_names (either implied_name (pair lower (maybe (behind (token K.Comma) (up_to n)))))
@@ -32,7 +33,7 @@ up_to (suc n) = shaped to_names (either implied_name (pair lower (maybe (behind 
 abbrev of_up_to : ℕ → IndexParts → List Mark
 of_up_to n p = if nat_le (length p.names) n then say.of_index_names p.names p.implied else say.nothing
 
--- by what is spelled of the names behind a comma
+-- the spelling of its pieces, by that of the names after a comma
 abbrev of_pieces : (IndexParts → List Mark) → Name ⊎ (Name × Option IndexParts) → List Mark
 of_pieces s (inl x) = say.word (codes "IMPLIED") ∷ say.lower x ∷ []
 of_pieces s (inr p) = say.lower p.0 ∷ say.of_option (λ q. sign K.Comma ∷ s q) p.1
@@ -55,7 +56,7 @@ law (suc n) = made-law
     (either-law {u = of_pieces (of_up_to n)} (after-word lower-law) (pair-law lower-law (maybe-law (after-sign (law n)) refl) refl) refl)
     (forth n) (λ ts rest p h. back n p.names p.implied ts rest h)
 
--- it reads what an index reads, and the same must not follow it
+-- it reads what an index reads
 reads : (n : ℕ) (ts : List Item) → (up_to n).read ts ≡ read_index n ts
 unfolding formats read_index with_names
 reads zero ts = refl
@@ -72,7 +73,7 @@ few [] b = inl refl
 few (x ∷ []) b = inr (grind arith)
 few (x ∷ (y ∷ ys)) b = inr (grind (arith, common_steps, few (y ∷ ys) b))
 
--- so there are no more names than tokens
+-- so there are at most as many names as tokens
 bounded : (x : IndexParts) (ts rest : List Item) → StandsAhead (say.of_index_names x.names x.implied) ts rest
     → StandsAhead (of_up_to (suc (length ts)) x) ts rest
 bounded x ts rest h =
@@ -85,7 +86,7 @@ index_names-law = unfold index_names formats in record {
   starts = λ x ts rest h. (law (suc (length ts))).starts x ts rest (bounded x ts rest h);
 }
 
--- raw runs
+-- runs of tokens that are stored as they are
 
 pub before_assign-law : Lawful (λ (x : TokenText). spelled x.kind x.text (not (same_kind x.kind K.Assign)) ∷ []) before_assign
 unfolding before_assign

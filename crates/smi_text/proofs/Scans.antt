@@ -1,4 +1,4 @@
--- Steps and ends of a scan for the longest front that passes a test, and of each scan by its own test.
+-- The steps and ends of a scan for the longest prefix that passes a test, and of each scan by its own test.
 use Rattle.std.proofs.{lemmas.Grind.common_steps, lemmas.List.Folds.list_all_more, lemmas.List.drop_all}
 use Rattle.std.proofs.lemmas.Bool.{and_parts, eqb-true, ne_eqb, cases_lt, false_from_ne_true}
 use Rattle.std.proofs.Common.{◌≡◌, ℕ, zero, suc, ◌+◌, ◌-◌, ◌<◌, ◌≤◌, Bool, true, false, List, [], ◌∷◌, length, get_or, take, drop, sym, ap, ◌∙◌}
@@ -7,7 +7,7 @@ use Rattle.std.specs.List.{list_all}
 use Rattle.smi_text.specs.lexer.Reading.{GoesOn, IsLongestPassing, IsRemarkEnd, is_comment_rest, IsRunBetween, is_remark_rest}
 use Rattle.smi_text.specs.lexer.Lexeme.{begins, is_hyphen, is_word_octet, is_word_rest}
 
--- what stands at a place, and behind it
+-- what is left of a text at offset n is its octet there, and what follows
 pub rest_at : (text : List ℕ) (n : ℕ) → n < length text → drop n text ≡ get_or text n 0 ∷ drop (n + 1) text
 rest_at text n here = drop-cons text n 0 here ∙ ap (λ m. get_or text n 0 ∷ drop m text) (sym (add-one n))
 
@@ -15,7 +15,7 @@ pub rest_of_two : (text : List ℕ) (n : ℕ) → n + 1 < length text → drop n
 rest_of_two text n here = grind (arith, common_steps, rest_at)
 
 module _ (test : List ℕ → Bool) (text : List ℕ) where
-  -- an octet that makes no difference to the test
+  -- if an octet makes no difference to the test, then the scan goes on after it
   pub scan_step : (n : ℕ) → n < length text → ((k : ℕ) → test (get_or text n 0 ∷ take k (drop (n + 1) text)) ≡ test (take k (drop (n + 1) text)))
       → GoesOn test text n → GoesOn test text (n + 1)
   scan_step n here step before = record {
@@ -45,13 +45,13 @@ module _ (test : List ℕ → Bool) (text : List ℕ) where
         ap (λ j. test (take j text)) place ∙ before.same (suc (m - (n + 1))) ∙ stop (m - (n + 1)) (omega arith);
   }
 
-  -- an octet with which nothing passes
+  -- if nothing that begins with an octet passes, then the scan stops before it
   pub scan_stop : (n : ℕ) → n < length text → test [] ≡ true → ((k : ℕ) → test (get_or text n 0 ∷ take k (drop (n + 1) text)) ≡ false)
       → GoesOn test text n → IsLongestPassing test text n
   scan_stop n here empty stop before =
       scan_end n empty (λ k h. ap (λ s. test (take (suc k) s)) (rest_at text n here) ∙ stop k) before
 
--- behind a front that makes no difference, the longest front of the rest by another test
+-- after octets that make no difference, the longest prefix of the rest that passes another test
 pub longest_behind : (test inner : List ℕ → Bool) (text : List ℕ) (n k : ℕ) → n ≤ length text
     → ((j : ℕ) → test (take (n + j) text) ≡ inner (take j (drop n text)))
     → IsLongestPassing inner (drop n text) k → IsLongestPassing test text (n + k)
@@ -75,7 +75,7 @@ goes_on_past test p step (suc n) (c ∷ cs) within pass k =
 
 -- ---- small facts
 
--- what each place from one to the other hands on to the next
+-- if `from` has a property, and each number hands it on to the next, then `to` has it
 pub hand_on : (P : ℕ → Type 0) (d from to : ℕ) → from + d ≡ to → ((k : ℕ) → from ≤ k → k < to → P k → P (k + 1)) → P from → P to
 hand_on P zero from to e step p = subst P (let f : from ≡ to = omega (arith, e) in f) p
 hand_on P (suc d) from to e step p = hand_on P d (from + 1) to (omega (arith, e)) (λ k above below. step k (omega arith) below) (step from (omega arith)
@@ -85,7 +85,7 @@ pub begins-take : (test : ℕ → Bool) (k : ℕ) (s : List ℕ) → begins test
 begins-take test (suc k) (c ∷ cs) h = h
 begins-take test _ _ h = refl
 
--- nothing begins where the text has ended
+-- nothing begins after the end of the text
 pub begins_past : (test : ℕ → Bool) (text : List ℕ) (n : ℕ) → length text ≤ n → begins test (drop n text) ≡ false
 begins_past test text n past = ap (begins test) (drop_all n text past)
 
@@ -102,7 +102,7 @@ pub passing_stop : (p : ℕ → Bool) (text : List ℕ) (n : ℕ) → n < length
     → GoesOn (list_all p) text n → IsLongestPassing (list_all p) text n
 passing_stop p text n here fail = scan_stop (list_all p) text n here refl (λ k. ap (λ b. b && list_all p (take k (drop (n + 1) text))) fail)
 
--- ---- a hyphen that nothing of this kind follows
+-- ---- a hyphen without a certain octet after it
 
 pub hyphen_alone : (next : ℕ → Bool) (c k : ℕ) (s : List ℕ) → (c ≡ 45 → begins next s ≡ false) → (is_hyphen c && begins next (take k s)) ≡ false
 hyphen_alone next c k s alone = grind (arith, common_steps, begins-take, eqb-true)
@@ -116,7 +116,7 @@ word_step text n here pass =
     let rest = λ (k : ℕ). take k (drop (n + 1) text) in
     scan_step is_word_rest text n here (λ k. ap (λ b. (b || (is_hyphen (get_or text n 0) && begins is_word_octet (rest k))) && is_word_rest (rest k)) pass)
 
--- a hyphen, and one of these
+-- a hyphen, and a letter, digit or `_`
 pub hyphen_step : (text : List ℕ) (n : ℕ) → n + 1 < length text → get_or text n 0 ≡ 45 → is_word_octet (get_or text (n + 1) 0) ≡ true
     → GoesOn is_word_rest text n → GoesOn is_word_rest text (n + 2)
 hyphen_step text n here hyphen pass = scan_two is_word_rest text n here (λ k. rw (hyphen, pass) refl)
@@ -127,7 +127,7 @@ pub word_stop : (text : List ℕ) (n : ℕ) → n < length text → is_word_octe
 word_stop text n here fail next =
     scan_stop is_word_rest text n here refl (λ k. rw (fail, hyphen_alone is_word_octet (get_or text n 0) k (drop (n + 1) text) next) refl)
 
--- up to where a run of them ends
+-- up to the end of a run of letters, digits and `_`
 pub word_run_goes : (text : List ℕ) (from to : ℕ) → GoesOn is_word_rest text from → IsRunBetween is_word_octet text from to
     → GoesOn is_word_rest text to
 word_run_goes text from to goes run =
@@ -138,7 +138,7 @@ word_run_goes text from to goes run =
 pub goes_from_start : (test : List ℕ → Bool) (text : List ℕ) → GoesOn test text 0
 goes_from_start test text = record { within = omega arith; same = λ k. ap (λ m. test (take m text)) (zero-add k) }
 
--- a word ends where neither an octet of a word stands nor a hyphen before one
+-- a word ends before an octet that is neither a letter, digit or `_` nor a hyphen before one
 pub word_ends : (text : List ℕ) (n : ℕ) → (n < length text → is_word_octet (get_or text n 0) ≡ false)
     → (n + 1 < length text → get_or text n 0 ≡ 45 → is_word_octet (get_or text (n + 1) 0) ≡ false)
     → GoesOn is_word_rest text n → IsLongestPassing is_word_rest text n
@@ -154,7 +154,7 @@ word_ends text n stops next goes = elim (cases_lt n (length text)) [
 
 -- ---- remarks
 
--- an octet that is no newline and no hyphen before another
+-- an octet other than a newline and than a hyphen before another
 pub remark_step : (text : List ℕ) (n : ℕ) → n < length text → (get_or text n 0 ≡ 10 → ⊥)
     → (get_or text n 0 ≡ 45 → begins is_hyphen (drop (n + 1) text) ≡ false)
     → GoesOn is_remark_rest text n → GoesOn is_remark_rest text (n + 1)
@@ -162,7 +162,7 @@ remark_step text n here plain alone =
     scan_step is_remark_rest text n here
     (λ k. rw (ne_eqb (get_or text n 0) 10 plain, hyphen_alone is_hyphen (get_or text n 0) k (drop (n + 1) text) alone) refl)
 
--- where a remark has ended, a closing run is all that may follow
+-- after the end of a remark, only a closing run may follow
 pub closing_run : (k : ℕ) (s : List ℕ) → IsRemarkEnd s → is_remark_rest (take k s) ≡ list_all is_hyphen (take k s)
 closing_run zero s h = refl
 closing_run (suc zero) s h = grind (arith, common_steps)
@@ -170,16 +170,16 @@ closing_run (suc (suc k)) s h = grind (arith, common_steps)
 
 -- ---- comments
 
--- behind the opening run the remark begins
+-- after the opening run, the remark begins
 pub remark_begins : (k : ℕ) (s : List ℕ) → begins is_hyphen s ≡ false → is_comment_rest (take k s) ≡ is_remark_rest (take k s)
 remark_begins (suc k) (c ∷ cs) h = ap (λ b. cond b (is_comment_rest (take k cs)) (is_remark_rest (c ∷ take k cs))) h
 remark_begins _ _ h = refl
 
--- no hyphen stands behind the longest run
+-- no hyphen follows the longest run
 pub run_closed : (text : List ℕ) (n : ℕ) → IsLongestPassing (list_all is_hyphen) text n → begins is_hyphen (drop n text) ≡ false
 run_closed text n front = grind (arith, common_steps, cases_lt, begins_at, false_from_ne_true, list_all_more, begins_past)
 
--- a comment behind its first two hyphens: the opening run, the remark, the closing run
+-- a comment after its first two hyphens: the opening run, the remark, the closing run
 pub comment_front : (text remark closing : List ℕ) (o n r : ℕ) → IsLongestPassing (list_all is_hyphen) text o → remark ≡ drop o text
     → n ≤ length remark → GoesOn is_remark_rest remark n → IsRemarkEnd (drop n remark) → closing ≡ drop n remark
     → IsLongestPassing (list_all is_hyphen) closing r

@@ -1,4 +1,4 @@
--- Productions of which there may be several in a row take a token at least.
+-- Productions that can occur several times in a row take at least one token.
 use Rattle.std.proofs.Common.{◌≡◌, ◌<◌, false, List, Result, Ok, Err, length, refl}
 use Rattle.std.specs.Prelude.{OnOk}
 use Rattle.smi_text.specs.{lexer.Token.Item, declared.error.Stop.Stop, trees.Mark.Mark, private.Format.Format, private.Format.lower}
@@ -8,7 +8,7 @@ use Rattle.smi_text.proofs.{Productions.all, Lawful.Lawful, Many.reading-shorter
 use Rattle.smi_text.proofs.ProductionLaws.{part-law, later_part-law, named_number-law, range-law, field-law, revision-law, imported_symbol-law}
 use Rattle.smi_text.proofs.ProductionLaws.{import_clause-law}
 
--- a reading of the format leaves fewer tokens than there were
+-- if the format reads a part, then fewer tokens are left than before
 abbrev pub TakesSome : {A : Type 0} → Format A → Type 0
 TakesSome {A} f = (r : Result A Stop) (ts rest : List Item) → ReturnsReading r rest (f.read ts) → OnOk r (length rest < length ts)
 

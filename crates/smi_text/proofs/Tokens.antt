@@ -1,4 +1,4 @@
--- What marks take of the items of a text, and what they say of its tokens.
+-- What marks say of the items of a text, and of its tokens.
 use Rattle.std.proofs.Common.{◌≡◌, List, [], ◌∷◌, ◌++◌, Some, None, Ok, Err, refl, ap}
 use Rattle.std.specs.Prelude.{map}
 use Rattle.smi_text.specs.lexer.Token.{Lexeme, Item, tokens_of, first_fault}
@@ -6,7 +6,7 @@ use Rattle.smi_text.specs.{trees.Mark.Mark, trees.Mark.Stands, trees.Spelling.sp
 use Rattle.smi_text.specs.private.Format.{StandsAhead, begins}
 use Rattle.smi_text.proofs.ProductionLaws.{file-law}
 
--- tokens of which none is a fault
+-- the items of tokens without a fault
 abbrev pub all_tokens : List Lexeme → List Item
 all_tokens ts = map (λ t. Ok t) ts
 
@@ -19,7 +19,7 @@ pub tokens-read : (ms : List Module) (ts : List Lexeme) → Stands (spelling ms)
 unfolding begins
 tokens-read ms ts h = file-law.again ms (all_tokens ts) [] (taken-tokens (spelling ms) ts [] h) refl
 
--- a text that lexes to its end
+-- the items of a text that lexes to its end are its tokens
 pub all-whole : (items : List Item) → first_fault items ≡ None → items ≡ all_tokens (tokens_of items)
 all-whole [] w = refl
 all-whole (Ok t ∷ items) w = ap (λ (us : List Item). Ok t ∷ us) (all-whole items w)

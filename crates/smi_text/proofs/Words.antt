@@ -1,4 +1,4 @@
--- A text among words.
+-- Whether a text is one of some words.
 use Rattle.std.proofs.Common.{◌≡◌, ℕ, ◌+◌, ◌<◌, ◌≤◌, Bool, true, false, ◌||◌, List, [], ◌∷◌, length, get_or, drop, refl, drop-cons, add-one, Bor}
 use Rattle.std.proofs.Common.{arith}
 use Rattle.std.proofs.{lemmas.Grind.common_steps, lemmas.Slice.Eq.bytes_eq-Decides, lemmas.List.drop_all}
@@ -16,7 +16,7 @@ is_one_of_drop x ws i d b h e = rw (add-one, drop-cons ws i d, e) refl
 pub is_one_of_none : (x : List ℕ) (ws : List (Bor (List ℕ))) (i : ℕ) → length ws ≤ i → is_one_of x (drop i ws) ≡ false
 is_one_of_none x ws i h = rw (drop_all i ws h) refl
 
--- a text is no word of a list whose second octets all pass a test that its own fails
+-- if the second octets of all words pass a test that the text's own fails, then the text isn't one of the words
 pub other_second : (test : ℕ → Bool) (words : List (List ℕ)) (x : List ℕ) → list_all (λ w. test (get_or w 1 0)) words ≡ true
     → test (get_or x 1 0) ≡ false → list_any (same_text x) words ≡ false
 other_second test [] x all other = refl

@@ -14,7 +14,7 @@ use Rattle.smi_text.specs.private.Format.{Parsed, token_ahead, begins, many}
 use Rattle.smi_text.specs.private.Grammar.{definition, module_text, file}
 use Rattle.smi_text.specs.Text.{HasNoDoubles, BreaksOff, HasSecond, DefinesAgain}
 
--- the step stopped because memory ran out
+-- whether the step stopped because memory ran out
 abbrev pub is_memory : Stop → Bool
 is_memory Memory = true
 is_memory _ = false

@@ -8,7 +8,7 @@ use Rattle.smi_text.proofs.names.add.Goals as goal
 cond-or : (b r : Bool) → cond b true r ≡ (b || r)
 cond-or b r = grind (arith, common_steps)
 
--- numbers that agree where the texts do make no difference to whether the texts are equal
+-- if the numbers are equal whenever the texts are, then they make no difference to whether the texts are equal
 same_then : (first texts : Ordering) → (is_eq texts ≡ true → is_eq first ≡ true) → is_eq (ordering_then first texts) ≡ is_eq texts
 same_then first texts agree = grind (arith, common_steps)
 

@@ -6,7 +6,7 @@ use Rattle.smi_text.proofs.PartLaws.{part_is}
 use Rattle.smi_text.proofs.lexer.lexer.LexerIterator.next.Goals as goal
 use Rattle.smi_text.proofs.lexer.lexer.LexerIterator.next.Goals.{After-fault_at, After-lines_in}
 
--- one item fewer is left
+-- after an item is returned, fewer items are left
 fewer : (old new : List Item) (item : Item) → old ≡ item ∷ new → length new < length old
 fewer old new item e = omega (arith, ap length e)
 
