@@ -21,7 +21,8 @@ pub worth-grows : (base n : ℕ) (cs : List ℕ) → 0 < base → n ≤ worth ba
 worth-grows base n cs h = grind (arith, common_steps, le-mul_of_pos_right, one-le-pow)
 
 -- after one more digit
-pub worth_step : (base n i : ℕ) (cs : List ℕ) → i < length cs → worth base n (drop i cs) ≡ worth base (base * n + digit_value (get_or cs i 0)) (drop (i + 1) cs)
+pub worth_step : (base n i : ℕ) (cs : List ℕ) → i < length cs
+    → worth base n (drop i cs) ≡ worth base (base * n + digit_value (get_or cs i 0)) (drop (i + 1) cs)
 worth_step base n i cs h = rw (add-one, drop-cons cs i 0) (worth-digit base n (get_or cs i 0) (drop (suc i) cs))
 
 -- if the digits so far write more than `most`, then so do all digits

@@ -71,7 +71,8 @@ module _ (line : ℕ) (body : List Lexeme) (s : HasSecond line body) where
   definitions-twice : (ds : List Def) (rest : List Item) → (many definition).read (all_tokens body) ≡ Some (ds, rest) → are_distinct (labels ds) ≡ true → ⊥
   definitions-twice ds rest h k =
       let f = many-before definition-law definition-solid definition-apart s.before (all_tokens body) halves.0 rest ds halves.1 second-ahead h in
-      let same : s.second.label.octets ≡ f.0.label.octets = spelled-label s.second halves.0 (all_tokens s.rest) halves.2 ∙ sym (read-label f.0 halves.0 f.2 f.3) in
+      let same : s.second.label.octets ≡ f.0.label.octets = spelled-label s.second halves.0 (all_tokens s.rest) halves.2
+      ∙ sym (read-label f.0 halves.0 f.2 f.3) in
       let all : labels ds ≡ labels s.before ++ f.0.label.octets ∷ labels f.1 = ap labels f.4
       ∙ map-append (λ (d : Def). d.label.octets) s.before (f.0 ∷ f.1) in
       twice (labels s.before) (labels f.1) f.0.label.octets (rw same at s.defined) (rw all at k)
@@ -96,7 +97,8 @@ module-inv ts body h m rest e r =
     ] refl
 
 module _ (line : ℕ) (tokens : List Lexeme) (d : DefinesAgain line tokens) where
-  opened : (mid : List Item) × StandsAhead (spelling d.modules) (all_tokens tokens) mid × StandsAhead (of_head d.name d.heading d.imports) mid (all_tokens d.body)
+  opened : (mid : List Item) × StandsAhead (spelling d.modules) (all_tokens tokens) mid
+      × StandsAhead (of_head d.name d.heading d.imports) mid (all_tokens d.body)
   opened = StandsAhead-split (spelling d.modules) (of_head d.name d.heading d.imports) (all_tokens tokens) (all_tokens d.body)
       (taken-tokens (spelling d.modules ++ of_head d.name d.heading d.imports) tokens d.body d.stands)
 

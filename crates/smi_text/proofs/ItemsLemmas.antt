@@ -61,7 +61,8 @@ pub items-none : (c : ℕ) (cs : List ℕ) (at before : ℕ) → ((m : ℕ) → 
     → items_at 0 at before (c ∷ cs) ≡ Err (fault_on (before + 1) (c ∷ cs)) ∷ []
 unfolding items_at
 items-none c cs at before none =
-    ap (λ f. front_items at before (c ∷ cs) f (items_at (front_rest f) (at + 1) (before + newlines (c ∷ [])) cs)) (longest_none (length (c ∷ cs)) (c ∷ cs) none)
+    ap (λ f. front_items at before (c ∷ cs) f (items_at (front_rest f) (at + 1) (before + newlines (c ∷ [])) cs))
+    (longest_none (length (c ∷ cs)) (c ∷ cs) none)
 
 pub items-nothing : (at before : ℕ) → items_at 0 at before [] ≡ []
 unfolding items_at

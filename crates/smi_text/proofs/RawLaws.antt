@@ -113,7 +113,8 @@ balanced-takes depth (Ok t ∷ ts) rest xs h =
     ]
 balanced-takes depth _ rest xs h = grind (arith, common_steps, if-inv, some-inj)
 
-balanced-end : (depth : ℕ) (rest : List Item) → depth == 0 ≡ true → begins (no_kind K.CloseBrace ∷ []) rest ≡ false → read_balanced depth rest ≡ Some ([], rest)
+balanced-end : (depth : ℕ) (rest : List Item) → depth == 0 ≡ true → begins (no_kind K.CloseBrace ∷ []) rest ≡ false
+    → read_balanced depth rest ≡ Some ([], rest)
 unfolding read_balanced begins
 balanced-end depth rest d s = grind (arith, common_steps, and_from, not-false, or_parts)
 

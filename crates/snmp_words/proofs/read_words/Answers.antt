@@ -13,16 +13,19 @@ job_of-requires c =
     let required = parsed.from.needs_subcommand ∙ ap (λ (a : App). a.top.subcommand_required) c.in_ok-command.ensures in
     let met = (parsed.parsed (parsed.from.globals ∙ local)).checked.subcommand required in
     states_job c.in-Ok.matches (map (λ s. s.now) c.args.words.now) met
-    ((c.in-Ok.ensures.matches (ap is_simple c.in_ok-command.ensures)).1 ∙ ap (λ (a : App). subcommand_of a (map (λ s. s.now) c.args.words.now)) c.in_ok-command.ensures)
+    ((c.in-Ok.ensures.matches (ap is_simple c.in_ok-command.ensures)).1
+    ∙ ap (λ (a : App). subcommand_of a (map (λ s. s.now) c.args.words.now)) c.in_ok-command.ensures)
 
 pub returns-in_ok-job_of-in-Ok-clause-job : goal.returns-in_ok-job_of-in-Ok-clause-job
 returns-in_ok-job_of-in-Ok-clause-job c =
-    let rows = (c.in-Ok.ensures.matches (ap is_simple c.in_ok-command.ensures)).1 ∙ ap (λ (a : App). subcommand_of a (map (λ s. s.now) c.args.words.now)) c.in_ok-command.ensures in
+    let rows = (c.in-Ok.ensures.matches (ap is_simple c.in_ok-command.ensures)).1
+    ∙ ap (λ (a : App). subcommand_of a (map (λ s. s.now) c.args.words.now)) c.in_ok-command.ensures in
     states _ _ (ap stated_in (sym rows) ∙ c.in_ok-job_of-in-Ok.ensures)
 
 pub returns-in_ok-job_of-in-Ok-clause-faultless : goal.returns-in_ok-job_of-in-Ok-clause-faultless
 returns-in_ok-job_of-in-Ok-clause-faultless c =
-    ap (λ (a : App). fault_of a (map (λ s. s.now) c.args.words.now)) (sym c.in_ok-command.ensures) ∙ c.in-Ok.ensures.kinds (ap is_simple_and_free c.in_ok-command.ensures)
+    ap (λ (a : App). fault_of a (map (λ s. s.now) c.args.words.now)) (sym c.in_ok-command.ensures)
+    ∙ c.in-Ok.ensures.kinds (ap is_simple_and_free c.in_ok-command.ensures)
 
 pub returns-in-Err-clause-taken : goal.returns-in-Err-clause-taken
 returns-in-Err-clause-taken c t =

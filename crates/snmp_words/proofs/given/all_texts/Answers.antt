@@ -7,5 +7,6 @@ use Rattle.snmp_words.proofs.given.all_texts.Goals as goal
 
 pub returns : goal.returns
 returns c =
-    let found = found_texts c.get_strs.result _ _ _ (c.get_strs.ensures ∙ raw_values-rows (found_of c.args.given.now) c.args.id.now) refl c.unwrap_or.ensures in
+    let found = found_texts c.get_strs.result _ _ _ (c.get_strs.ensures ∙ raw_values-rows (found_of c.args.given.now) c.args.id.now)
+    refl c.unwrap_or.ensures in
     IfOk-weaker c.from_slice.result _ _ (λ v e. ap texts_at e ∙ found) c.from_slice.ensures.items

@@ -7,5 +7,6 @@ use Rattle.snmp_words.proofs.given.joined.Goals as goal
 
 pub returns : goal.returns
 returns c =
-    let found = lemma.found_texts c.get_strs.result _ _ _ (c.get_strs.ensures ∙ raw_values-rows (found_of c.args.given.now) c.args.id.now) refl c.unwrap_or.ensures in
+    let found = lemma.found_texts c.get_strs.result _ _ _ (c.get_strs.ensures ∙ raw_values-rows (found_of c.args.given.now) c.args.id.now)
+    refl c.unwrap_or.ensures in
     IfOk-weaker c.join.result _ _ (λ t e. e ∙ lemma.joined c.unwrap_or.result.now ∙ ap (λ (ts : List (List ℕ)). flat_map (λ t. t) ts) found) c.join.ensures.ok

@@ -22,4 +22,14 @@ returns-after-gaps-clause-all c = gaps_end c.args.text.now c.gaps.n c.gaps-test.
 
 -- no gap begins here: the octet isn't blank, and isn't a hyphen before another
 pub returns-else-text-n-eq45-clause-all : goal.returns-else-text-n-eq45-clause-all
-returns-else-text-n-eq45-clause-all c = grind (arith, common_steps, gaps_stop, else-text-n-eq45-via-then-text-n-eq45+then-n-text+else-text-n-eq45-2, begins_at, ne_eqb, else-text-n-eq45-via-then-text-n-eq45+else-n-text, begins_past, else-text-n-eq45-via-else-text-n-eq45)
+returns-else-text-n-eq45-clause-all c = grind (
+  arith,
+  common_steps,
+  gaps_stop,
+  else-text-n-eq45-via-then-text-n-eq45+then-n-text+else-text-n-eq45-2,
+  begins_at,
+  ne_eqb,
+  else-text-n-eq45-via-then-text-n-eq45+else-n-text,
+  begins_past,
+  else-text-n-eq45-via-else-text-n-eq45,
+)

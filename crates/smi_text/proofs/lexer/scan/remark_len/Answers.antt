@@ -6,4 +6,14 @@ use Rattle.smi_text.proofs.lexer.scan.remark_len.Goals.{else-octet-eq45-via-then
 
 -- the octet doesn't end a remark: it isn't a newline, and isn't a hyphen before another
 pub octets-preserved : goal.octets-preserved
-octets-preserved c = grind (arith, common_steps, remark_step, else-octet-eq45-via-then-octet-eq45+then-n-text+else-text-n-eq45, begins_at, ne_eqb, else-octet-eq45-via-then-octet-eq45+else-n-text, begins_past, else-octet-eq45-via-else-octet-eq45)
+octets-preserved c = grind (
+  arith,
+  common_steps,
+  remark_step,
+  else-octet-eq45-via-then-octet-eq45+then-n-text+else-text-n-eq45,
+  begins_at,
+  ne_eqb,
+  else-octet-eq45-via-then-octet-eq45+else-n-text,
+  begins_past,
+  else-octet-eq45-via-else-octet-eq45,
+)

@@ -14,7 +14,8 @@ each-smaller g c = c.in_ok-item.ensures.shorter
 pub each-preserved : goal.each-preserved
 each-preserved g c =
     let i = c.each.invariant in
-    let s = next-many g.P.Production.format i.0 _ _ _ (sym c.is_ahead.ensures ∙ c.each-test.true) c.in_ok-item.ensures.gives i.1 c.in_ok-item.ensures.shorter in
+    let s = next-many g.P.Production.format i.0 _ _ _ (sym c.is_ahead.ensures ∙ c.each-test.true)
+    c.in_ok-item.ensures.gives i.1 c.in_ok-item.ensures.shorter in
     (s.0, s.1, rw (c.in_ok-keep.ensures.ok) (with_front-append _ _ _ ∙ ap (with_front c.each.items.items) (sym s.2) ∙ i.2))
 
 pub returns : goal.returns

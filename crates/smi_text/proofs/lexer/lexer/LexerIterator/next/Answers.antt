@@ -45,7 +45,8 @@ token c =
     let text = c.split_at.result.1.now in
     let front = c.in-Some.ensures in
     let parts = c.split_at-2.ensures in
-    let is_lexeme : IsLexeme c.in-Some.kind c.split_at-2.result.0.now = rw parts.front (part_is (take c.in-Some.len text) (lexeme c.in-Some.kind) front.reads) in
+    let is_lexeme : IsLexeme c.in-Some.kind c.split_at-2.result.0.now =
+    rw parts.front (part_is (take c.in-Some.len text) (lexeme c.in-Some.kind) front.reads) in
     let given = next_gives_token c.self.inside.rest.now text c.self.inside.at c.self.inside.lines gaps.result.0 gaps.result.1 gaps.ensures.skips
     c.split_at.ensures.back c.in-Some.kind c.in-Some.len front in
     cc (c.self.view_is, given, parts.front, parts.back, c.lines_in.ensures.count is_lexeme)
