@@ -26,7 +26,7 @@ pub no_front : (test : List ℕ → Bool) (reading : List ℕ → Option Part) (
     → ((s : List ℕ) → reading s ≡ then_some (test s) part) → ((m : ℕ) → test (take m text) ≡ false) → HasNoLexeme reading text
 no_front test reading part text read fails kind m h = none_some (lexeme kind) (sym (read (take m text) ∙ ap (λ b. then_some b part) (fails m)) ∙ h)
 
--- if all octets pass, then those of each prefix do
+-- if all octets pass a test, then so do the octets of each prefix
 pub list_all-take : (p : ℕ → Bool) (m : ℕ) (s : List ℕ) → list_all p s ≡ true → list_all p (take m s) ≡ true
 list_all-take p m s h =
     (and_parts (list_all p (take m s)) (list_all p (drop m s)) (sym (list_all-append p (take m s) (drop m s)) ∙ ap (list_all p) (take-append-drop m s) ∙ h)).0

@@ -15,7 +15,7 @@ pub rest_of_two : (text : List ℕ) (n : ℕ) → n + 1 < length text → drop n
 rest_of_two text n here = grind (arith, common_steps, rest_at)
 
 module _ (test : List ℕ → Bool) (text : List ℕ) where
-  -- if an octet makes no difference to the test, then the scan goes on after it
+  -- if an octet makes no difference to the test, then the scan continues after it
   pub scan_step : (n : ℕ) → n < length text → ((k : ℕ) → test (get_or text n 0 ∷ take k (drop (n + 1) text)) ≡ test (take k (drop (n + 1) text)))
       → GoesOn test text n → GoesOn test text (n + 1)
   scan_step n here step before = record {

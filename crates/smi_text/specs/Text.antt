@@ -39,8 +39,8 @@ pub record HasSecond (line : ℕ) (tokens : List Lexeme) : Type 0 where
   pub defined : list_any (same_text second.label.octets) (labels before) ≡ true
   pub on_line : second.line ≡ line
 
--- the tokens begin with modules that define no name twice, and go on with one that defines a name
--- a second time, on line `line`
+-- the tokens begin with modules that define no name twice; the module after them defines a name a
+-- second time, on line `line`
 pub record DefinesAgain (line : ℕ) (tokens : List Lexeme) : Type 0 where
   pub modules : List Module
   pub once : HasNoDoubles modules

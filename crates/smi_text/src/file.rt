@@ -157,7 +157,7 @@ pub fn parse_modules(alloc: Global, text: &[u8]) -> Result<Vec<Module>, ParseErr
 
 /// Tokens are the spelling of at most one list of modules.
 ///
-/// A law: the call does nothing, and its caller learns what the clause says.
+/// A law: the call does nothing, and its caller may use what it ensures.
 pub fn one_module_list()
     ensures { (ms ns : List Tree) (tokens : List Lexeme) → Stands (spelling ms) tokens []
         → Stands (spelling ns) tokens [] → ms ≡ ns }
@@ -166,7 +166,7 @@ pub fn one_module_list()
 /// Kinds and texts of tokens are the spelling of at most one list of modules, apart from its
 /// lines.
 ///
-/// A law: the call does nothing, and its caller learns what the clause says.
+/// A law: the call does nothing, and its caller may use what it ensures.
 #[tactic(auto, using(crate::proofs::Lines::same_but_lines))]
 pub fn one_module_list_without_lines()
     ensures { (ms ns : List Tree) (tokens : List Lexeme)
@@ -177,7 +177,7 @@ pub fn one_module_list_without_lines()
 /// Tokens between braces have a spelling if and only if each brace that opens among them is
 /// followed by the one that closes it, and no other brace closes among them.
 ///
-/// A law: the call does nothing, and its caller learns what the clause says.
+/// A law: the call does nothing, and its caller may use what it ensures.
 #[tactic(auto, using(crate::proofs::Braces::counted, crate::proofs::Braces::balanced_counted, crate::proofs::Braces::fronts_counted))]
 pub fn balanced_braces()
     ensures { (xs : List TokenText) → has_balanced_braces xs ≡ true ↔ IsBalanced xs }

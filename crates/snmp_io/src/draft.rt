@@ -33,7 +33,7 @@ impl Model for Draft {
 }
 
 impl Draft {
-    /// Begins a text after the octets of `out`. Until [`Draft::finish`] returns them, `out` is
+    /// Begins a text after the octets of `out`. Until [`Draft::finish`] moves them back, `out` is
     /// empty. Doesn't allocate.
     #[inline]
     pub fn after(out: &mut Vec<u8>) -> Draft
@@ -117,8 +117,8 @@ impl Draft {
         self.octets(&[upper_digit(octet / 16), upper_digit(octet % 16), next]);
     }
 
-    /// Returns the octets to `out`, with the text after them. If memory ran out, fails, and `out`
-    /// is what it was before the text began.
+    /// Moves the octets back into `out`, with the text after them. If memory ran out, fails, and
+    /// `out` has the octets that it had before the text began.
     pub fn finish(self, out: &mut Vec<u8>) -> Result<(), AllocError>
         ensures ok { OnOk result (IfSome self.added (λ text. out.new.items ≡ self.before ++ text)) }
         ensures unchanged_on_error { OnErr result (out.new.items ≡ self.before) }

@@ -94,7 +94,7 @@ impl<R: rt::Files> Files for MachineFiles<R> {
     }
 }
 
-/// Why [`read_whole`] failed.
+/// Why a file or another reader couldn't be read.
 #[derive(Clone, Copy, Debug)]
 pub enum ReadError {
     /// The reader has more than 268435456 octets left.
@@ -120,7 +120,8 @@ impl ReadError {
     }
 }
 
-/// Reads all that `from` has left. Fails with `TooLong` if this is more than 268435456 octets.
+/// Returns all octets that `from` has left. Fails with `TooLong` if there are more than 268435456,
+/// and with `Failed` if reading fails or memory runs out.
 pub fn read_whole<R: Read + Drop>(alloc: Global, from: R) -> Result<Vec<u8>, ReadError>
     ensures whole { IfOk result (λ text.
         IfSome (R.remaining from) (λ octets. text.items ≡ octets)) }

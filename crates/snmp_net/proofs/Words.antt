@@ -35,7 +35,7 @@ pub parted : (word : List ℕ) (r : Option (Bor (List ℕ) × Bor (List ℕ))) �
     → MatchOption r ⊥ (λ x. (x.0.now ≡ host) × (x.1.now ≡ at.digits))
 parted word r split host port at = split_after 58 word host at.digits r split (omega arith) at.parts (clear host at.host_stated.no_colon)
 
--- if an argument has no other host and port, then it says no other place where requests are received
+-- if `IsPortOfHost` holds of one host and port only, then `IsHostAndPort` holds of no other
 pub place_only : (word : List ℕ) (r : Option UdpAddress)
     → IfSome r (λ at. (host : List ℕ) (port : ℕ) → IsPortOfHost word host port → (host ≡ at.host.now) × (port ≡ at.port))
     → IfSome r (λ at. (host : List ℕ) (port : ℕ) → IsHostAndPort word host port → (host ≡ at.host.now) × (port ≡ at.port))
@@ -47,7 +47,7 @@ pub place_none : (word : List ℕ) (r : Option UdpAddress) → IfNone r ((host :
 place_none word (Some at) fails = tt
 place_none word None fails = λ host port h. fails host port h.2
 
--- if an argument isn't only a host, then its host and port are its only target
+-- if the argument isn't only a host, and `IsPortOfHost` holds of one host and port only, then `IsTarget` holds of no other
 pub target_only : (word : List ℕ) (r : Option UdpAddress) → ¬ (IsHost word)
     → IfSome r (λ at. (host : List ℕ) (port : ℕ) → IsPortOfHost word host port → (host ≡ at.host.now) × (port ≡ at.port))
     → IfSome r (λ at. (host : List ℕ) (port : ℕ) → IsTarget word host port → (host ≡ at.host.now) × (port ≡ at.port))

@@ -8,14 +8,15 @@ use snmp_walk::{Link, LinkFault};
 
 /// A network: it opens links to agents, and doors, at which an agent is served.
 ///
-/// What a walk promises rests on the facts of the link that it opens. Nothing is known of the
-/// machine's own links.
+/// What a walk promises rests on the facts of the link that it opens. Of the machine's own links,
+/// only the counts of faults are known.
 pub trait Links {
     /// A link to an agent. It can't be dropped: the caller of `open` must close it, so that
     /// `closes` says in which state it ended.
     type Wire: Link;
 
-    /// Where an agent receives requests and sends its replies.
+    /// A door: a socket, or what stands for one in memory, at which an agent receives requests and
+    /// sends its replies.
     type Door: Drop;
 
     /// `opens old host port seconds wire new`: in state `old`, the link `wire` can be opened to

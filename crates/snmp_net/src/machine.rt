@@ -9,7 +9,7 @@ use snmp_walk::LinkFault;
 use std::net::{Net, UdpSocket};
 use std::time::Duration;
 
-/// Links and doors over UDP. Nothing is known of them.
+/// Links and doors over UDP. Only the number of calls that failed is known.
 #[derive(Drop)]
 pub struct MachineLinks<N> {
     net: N,

@@ -322,7 +322,7 @@ pub fn write_numeric(oid: &Oid, out: &mut [u8]) -> Option<usize>
 
 /// The written text of an identifier names it, and a text names at most one identifier.
 ///
-/// A law: the call does nothing, and its caller learns what the clauses say.
+/// A law: the call does nothing, and its caller may use what it ensures.
 #[inline]
 pub fn names()
     ensures written_is_named { (o : List ℕ) → IsIdentifier o → IsNumericName (numeric_text o) o }

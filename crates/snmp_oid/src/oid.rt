@@ -234,7 +234,7 @@ impl Oid {
 /// otherwise the identifier with the smaller number at the first difference (RFC 3416, section
 /// 4.2.2). Two are equal if and only if they have the same numbers.
 ///
-/// A law: the call does nothing, and its caller learns what the clauses say.
+/// A law: the call does nothing, and its caller may use what it ensures.
 #[inline]
 #[tactic(auto, using(crate::proofs::IdentifierLemmas::ordered_less, crate::proofs::IdentifierLemmas::ordered_equal, crate::proofs::IdentifierLemmas::ordered_greater))]
 pub fn order()
@@ -300,7 +300,7 @@ fn are_same_four(o: &[u32], p: &[u32], from: usize) -> bool
 /// `Precedes` is a strict total order: no two identifiers precede each other; what precedes an
 /// identifier precedes all that follow it; and of two that differ, one precedes the other.
 ///
-/// A law: the call does nothing, and its caller learns what the clauses say.
+/// A law: the call does nothing, and its caller may use what it ensures.
 #[inline]
 pub fn strict_order()
     ensures asymmetric { (o p : List ℕ) → Precedes o p → Precedes p o → ⊥ }
@@ -311,7 +311,7 @@ pub fn strict_order()
 /// Identifiers are ordered as their ranks are. A rank is a number of 128 digits to the base 2^32 +
 /// 1.
 ///
-/// A law: the call does nothing, and its caller learns what the clause says.
+/// A law: the call does nothing, and its caller may use what it ensures.
 #[inline]
 pub fn ranks()
     ensures { (o p : List ℕ) → IsIdentifier o → IsIdentifier p → Precedes o p ↔ (rank o < rank p) }

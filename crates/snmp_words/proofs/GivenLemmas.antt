@@ -30,7 +30,7 @@ number_refused low high text not_in = go (is_unsigned_in low high text) (λ e. n
     go true never = absurd (never refl)
     go false never = refl
 
--- the computed numbers are those of the options
+-- each computed number is the number of its option
 are_numbers : (rows : List Row) → AreNumbersOf rows (numbers_in rows)
 are_numbers rows id default low high = by (first_of id rows)
   where

@@ -234,7 +234,7 @@ asks_help kind.DisplayHelp = true
 asks_help kind.DisplayVersion = true
 asks_help _ = false
 
--- the error says that memory ran out, or is that of one of the faults
+-- the error says that memory ran out, or reports one of the faults
 abbrev pub HasFaultOf : UsageError → Kinds → Type 0
 HasFaultOf Memory faults = ⊤
 HasFaultOf (Parse text help) faults = (k : ErrorKind) × IsAmong k faults × (help ≡ asks_help k)
@@ -297,7 +297,7 @@ stated_by p = stated_among (readings (numbers_in p.1)) p
 abbrev pub stated_in : Option (Text × List Row) → Option Stated
 stated_in = option_and_then stated_by
 
--- the error is that of a parse that failed with kind k; memory for its text may have run out
+-- the error reports a parse that failed with kind k; memory for its text may have run out
 abbrev pub StandsFor : UsageError → ErrorKind → Type 0
 StandsFor Memory k = ⊤
 StandsFor (Parse text help) k = help ≡ asks_help k

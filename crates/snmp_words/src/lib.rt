@@ -39,8 +39,8 @@ use thiserror::Error;
 /// Why the arguments ask for no job.
 #[derive(Debug, Drop, Error)]
 pub enum UsageError {
-    /// The parser refused the arguments, or they ask for help. `text` is for the user and ends
-    /// with a newline; `help` says whether it is the help that was asked for.
+    /// The parser refused the arguments, or they ask for help or the version. `text` is for the
+    /// user and ends with a newline; `help` says whether the arguments ask for it.
     #[error("{text}")]
     Parse { text: String, help: bool },
     /// Memory ran out.
@@ -78,7 +78,7 @@ pub fn read_words<'a>(alloc: Global, words: &'a [&'a str]) -> Result<Job<'a>, Us
 /// The arguments of a walk of any table file from any numeric name, with `-On`, are taken and ask
 /// for that walk.
 ///
-/// A law: the call does nothing, and its caller learns what the clauses say.
+/// A law: the call does nothing, and its caller may use what it ensures.
 pub fn walks_are_taken()
     ensures joined { (path numbers : List ℕ) →
         is_taken (walk_line path numbers) ≡ true }
@@ -88,7 +88,7 @@ pub fn walks_are_taken()
 
 /// Arguments ask for at most one job.
 ///
-/// A law: the call does nothing, and its caller learns what the clause says.
+/// A law: the call does nothing, and its caller may use what it ensures.
 #[inline]
 pub fn one_job()
     ensures { (words : List Text) (job other : Stated)
@@ -97,7 +97,7 @@ pub fn one_job()
 
 /// Arguments that the command takes, and arguments without a fault, ask for a job.
 ///
-/// A law: the call does nothing, and its caller learns what the clauses say.
+/// A law: the call does nothing, and its caller may use what it ensures.
 #[inline]
 pub fn faultless_words_state_a_job()
     ensures taken { (words : List Text) → is_taken words ≡ true

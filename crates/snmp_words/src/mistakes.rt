@@ -1,5 +1,5 @@
-//! The text that is printed if the arguments ask for no job: that of the parser, with what to
-//! write instead of an argument of Net-SNMP, what a value should be, and the help to read.
+//! The text that is printed if the arguments ask for no job: the parser's text, with what to write
+//! instead of an argument of Net-SNMP, what a value should be, and the help to read.
 ghost use Rattle.std.specs.Prelude.{IfOk, false, string_bytes, true};
 ghost use Rattle.clap.specs.Words.{kind_of};
 ghost use Rattle.snmp_words.specs.Words.{IsTextFor, asks_help};

@@ -107,7 +107,7 @@ fn fault_at(text: &[u8], line: usize) -> LexError
 
 /// A text has one list of tokens, and at most one fault.
 ///
-/// A law: the call does nothing, and its caller learns what the clause says.
+/// A law: the call does nothing, and its caller may use what it ensures.
 #[tactic(auto, using(crate::proofs::LexerLaws::one_list))]
 pub fn one_token_list()
     ensures { (before text : List ℕ) (xs ys : List Item) →

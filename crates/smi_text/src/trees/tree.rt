@@ -24,8 +24,7 @@ pub struct Module {
     pub defs: Items<Def>,
 }
 
-// Written by hand, as for `Text`: an owner of a module calls this `drop`, and those of no other
-// part.
+// Written by hand, as for `Text`: an owner of a module calls this `drop`, and that of no part.
 impl Drop for Module {
     fn drop(self) {
         let Module {
