@@ -6,8 +6,8 @@ abbrev pub AreDone : {Step : Type 0} → (Step → Type 0) → List Step → Typ
 AreDone {Step} IsDone [] = Unit {0}
 AreDone {Step} IsDone (step ∷ more) = IsDone step × AreDone IsDone more
 
--- `why` is the reason for which the first step fails that isn't done. `Fails step why` says that
--- the step fails for this reason.
+-- `why` is the reason of the first step that fails; the steps before it are done. `Fails step why`
+-- says that the step fails for this reason.
 pub record IsFirstToFail {Step Why : Type 0} (steps : List Step) (IsDone : Step → Type 0)
     (Fails : Step → Why → Type 0) (why : Why) : Type 0 where
   pub done : List Step

@@ -15,12 +15,13 @@ use std::time::Duration;
 /// A link to the agent at a UDP port of a host.
 ///
 /// A datagram of another sender is returned as one of no octets, which isn't a reply to any
-/// request. So is a receive that a signal interrupts. If the host is down or the port is closed, no
-/// error says so: nothing is received, as if the datagram had been lost.
+/// request. So is a receive that a signal interrupts. If the host is down or the port is closed,
+/// no error says so: nothing is received, as if the datagram had been lost.
 ///
 /// Promised are the address that an IPv4 address in text means, and that each fault is counted.
 /// Nothing is promised of the socket: whether a datagram that was sent arrives, what is received,
-/// and how long a receive takes. So a walk over this link has the promises that hold over any link.
+/// and how long a receive takes. So a walk over this link has the promises that hold over any
+/// link.
 #[derive(Drop)]
 pub struct UdpLink {
     socket: UdpSocket,

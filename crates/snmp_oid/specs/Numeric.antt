@@ -44,7 +44,7 @@ BeginsPart text at =
     ((at ≡ 0) × (slice_index text 0 ≢ dot))
     ⊎ ((at ≤ length text) × (0 < at) × (slice_index text (at - 1) ≡ dot))
 
--- the part that begins at offset `at`: the octets before the next dot
+-- the part that begins at offset `at`: the octets up to the next dot, or to the end
 abbrev pub part_at : List ℕ → ℕ → List ℕ
 part_at text at = take_while (λ octet. not (octet == dot)) (drop at text)
 

@@ -247,7 +247,7 @@ end_of_text false = codes "--help'.\n"
 abbrev pub IsTextFor : (help : Bool) → Text → Type 0
 IsTextFor help text = (front : Text) × (text ≡ front ++ end_of_text help)
 
--- the text of the error, if it has one, ends so
+-- the text of the error, if it has one, ends as `end_of_text` says
 abbrev pub IsForUser : UsageError → Type 0
 IsForUser Memory = ⊤
 IsForUser (Parse text help) = IsTextFor help (string_bytes text)

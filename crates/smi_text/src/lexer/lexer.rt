@@ -36,8 +36,8 @@ impl<'a> Model for Lexer<'a> {
 impl<'a> Lexer<'a> {
     /// Returns the lexer of `text`, a whole module text.
     pub fn new(text: &'a [u8]) -> Self
-        // The lexer returns the text's tokens, and then the fault if the text breaks off before its
-        // end.
+        // The lexer returns the text's tokens, and then the fault if the text breaks off before
+        // its end.
         ensures tokens { Lexes [] text.now result }
         // A text has no other list of tokens.
         ensures only { (items : List Item) → Lexes [] text.now items → items ≡ result }

@@ -32,7 +32,8 @@ returns-then-end-n c =
     let text = c.args.text.now in
     let n = c.parts.n in
     let run = c.part_end-end.ensures in
-    word_ends text n c.parts.invariant.stops (λ more hyphen. subst (λ m. m < length text → is_word_octet (get_or text m 0) ≡ false) c.if-end-n.true run.stops more)
+    word_ends text n c.parts.invariant.stops
+    (λ more hyphen. subst (λ m. m < length text → is_word_octet (get_or text m 0) ≡ false) c.if-end-n.true run.stops more)
     c.parts.invariant.goes
 
 pub returns-else-text-n-eq45 : goal.returns-else-text-n-eq45
