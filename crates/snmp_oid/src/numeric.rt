@@ -62,7 +62,7 @@ pub fn read_numeric(text: &[u8], oid: &mut Oid) -> Result<(), OidTextError>
         return Ok(());
     }
     let mut too_long = false;
-    let mut left = Some(without_front_dot(text));
+    let mut left = Some(without_leading_dot(text));
     'parts: while let Some(here) = left {
         if let Some(rest) = read_three(here, oid) {
             left = Some(rest);
@@ -92,7 +92,7 @@ fn is_dot(text: &[u8]) -> bool
 }
 
 /// Returns `text` without its leading dot, if it has one.
-fn without_front_dot(text: &[u8]) -> &[u8]
+fn without_leading_dot(text: &[u8]) -> &[u8]
     ensures { ((result.now ≡ text.now) × (slice_index text.now 0 ≢ dot))
         ⊎ (text.now ≡ dot ∷ result.now) }
 {

@@ -88,8 +88,8 @@ pub record StatesNumber (low high : ℕ) (text : Text) (n : ℕ) : Type 0 where
   pub to : n ≤ high
 
 -- n is the number of option `id`: the one that its text writes, or `default` if no text was given.
--- A text that doesn't write a number of the range gives `default` too, but the command refuses it
--- first.
+-- A text that doesn't write a number of the range counts as `default` too, but the command refuses
+-- it first.
 abbrev pub IsNumberOf : Text → (default low high : ℕ) → List Row → ℕ → Type 0
 IsNumberOf id default low high rows n =
     MatchOption (first_of id rows) (n ≡ default) (λ text. StatesNumber low high text n
@@ -239,7 +239,8 @@ abbrev pub HasFaultOf : UsageError → Kinds → Type 0
 HasFaultOf Memory faults = ⊤
 HasFaultOf (Parse text help) faults = (k : ErrorKind) × IsAmong k faults × (help ≡ asks_help k)
 
--- how a text for the user ends: on a mistake, with the option that shows help
+-- how a text for the user ends: with a newline, and on a mistake with the option that shows help
+-- before it
 abbrev pub end_of_text : (help : Bool) → Text
 end_of_text true = codes "\n"
 end_of_text false = codes "--help'.\n"

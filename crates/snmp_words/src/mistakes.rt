@@ -226,7 +226,7 @@ fn push_tips(
     Ok(())
 }
 
-/// Returns the tip on the version if `words` ask for another one than 2c.
+/// Returns the tip on the version if `words` ask for a version other than 2c.
 fn tip_on_version(words: &[&str]) -> Option<&'static str> {
     let mut is_next = false;
     for word in words {

@@ -390,7 +390,7 @@ unfoldable pub upper_definition : Format DefKind
 upper_definition = shaped to_upper (either (behind
     (token K.Assign) assigned) macro_definition)
 
--- the token ahead is a reserved word that names a macro
+-- the conditions on a token ahead that names a macro: it is one of these words
 abbrev pub macro_words : List Ahead
 macro_words = map a_word macros
 
