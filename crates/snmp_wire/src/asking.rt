@@ -1,4 +1,4 @@
-//! What a walk keeps of a name, and the binding by which it asks for it.
+//! The encoded name that a walk stores, and the binding that requests it.
 ghost use Rattle.std.specs.Prelude.{◌≡◌, ℕ, ◌≤◌, ◌↔◌, ◌++◌, drop, length, take, IfNone, IfSome};
 ghost use Rattle.std.specs.Prelude.{IsSome};
 ghost use Rattle.snmp_oid.specs.Identifier.{IsIdentifier, IsWire};
@@ -9,7 +9,7 @@ use crate::ber::{header_size, put_header, put_text};
 use crate::{EncodedName, MAX_CONTENT};
 use std::marker::Model;
 
-/// A name as it is encoded, in octets of its own.
+/// An encoded name that owns its octets.
 #[derive(Drop)]
 pub struct NameBuffer {
     octets: [u8; MAX_CONTENT],
@@ -29,7 +29,7 @@ impl Model for NameBuffer {
 }
 
 impl NameBuffer {
-    /// A copy of a name.
+    /// Returns a copy of `name`.
     pub fn new(name: &EncodedName<'_>) -> NameBuffer
         ensures value { result ≡ name.now }
         ensures wire { IsWire name.now }
@@ -44,7 +44,7 @@ impl NameBuffer {
         }
     }
 
-    /// The name.
+    /// Returns the name.
     #[inline]
     pub fn name(&self) -> EncodedName<'_>
         ensures { result ≡ self.now }
@@ -52,7 +52,7 @@ impl NameBuffer {
         EncodedName::of(&self.octets[..self.len])
     }
 
-    /// Sets it to another name, in place.
+    /// Replaces the stored name by `name`, in place.
     #[inline]
     pub fn set_to(&mut self, name: &EncodedName<'_>)
         ensures value { self.new ≡ name.now }
@@ -65,7 +65,7 @@ impl NameBuffer {
     }
 }
 
-/// Copies octets, of which there are at most 640, to the front of others.
+/// Copies `content`, of at most 640 octets, to the start of `octets`.
 #[inline]
 fn copy_to_front(octets: &mut [u8; MAX_CONTENT], content: &[u8])
     requires { length content.now ≤ 640 }
@@ -74,7 +74,7 @@ fn copy_to_front(octets: &mut [u8; MAX_CONTENT], content: &[u8])
     octets[..content.len()].copy_from_slice(content);
 }
 
-/// How many octets the shortest encoding of the binding that asks for a name takes.
+/// Returns the length, in octets, of the shortest encoding of the binding that requests `name`.
 #[inline]
 #[tactic(auto, using(crate::proofs::BindingWriting::sizes_null))]
 pub fn asking_size(name: &EncodedName<'_>) -> u64
@@ -85,12 +85,12 @@ pub fn asking_size(name: &EncodedName<'_>) -> u64
     header_size(content) + content
 }
 
-/// Writes the binding that asks for a name, whose value is NULL (RFC 3416, section 3), to the front
-/// of `out`, and returns its length.
+/// Writes the shortest encoding of the binding that requests `name` to the start of `out`, and
+/// returns its length. The value of the binding is NULL (RFC 3416, section 3).
 ///
-/// None only where `out` is shorter, and then it is unchanged.
+/// Returns `None` if `out` is shorter than that; `out` is then unchanged.
 pub fn encode_asking(name: &EncodedName<'_>, out: &mut [u8]) -> Option<usize>
-    // The octets after it stay as they were.
+    // The octets of `out` after it are unchanged.
     ensures some { IfSome result (λ n.
         (n ≡ length (canon_binding (asking name.now)))
         × (out.new ≡ canon_binding (asking name.now) ++ drop n out.old)) }
@@ -106,7 +106,7 @@ pub fn encode_asking(name: &EncodedName<'_>, out: &mut [u8]) -> Option<usize>
     Some(size)
 }
 
-/// Writes the binding that asks for a name before `end`, and returns where it begins.
+/// Writes the binding that requests `asked` before `end`, and returns its offset.
 #[inline]
 fn put_asking(out: &mut [u8], end: usize, asked: &EncodedName<'_>) -> usize
     requires room { length (canon_binding (asking asked.now)) ≤ end }

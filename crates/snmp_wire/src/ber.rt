@@ -1,7 +1,7 @@
-//! The Basic Encoding Rules of values (X.690; RFC 3417, section 8): whole numbers, lengths, object
+//! The Basic Encoding Rules (X.690; RFC 3417, section 8) for whole numbers, lengths, object
 //! identifiers, and the value of a variable binding.
 //!
-//! Built on the identifiers. Bindings and messages are read and written from these pieces.
+//! Bindings and messages are decoded and encoded by these pieces.
 
 mod error;
 mod identifier;

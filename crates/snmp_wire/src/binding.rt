@@ -1,4 +1,4 @@
-//! Variable bindings, one and a list of them.
+//! A variable binding, and the list of the bindings of a message.
 ghost use Rattle.std.specs.Prelude.{◌≡◌, ℕ, List, [], ◌∷◌, true, false, length, IsOk, Ok, ◌+◌, ◌^◌};
 ghost use Rattle.std.specs.Prelude.{◌<◌, ◌≤◌, ◌↔◌, ◌++◌, drop, IfSome, IfNone, IsSome, ⊤};
 ghost use Rattle.snmp_wire.specs.{Message.var_bind, ber.Reading.AgreesBy, ber.Reading.checked};
@@ -25,12 +25,12 @@ use std::marker::Model;
 pub struct Binding<'a> {
     /// The name of the instance.
     pub name: Oid,
-    /// Its value, or an exception.
+    /// The value, or an exception.
     pub value: ValueRef<'a>,
 }
 
 impl<'a> Binding<'a> {
-    /// The binding of the empty name and the value NULL, for [`Bindings::read_next`] to read into.
+    /// Returns the binding of the empty name and NULL, for [`Bindings::read_next`] to read into.
     #[inline]
     pub fn empty() -> Binding<'a>
         ensures { var_bind result ≡ record { name = []; value = null_value } }
@@ -42,7 +42,8 @@ impl<'a> Binding<'a> {
     }
 }
 
-/// The bindings of a message, in order. Their strings lie in its datagram.
+/// The bindings of a message that aren't read yet, in order. Their strings are borrowed from their
+/// encoding.
 #[derive(Debug, Drop)]
 pub struct Bindings<'a> {
     rest: &'a [u8],
@@ -65,7 +66,8 @@ impl<'a> Bindings<'a> {
     ghost use Rattle.snmp_wire.specs.Message.{var_bind};
     ghost use Rattle.snmp_wire.specs.Reading as reading;
 
-    /// The bindings that the octets are.
+    /// Returns the bindings that `octets` encode, one after the other. The octets must be known to
+    /// be bindings.
     #[inline]
     pub(crate) fn new(octets: &'a [u8]) -> Bindings<'a>
         requires { IsOk (reading.bindings_of octets.now) }
@@ -74,7 +76,7 @@ impl<'a> Bindings<'a> {
         Bindings { rest: octets }
     }
 
-    /// The bindings that are left, as an iterator of their own.
+    /// Returns the remaining bindings as an iterator of their own.
     #[inline]
     pub fn left(&self) -> Bindings<'a>
         ensures { result ≡ self.now }
@@ -82,11 +84,11 @@ impl<'a> Bindings<'a> {
         Bindings { rest: self.rest }
     }
 
-    /// Reads the next binding into an existing one, and returns whether there was one. Where none
-    /// is left, `into` is unchanged.
+    /// Reads the next binding into `into`, and returns whether there was one. If none is left,
+    /// `into` is unchanged.
     ///
-    /// This is [`Iterator::next`] for a caller that reads many: a binding has over a thousand
-    /// octets, and here none of them is moved.
+    /// This is [`Iterator::next`] for a caller that reads many bindings: a [`Binding`] has over a
+    /// thousand octets, and here it isn't moved.
     pub fn read_next(&mut self, into: &mut Binding<'a>) -> bool
         // Bindings are read in order, and none is left out.
         ensures some { result ≡ true → self.old ≡ var_bind into.new ∷ self.new }
@@ -95,8 +97,8 @@ impl<'a> Bindings<'a> {
         if self.rest.is_empty() {
             return false;
         }
-        // Bindings with lengths of the long form are read elsewhere, so that the fields of others
-        // stay in registers.
+        // A binding with a length in the long form is read by another function, so that the fields
+        // of all others stay in registers.
         let Some((fields, rest)) = short_fields_at(self.rest) else {
             self.rest = read_long(self.rest, into);
             return true;
@@ -106,8 +108,9 @@ impl<'a> Bindings<'a> {
         true
     }
 
-    /// The next binding, none of whose parts is read yet.
-    // Hot: each binding of a message.
+    /// Returns the next binding, without decoding its name or its value, or `None` if none is
+    /// left.
+    // `inline(always)`: called for each binding of a message.
     #[inline(always)]
     pub fn next_ref(&mut self) -> Option<BindingRef<'a>>
         ensures some { IfSome result (λ binding. self.old ≡ binding ∷ self.new) }
@@ -125,7 +128,7 @@ impl<'a> Bindings<'a> {
 impl<'a> Clone for Bindings<'a> {
     ghost is_clone = { λ bindings copy. copy ≡ bindings };
 
-    // Nothing is allocated.
+    // A clone allocates nothing.
     ghost is_infallible = { λ _. ⊤ };
 
     fn clone(&self) -> Result<Bindings<'a>, AllocError> {
@@ -153,8 +156,8 @@ impl<'a> Iterator for Bindings<'a> {
     }
 }
 
-/// A variable binding as it lies in a datagram: its name is compared as it is encoded, and its
-/// value is read when it is wanted.
+/// A variable binding in its datagram. Its name is compared as it is encoded, and its value is
+/// decoded only if it is wanted.
 #[derive(Drop)]
 pub struct BindingRef<'a> {
     fields: Fields<'a>,
@@ -173,7 +176,7 @@ impl<'a> Model for BindingRef<'a> {
 }
 
 impl<'a> BindingRef<'a> {
-    /// The name of the instance.
+    /// Returns the name of the instance, as it is encoded.
     #[inline]
     pub fn name(&self) -> EncodedName<'a>
         ensures { result ≡ self.now.name }
@@ -181,7 +184,7 @@ impl<'a> BindingRef<'a> {
         EncodedName::of(self.fields.name)
     }
 
-    /// The tag of its value, or of the exception in place of one (RFC 3416, section 3).
+    /// Returns the tag of the value, or of the exception in place of one (RFC 3416, section 3).
     #[inline]
     pub fn tag(&self) -> u8
         ensures { result ≡ value_tag self.now.value }
@@ -189,7 +192,7 @@ impl<'a> BindingRef<'a> {
         self.fields.tag
     }
 
-    /// Reads the binding into an existing one.
+    /// Reads the binding into `into`.
     #[inline]
     pub fn read_into(&self, into: &mut Binding<'a>)
         ensures { var_bind into.new ≡ self.now }
@@ -198,7 +201,7 @@ impl<'a> BindingRef<'a> {
     }
 }
 
-/// Where a binding's name and value lie.
+/// The fields of an encoded binding, in its datagram.
 #[derive(Clone, Copy)]
 struct Fields<'a> {
     /// The content of the name.
@@ -209,7 +212,7 @@ struct Fields<'a> {
     content: &'a [u8],
 }
 
-/// Checks that the octets are bindings.
+/// Checks that `octets` encode bindings, one after the other.
 #[tactic(auto, using(crate::proofs::MessageLaws::checked_bindings))]
 pub(crate) fn check_bindings(octets: &[u8]) -> Result<(), BerError>
     ensures { AgreesBy (λ u. u) result (checked (reading.bindings_of octets.now)) }
@@ -223,8 +226,9 @@ pub(crate) fn check_bindings(octets: &[u8]) -> Result<(), BerError>
     Ok(())
 }
 
-/// The fields of the binding at the front, and what follows.
-// Hot, and called once: each binding that is checked.
+/// Returns the fields of the binding at the start of `octets`, and the octets after it. The
+/// contents of the name and the value aren't checked.
+// `inline(always)`: its single caller calls it for each binding that is checked.
 #[inline(always)]
 fn fields_at<'a>(octets: &'a [u8]) -> Result<(Fields<'a>, &'a [u8]), BerError>
     ensures { AgreesBy (λ x. (reading.fields x.0, x.1.now)) result (reading.fields_at octets.now) }
@@ -235,9 +239,10 @@ fn fields_at<'a>(octets: &'a [u8]) -> Result<(Fields<'a>, &'a [u8]), BerError>
     }
 }
 
-/// The fields of the binding at the front, and what follows, where each of its three lengths has
-/// one octet, as most do. None says nothing of the octets.
-// Hot: each binding that is checked or read. Inlined, its result stays in registers.
+/// Does what [`fields_at`] does if each of the three lengths has one octet, as most do. If it
+/// returns `None`, that says nothing of the octets.
+// `inline(always)`: called for each binding that is checked or read. Inlined, its result stays in
+// registers.
 #[inline(always)]
 fn short_fields_at<'a>(octets: &'a [u8]) -> Option<(Fields<'a>, &'a [u8])>
     ensures { IfSome result (λ x. reading.fields_at octets.now ≡ Ok (reading.fields x.0, x.1.now)) }
@@ -267,9 +272,9 @@ fn short_fields_at<'a>(octets: &'a [u8]) -> Option<(Fields<'a>, &'a [u8])>
     }
 }
 
-/// The fields of the binding at the front, and what follows, whatever the form of its lengths.
+/// Does what [`fields_at`] does, for lengths of any form.
 #[tactic(auto, unfolding(crate::specs::Reading::fields_at))]
-// Hot where lengths have a long form: each binding that is checked.
+// `inline(always)`: called for each binding that is checked and has a length in the long form.
 #[inline(always)]
 fn any_fields_at<'a>(octets: &'a [u8]) -> Result<(Fields<'a>, &'a [u8]), BerError>
     ensures { AgreesBy (λ x. (reading.fields x.0, x.1.now)) result (reading.fields_at octets.now) }
@@ -278,9 +283,10 @@ fn any_fields_at<'a>(octets: &'a [u8]) -> Result<(Fields<'a>, &'a [u8]), BerErro
     Ok((fields_of(content)?, rest))
 }
 
-/// The fields of a binding's content.
+/// Returns the fields of the binding with this content. Fails if octets are left over after the
+/// value.
 #[tactic(auto, unfolding(crate::specs::Reading::fields_of))]
-// Called once, as hot as its caller.
+// `inline(always)`: it has a single caller.
 #[inline(always)]
 fn fields_of<'a>(content: &'a [u8]) -> Result<Fields<'a>, BerError>
     ensures { AgreesBy reading.fields result (reading.fields_of content.now) }
@@ -293,7 +299,8 @@ fn fields_of<'a>(content: &'a [u8]) -> Result<Fields<'a>, BerError>
     Ok(Fields { name, tag, content })
 }
 
-/// The fault of a binding with octets left over after its value: the value's own, if it has one.
+/// Returns the fault of a binding with octets left over after its value: the fault of the value,
+/// or [`BerError::Content`] if it has none.
 #[cold]
 fn left_over(tag: u8, content: &[u8]) -> BerError
     ensures { result ≡ reading.left_over_after tag content.now }
@@ -304,9 +311,9 @@ fn left_over(tag: u8, content: &[u8]) -> BerError
     }
 }
 
-/// The fields of the binding at the front of octets that are known to be bindings, and what
-/// follows.
-// Hot: each binding that is read.
+/// Returns the fields of the first of the bindings that `octets` encode, and the octets after it.
+/// The octets must be known to be bindings.
+// `inline(always)`: called for each binding that is read.
 #[inline(always)]
 fn fields_in<'a>(octets: &'a [u8]) -> (Fields<'a>, &'a [u8])
     requires some { 0 < length octets.now }
@@ -319,7 +326,7 @@ fn fields_in<'a>(octets: &'a [u8]) -> (Fields<'a>, &'a [u8])
     }
 }
 
-/// [`fields_in`], whatever the form of the lengths.
+/// Does what [`fields_in`] does, for lengths of any form.
 #[cold]
 fn long_fields_in<'a>(octets: &'a [u8]) -> (Fields<'a>, &'a [u8])
     requires some { 0 < length octets.now }
@@ -332,8 +339,8 @@ fn long_fields_in<'a>(octets: &'a [u8]) -> (Fields<'a>, &'a [u8])
     }
 }
 
-/// Reads the binding at the front of octets that are known to be bindings into an existing one, and
-/// returns what follows.
+/// Reads the first of the bindings that `octets` encode into `into`, and returns the octets after
+/// it. The octets must be known to be bindings.
 #[cold]
 fn read_long<'a>(octets: &'a [u8], into: &mut Binding<'a>) -> &'a [u8]
     requires some { 0 < length octets.now }
@@ -347,8 +354,9 @@ fn read_long<'a>(octets: &'a [u8], into: &mut Binding<'a>) -> &'a [u8]
     rest
 }
 
-/// Reads the binding of these fields into an existing one.
-// Hot: each binding that is read.
+/// Reads the binding with these fields into `into`. The contents of the fields must have been
+/// checked.
+// `inline(always)`: called for each binding that is read.
 #[inline(always)]
 fn read_binding<'a>(fields: Fields<'a>, into: &mut Binding<'a>)
     requires { IsOk (reading.binding_of (reading.fields fields)) }
@@ -359,7 +367,7 @@ fn read_binding<'a>(fields: Fields<'a>, into: &mut Binding<'a>)
     push_identifier(&mut into.name, fields.name);
 }
 
-/// Checks that the fields are a binding's.
+/// Checks the contents of the name and the value.
 #[tactic(auto, unfolding(crate::specs::Reading::binding_of))]
 #[inline]
 fn check_binding(fields: Fields<'_>) -> Result<(), BerError>
@@ -370,24 +378,24 @@ fn check_binding(fields: Fields<'_>) -> Result<(), BerError>
     check_value(fields.tag, fields.content)
 }
 
-/// How many octets the shortest encoding of a binding takes.
+/// Returns the length, in octets, of the shortest encoding of a binding.
 ///
-/// Its name, and its value if it is an identifier, must have an encoding ([`Oid::is_wire`]), and a
-/// string must have at most 65535 octets.
-// Hot: each binding that is written.
+/// Its name, and its value if that is an identifier, must have an encoding ([`Oid::is_wire`]), and
+/// a string must have at most 65535 octets.
+// `inline(always)`: called for each binding that is written.
 #[inline(always)]
 pub fn binding_size(binding: &Binding<'_>) -> u64
     requires { IsEncodable (var_bind binding.now) }
     ensures value { result ≡ length (canon_binding (var_bind binding.now)) }
     ensures at_most_70000 { result ≤ 70000 }
-    // What can be written is within the ranges of its types.
+    // A binding that can be written is within the ranges of its types.
     ensures range { IsBindingInRange (var_bind binding.now) }
 {
     pair_size(&binding.name, &binding.value)
 }
 
-/// How many octets the shortest encoding of the binding of a name and a value takes.
-// Hot: each binding that is written.
+/// Returns the length, in octets, of the shortest encoding of the binding of `name` and `value`.
+// `inline(always)`: called for each binding that is written.
 #[inline(always)]
 pub(crate) fn pair_size(name: &Oid, value: &ValueRef<'_>) -> u64
     requires { IsEncodable (record { name = name.now; value = datum value.now }) }
@@ -401,20 +409,20 @@ pub(crate) fn pair_size(name: &Oid, value: &ValueRef<'_>) -> u64
     let name = identifier_size(name);
     let value = content_size(value);
     if name + value < 124 {
-        // Short, as most are: each of the three headers has two octets.
+        // Short, as most bindings are: each of the three headers has two octets.
         return name + value + 6;
     }
     let content = header_size(name) + name + header_size(value) + value;
     header_size(content) + content
 }
 
-/// Writes the shortest encoding of a binding to the front of `out`, and returns its length. It
+/// Writes the shortest encoding of a binding to the start of `out`, and returns its length. It
 /// requires what [`binding_size`] requires.
 ///
-/// None only where `out` is shorter, and then it is unchanged.
+/// Returns `None` if `out` is shorter than that; `out` is then unchanged.
 pub fn encode_binding(binding: &Binding<'_>, out: &mut [u8]) -> Option<usize>
     requires { IsEncodable (var_bind binding.now) }
-    // The octets after it stay as they were.
+    // The octets of `out` after it are unchanged.
     ensures some { IfSome result (λ n.
         (n ≡ length (canon_binding (var_bind binding.now)))
         × (out.new ≡ canon_binding (var_bind binding.now) ++ drop n out.old)) }
@@ -431,8 +439,8 @@ pub fn encode_binding(binding: &Binding<'_>, out: &mut [u8]) -> Option<usize>
     Some(size)
 }
 
-/// Writes a binding before `end`, and returns where it begins.
-// Hot: each binding that is written.
+/// Writes a binding before `end`, and returns its offset.
+// `inline(always)`: called for each binding that is written.
 #[inline(always)]
 pub(crate) fn put_binding(out: &mut [u8], end: usize, binding: &Binding<'_>) -> usize
     requires encodable { IsEncodable (var_bind binding.now) }
@@ -443,8 +451,8 @@ pub(crate) fn put_binding(out: &mut [u8], end: usize, binding: &Binding<'_>) -> 
     put_pair(out, end, &binding.name, &binding.value)
 }
 
-/// Writes the binding of a name and a value before `end`, and returns where it begins.
-// Hot: each binding that is written.
+/// Writes the binding of `name` and `value` before `end`, and returns its offset.
+// `inline(always)`: called for each binding that is written.
 #[inline(always)]
 pub(crate) fn put_pair(out: &mut [u8], end: usize, name: &Oid, value: &ValueRef<'_>) -> usize
     requires encodable { IsEncodable (record { name = name.now; value = datum value.now }) }
@@ -459,7 +467,7 @@ pub(crate) fn put_pair(out: &mut [u8], end: usize, name: &Oid, value: &ValueRef<
     let value = put_value(out, end, value);
     let content = put_identifier(out, value, name);
     if end - content < 126 {
-        // Short, as most are: each header has two octets.
+        // Short, as most bindings are: each header has two octets.
         let name = put_short_header(out, content, OBJECT_IDENTIFIER, (value - content) as u64);
         return put_short_header(out, name, SEQUENCE, (end - name) as u64);
     }

@@ -1,4 +1,4 @@
-//! Bindings that are kept as their encodings, as a table keeps its rows.
+//! Bindings stored as their encodings, as a table stores its rows.
 ghost use Rattle.std.specs.Prelude.{◌≡◌, length, IfOk, Ok};
 ghost use Rattle.snmp_wire.specs.Encoded.{IsKept, binding_in, octets_of};
 ghost use Rattle.snmp_wire.specs.ber.Reading as reading;
@@ -15,8 +15,8 @@ use snmp_oid::Oid;
 use std::alloc::{AllocError, Global};
 use std::marker::Model;
 
-/// A variable binding (RFC 3416, section 3) as its shortest encoding, which is copied into a
-/// message as it is.
+/// A variable binding (RFC 3416, section 3), stored as its shortest encoding. That is copied into
+/// a message as it is.
 #[derive(Debug, Drop)]
 pub struct EncodedBinding {
     octets: Octets,
@@ -30,13 +30,16 @@ impl Model for EncodedBinding {
 
     ghost view = { λ b. binding_in (octets_of b.octets) };
 
-    // It is kept as the computed encoding of its binding.
+    // The octets are the encoding that this crate computes for their binding.
     ghost invariant = { λ b. IsKept (octets_of b.octets) };
 }
 
 impl EncodedBinding {
-    /// The binding of a name and a value. It takes memory where the encoding has more than 39
-    /// octets.
+    /// Returns the binding of `name` and `value`. Allocates only if its encoding has more than 39
+    /// octets, and fails only if memory runs out.
+    ///
+    /// The name, and the value if it is an identifier, must have an encoding ([`Oid::is_wire`]),
+    /// and a string must have at most 65535 octets.
     pub fn new(
         alloc: Global,
         name: &Oid,
@@ -51,17 +54,17 @@ impl EncodedBinding {
         Ok(EncodedBinding { octets })
     }
 
-    /// The shortest encoding.
+    /// Returns the shortest encoding of the binding.
     #[inline]
     pub fn octets(&self) -> &[u8]
-        // The computed encoding; the laws of messages say that none is shorter.
+        // The encoding that this crate computes; the laws of messages say that none is shorter.
         ensures encoding { result.now ≡ canon_binding self.now }
         ensures range { IsBindingInRange self.now }
     {
         self.octets.as_slice()
     }
 
-    /// The name, as it is encoded.
+    /// Returns the encoded name.
     #[inline]
     pub fn name(&self) -> EncodedName<'_>
         ensures { result ≡ self.now.name }
@@ -69,14 +72,14 @@ impl EncodedBinding {
         EncodedName::of(name_in(self.octets.as_slice()))
     }
 
-    /// Reads the binding into an existing one.
+    /// Reads the binding into `into`.
     pub fn read_into<'a>(&'a self, into: &mut Binding<'a>)
         ensures { var_bind into.new ≡ self.now }
     {
         let _ = Bindings::new(self.octets.as_slice()).read_next(into);
     }
 
-    /// The value.
+    /// Returns the value.
     pub fn value(&self) -> ValueRef<'_>
         ensures { datum result ≡ self.now.value }
     {
@@ -86,9 +89,9 @@ impl EncodedBinding {
     }
 }
 
-/// The content of the name in the encoding of a binding.
-// Hot: each comparison of a search. Where the lengths have one octet each, as in most bindings, the
-// name begins at the fifth.
+/// Returns the content of the name in the encoding of a binding.
+// `inline(always)`: called for each comparison of a search. If the lengths have one octet each, as
+// in most bindings, the name begins at the fifth octet.
 #[inline(always)]
 #[tactic(auto, using(crate::proofs::Kept::short_name))]
 fn name_in(octets: &[u8]) -> &[u8]
@@ -105,7 +108,7 @@ fn name_in(octets: &[u8]) -> &[u8]
     }
 }
 
-/// [`name_in`], whatever the form of the lengths.
+/// Does what [`name_in`] does, for lengths of any form.
 #[cold]
 fn name_in_long(octets: &[u8]) -> &[u8]
     requires { IsKept octets.now }
@@ -120,7 +123,8 @@ fn name_in_long(octets: &[u8]) -> &[u8]
     name
 }
 
-/// The shortest encoding of the binding of a name and a value.
+/// Returns the shortest encoding of the binding of `name` and `value`. Fails only if memory runs
+/// out.
 fn encoded(alloc: Global, name: &Oid, value: &ValueRef<'_>) -> Result<Octets, AllocError>
     requires { IsEncodable (record { name = name.now; value = datum value.now }) }
     ensures { IfOk result (λ octets. octets_of octets
@@ -139,7 +143,8 @@ fn encoded(alloc: Global, name: &Oid, value: &ValueRef<'_>) -> Result<Octets, Al
     })
 }
 
-/// [`encoded`], for an encoding of more octets than stand in place, for which it takes memory.
+/// Does what [`encoded`] does for an encoding of more than [`IN_PLACE`] octets: allocates memory
+/// for it. The encoding has `size` octets.
 #[inline(never)]
 #[tactic(auto, using(crate::proofs::BindingWriting::encoded))]
 fn encoded_elsewhere(

@@ -1,24 +1,24 @@
-//! Octets that are kept: a few in place, more elsewhere.
+//! Octets that own their memory: a few are stored inline, more on the heap.
 
 use std::fmt;
 
-/// How many octets stand in place at most: most rows of a device have no more. [`Octets`] takes 64
-/// octets with them.
+/// The longest encoding, in octets, that [`Octets`] stores inline; longer ones are on the heap.
+/// Most rows of a device fit, and an [`Octets`] takes 64 octets with it.
 pub const IN_PLACE: usize = 39;
 
-/// The size that says that octets stand elsewhere: any above [`IN_PLACE`].
+/// The [`Octets::size`] of an encoding on the heap; any number above [`IN_PLACE`] would do.
 pub const ELSEWHERE: u8 = 255;
 
-/// The octets of an encoding. Where they are few they stand in place: they take no memory of their
-/// own, and a search reads them without following a pointer.
-// No enum, so that each is moved as a whole, and many of them at once.
+/// An encoding, stored inline if it has at most [`IN_PLACE`] octets. Inline, it needs no
+/// allocation, and a search reads it without following a pointer.
+// A struct and not an enum, so that each is moved as a whole, and many of them at once.
 #[derive(Drop)]
 pub struct Octets {
-    /// All of them, where they stand elsewhere.
+    /// All octets, if they are on the heap.
     pub many: Vec<u8>,
-    /// How many stand in place, or [`ELSEWHERE`].
+    /// The number of octets stored inline, or [`ELSEWHERE`].
     pub size: u8,
-    /// Those that stand in place, and zeros after them.
+    /// The octets stored inline, and zeros after them.
     pub few: [u8; IN_PLACE],
 }
 
@@ -26,8 +26,8 @@ impl Octets {
     ghost use Rattle.std.specs.Prelude.{◌≡◌};
     ghost use Rattle.snmp_wire.specs.Encoded.{octets_of};
 
-    /// The octets.
-    // Hot: each comparison of a search.
+    /// Returns the octets.
+    // `inline(always)`: called for each comparison of a search.
     #[inline(always)]
     pub fn as_slice(&self) -> &[u8]
         ensures { result.now ≡ octets_of self.now }

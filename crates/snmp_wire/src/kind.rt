@@ -26,9 +26,9 @@ pub enum Kind {
     Report,
 }
 
-/// The kind that has this tag.
+/// Returns the kind whose tag is `tag`, or [`BerError::Tag`] if there is none.
 #[tactic(auto, unfolding(crate::specs::Reading::kind_of))]
-// Called once, for each message that is checked.
+// `inline(always)`: its single caller decodes each message.
 #[inline(always)]
 pub(crate) fn kind_of(tag: u8) -> Result<Kind, BerError>
     ensures { AgreesBy (λ kind. kind) result (reading.kind_of tag) }
@@ -46,7 +46,7 @@ pub(crate) fn kind_of(tag: u8) -> Result<Kind, BerError>
     }
 }
 
-/// The tag of a PDU (RFC 3416, section 3).
+/// Returns the tag of a PDU of this kind (RFC 3416, section 3).
 #[inline]
 pub(crate) fn tag_of_kind(kind: Kind) -> u8
     ensures { result ≡ kind_tag kind }

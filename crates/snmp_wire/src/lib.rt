@@ -1,11 +1,11 @@
 //! Messages of SNMPv2c (RFC 3416) and their BER encoding (X.690, RFC 3417 section 8).
 //!
-//! Built on the identifiers, which it exports too. Agent and walk exchange octets alone, and read
-//! and write them by this crate.
+//! Re-exports the object identifiers of `snmp_oid`, on which it is built. Agents and walks exchange
+//! only octets, and decode and encode them by this crate.
 //!
 //! # Examples
 //!
-//! A Get is written, and read again:
+//! A Get is encoded, and decoded again:
 //!
 //! ```
 //! let bindings = [Binding {

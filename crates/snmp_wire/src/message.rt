@@ -1,4 +1,4 @@
-//! Messages, read from datagrams and written.
+//! Messages: decoded from datagrams, and encoded.
 ghost use Rattle.std.specs.Prelude.{◌≡◌, ℕ, List, ◌++◌, IfOk, IfErr, Ok, ◌+◌, ◌^◌, ◌<◌, ◌≤◌, ◌↔◌};
 ghost use Rattle.std.specs.Prelude.{length, drop, take, IfSome, IfNone, IsSome, All};
 ghost use Rattle.std.specs.List.{AllByRecursion};
@@ -23,11 +23,11 @@ use crate::laws::one_shortest_encoding;
 use crate::{Binding, Bindings, Kind};
 use std::marker::Model;
 
-/// How many octets a datagram of UDP over IPv4 has at most (RFC 768; RFC 791, section 3.1): 65535
-/// less the headers of 20 and 8 octets.
+/// The greatest number of octets in a UDP datagram over IPv4 (RFC 768; RFC 791, section 3.1):
+/// 65535 less the headers of 20 and 8 octets.
 pub const MAX_DATAGRAM: usize = 65507;
 
-/// A message (RFC 1901, section 3) in the datagram that it was read from.
+/// A decoded message (RFC 1901, section 3). Its strings are borrowed from the datagram.
 #[derive(Debug, Drop)]
 pub struct MessageRef<'a> {
     version: i32,
@@ -61,7 +61,7 @@ impl<'a> Model for MessageRef<'a> {
 }
 
 impl<'a> MessageRef<'a> {
-    /// The version: 1 for SNMPv2c.
+    /// Returns the version: 1 for SNMPv2c.
     #[inline]
     pub fn version(&self) -> i32
         ensures { result ≡ self.now.version }
@@ -69,7 +69,7 @@ impl<'a> MessageRef<'a> {
         self.version
     }
 
-    /// The community, in the datagram.
+    /// Returns the community.
     #[inline]
     pub fn community(&self) -> &'a [u8]
         ensures { result.now ≡ self.now.community }
@@ -77,7 +77,7 @@ impl<'a> MessageRef<'a> {
         self.community
     }
 
-    /// The kind of the PDU.
+    /// Returns the kind of the PDU.
     #[inline]
     pub fn kind(&self) -> Kind
         ensures { result ≡ self.now.kind }
@@ -85,7 +85,7 @@ impl<'a> MessageRef<'a> {
         self.kind
     }
 
-    /// The request-id.
+    /// Returns the request-id.
     #[inline]
     pub fn id(&self) -> i32
         ensures { result ≡ self.now.id }
@@ -93,7 +93,7 @@ impl<'a> MessageRef<'a> {
         self.id
     }
 
-    /// The error-status; in a GetBulk request the non-repeaters.
+    /// Returns the error-status, or the non-repeaters of a GetBulk request.
     #[inline]
     pub fn a(&self) -> i32
         ensures { result ≡ self.now.a }
@@ -101,7 +101,7 @@ impl<'a> MessageRef<'a> {
         self.a
     }
 
-    /// The error-index; in a GetBulk request the max-repetitions.
+    /// Returns the error-index, or the max-repetitions of a GetBulk request.
     #[inline]
     pub fn b(&self) -> i32
         ensures { result ≡ self.now.b }
@@ -109,7 +109,7 @@ impl<'a> MessageRef<'a> {
         self.b
     }
 
-    /// The variable bindings, in order.
+    /// Returns the variable bindings, in order.
     #[inline]
     pub fn bindings(&self) -> Bindings<'a>
         ensures { result ≡ self.now.bindings }
@@ -118,23 +118,23 @@ impl<'a> MessageRef<'a> {
     }
 }
 
-/// Reads the message that a datagram encodes in BER (RFC 3417, section 8; X.690), or returns why it
-/// encodes none.
+/// Decodes the message that a datagram encodes in BER (RFC 3417, section 8; X.690). If it encodes
+/// none, the error says why.
 ///
-/// The whole datagram is checked. Beside the standard's forms, whole numbers that aren't minimal
-/// and unsigned numbers without their leading zero octet are read.
+/// Checks the whole datagram. Besides the standard's forms, accepts whole numbers that aren't
+/// minimal, and unsigned numbers without their leading zero octet.
 pub fn decode(datagram: &[u8]) -> Result<MessageRef<'_>, BerError>
-    // What is read is encoded by the datagram.
+    // The datagram encodes the message that is returned.
     ensures found { IfOk result (λ message. Spells message datagram.now) }
-    // What the datagram encodes is read.
+    // A message that the datagram encodes is returned.
     ensures only { (message : Message) → Spells message datagram.now → result ≡ Ok message }
-    // Each error comes only where its sentence holds.
+    // An error is returned only if what it says is true of the datagram.
     ensures fault { IfErr result (λ e. IsFault e datagram.now) }
 {
     message_of(datagram)
 }
 
-/// The message that the octets encode.
+/// Returns the message that `octets` encode.
 #[tactic(auto, unfolding(crate::specs::Reading::message_of))]
 fn message_of<'a>(octets: &'a [u8]) -> Result<MessageRef<'a>, BerError>
     ensures { AgreesBy (λ message. message) result (reading.message_of octets.now) }
@@ -150,7 +150,7 @@ fn message_of<'a>(octets: &'a [u8]) -> Result<MessageRef<'a>, BerError>
     pdu_of(version, community, kind, content)
 }
 
-/// The content of the outermost element, where no octets follow that.
+/// Returns the content of the outermost element, which must be a SEQUENCE with no octets after it.
 #[tactic(auto, unfolding(crate::specs::Reading::outermost_of))]
 #[inline]
 fn outermost_of(octets: &[u8]) -> Result<&[u8], BerError>
@@ -171,9 +171,9 @@ fn outermost_of(octets: &[u8]) -> Result<&[u8], BerError>
     }
 }
 
-/// The message of this version, community and kind whose PDU has this content.
+/// Returns the message of this version, community and kind whose PDU has the content `content`.
 #[tactic(auto, unfolding(crate::specs::Reading::pdu_of))]
-// Called once, as hot as its caller: its result isn't moved.
+// `inline(always)`: it has a single caller. Inlined, its result isn't moved.
 #[inline(always)]
 fn pdu_of<'a>(
     version: i32,
@@ -203,7 +203,7 @@ fn pdu_of<'a>(
     })
 }
 
-/// The parts of a message that is to be written.
+/// The parts of a message to encode.
 #[derive(Clone, Copy, Debug)]
 pub struct Parts<'a> {
     /// The version: 1 for SNMPv2c.
@@ -214,24 +214,24 @@ pub struct Parts<'a> {
     pub kind: Kind,
     /// The request-id.
     pub id: i32,
-    /// The error-status; of a GetBulkRequest, non-repeaters.
+    /// The error-status, or the non-repeaters of a GetBulk request.
     pub a: i32,
-    /// The error-index; of a GetBulkRequest, max-repetitions.
+    /// The error-index, or the max-repetitions of a GetBulk request.
     pub b: i32,
     /// The variable bindings.
     pub bindings: &'a [Binding<'a>],
 }
 
-/// How many octets the shortest encoding of a message takes.
+/// Returns the length, in octets, of the shortest encoding of a message.
 ///
-/// It requires a community of at most 65535 octets, and bindings as [`binding_size`] requires them
-/// that take at most 4,000,000,000 octets together.
+/// The community must have at most 65535 octets. Each binding must meet what [`binding_size`]
+/// requires, and together they must take at most 4,000,000,000 octets.
 pub fn size(parts: &Parts<'_>) -> u64
     requires community { length parts.now.community.now ≤ 65535 }
     requires bindings { All (λ b. IsEncodable (var_bind b)) parts.now.bindings.now }
     requires total { length (canon_bindings (var_binds parts.now.bindings.now)) ≤ 4000000000 }
     ensures value { result ≡ length (canon (parts_message parts.now)) }
-    // Each shortest encoding has this many octets.
+    // Every shortest encoding of the message has this length.
     ensures shortest { (octets : List ℕ)
         → IsShortestEncoding octets (parts_message parts.now) → result ≡ length octets }
 {
@@ -240,22 +240,22 @@ pub fn size(parts: &Parts<'_>) -> u64
     head_size(parts, total) + total
 }
 
-/// Writes the shortest encoding of a message to the front of `out`, and returns its length. It
+/// Writes the shortest encoding of a message to the start of `out`, and returns its length. It
 /// requires what [`size`] requires.
 ///
-/// None only where `out` is shorter, and then it is unchanged.
+/// Returns `None` if `out` is shorter than that; `out` is then unchanged.
 pub fn encode(parts: &Parts<'_>, out: &mut [u8]) -> Option<usize>
     requires community { length parts.now.community.now ≤ 65535 }
     requires bindings { All (λ b. IsEncodable (var_bind b)) parts.now.bindings.now }
     requires total { length (canon_bindings (var_binds parts.now.bindings.now)) ≤ 4000000000 }
-    // The octets after it stay as they were.
+    // The octets of `out` after it are unchanged.
     ensures some { IfSome result (λ n.
         (n ≡ length (canon (parts_message parts.now)))
         × (out.new ≡ canon (parts_message parts.now) ++ drop n out.old)) }
-    // It is a shortest encoding of the message, which has just one.
+    // What is written is a shortest encoding of the message, which has only one.
     ensures shortest { IfSome result
         (λ n. IsShortestEncoding (take n out.new) (parts_message parts.now)) }
-    // So it is read as that message.
+    // So it is decoded as that message.
     ensures read { IfSome result (λ n. Spells (parts_message parts.now) (take n out.new)) }
     ensures variant { IsSome result ↔ (length (canon (parts_message parts.now)) ≤ length out.old) }
     ensures unchanged { IfNone result (out.new ≡ out.old) }
@@ -271,12 +271,12 @@ pub fn encode(parts: &Parts<'_>, out: &mut [u8]) -> Option<usize>
     Some(size)
 }
 
-/// How many octets the shortest encoding of a message takes up to the first of its bindings, where
-/// these take `total` octets together. The bindings of `parts` aren't looked at.
+/// Returns the length, in octets, of the shortest encoding of a message up to its first binding,
+/// if its bindings take `total` octets together. Doesn't read the bindings of `parts`.
 ///
-/// It requires a community of at most 65535 octets and a total of at most 4,000,000,000.
-// Hot: several calls for one reply, which differ in the total alone. Inlined, what they have in
-// common is computed once.
+/// The community must have at most 65535 octets, and `total` must be at most 4,000,000,000.
+// `inline(always)`: called several times for one reply, with different totals. Inlined, what these
+// calls have in common is computed once.
 #[inline(always)]
 #[tactic(auto, using(crate::proofs::MessageWriting::head_sizes))]
 pub fn head_size(parts: &Parts<'_>, total: u64) -> u64
@@ -302,21 +302,22 @@ pub fn head_size(parts: &Parts<'_>, total: u64) -> u64
     message + front
 }
 
-/// Writes the shortest encoding of a message up to the first of its bindings, where these take
-/// `total` octets together, to the front of `out`, and returns its length. The bindings of `parts`
-/// aren't looked at. It requires what [`head_size`] requires.
+/// Writes the shortest encoding of a message up to its first binding to the start of `out`, and
+/// returns its length. The bindings, which take `total` octets together, follow it; those of
+/// `parts` aren't read. It requires what [`head_size`] requires.
 ///
-/// None only where `out` is shorter, and then it is unchanged.
-// Hot: the head of each message that is written.
+/// Returns `None` if `out` is shorter than that; `out` is then unchanged.
+// `inline(always)`: called for the head of each message that is written.
 #[inline(always)]
 pub fn encode_head(parts: &Parts<'_>, total: u64, out: &mut [u8]) -> Option<usize>
     requires community { length parts.now.community.now ≤ 65535 }
     requires total { total ≤ 4000000000 }
-    // The octets after it stay as they were.
+    // The octets of `out` after it are unchanged.
     ensures some { IfSome result (λ n.
         (n ≡ length (canon_head (parts_message parts.now) total))
         × (out.new ≡ canon_head (parts_message parts.now) total ++ drop n out.old)) }
-    // With these bindings after it, it makes a shortest encoding.
+    // Followed by the encodings of `bindings`, it is a shortest encoding of the message with these
+    // bindings.
     ensures shortest { (bindings : List VarBind)
         → AllByRecursion IsBindingInRange bindings
         → total ≡ length (canon_bindings bindings)
@@ -335,13 +336,14 @@ pub fn encode_head(parts: &Parts<'_>, total: u64, out: &mut [u8]) -> Option<usiz
     Some(size)
 }
 
-/// Makes a message of encoded bindings that lie in `out`, in the `len` octets from `at` on: moves
-/// them, writes the shortest head for that many octets before them, and returns the length of the
-/// message, which begins at the front of `out`. What follows the message there is unspecified. The
-/// bindings of `parts` aren't looked at.
+/// Makes a message of encoded bindings that are already in `out`: they are the `len` octets from
+/// `at` on. Moves them so that they follow the shortest head of such a message, writes the head to
+/// the start of `out`, and returns the length of the message. The octets of `out` after the
+/// message are unspecified. The bindings of `parts` aren't read.
 ///
-/// It requires a community of at most 65535 octets, and that these octets are at most 4,000,000,000
-/// and lie within `out`. None only where the message is longer than `out`, which is then unchanged.
+/// The community must have at most 65535 octets, `len` must be at most 4,000,000,000, and the
+/// octets must lie within `out`. Returns `None` if the message is longer than `out`, which is then
+/// unchanged.
 #[inline]
 pub fn seal(parts: &Parts<'_>, at: usize, len: usize, out: &mut [u8]) -> Option<usize>
     requires community { length parts.now.community.now ≤ 65535 }
@@ -351,7 +353,7 @@ pub fn seal(parts: &Parts<'_>, at: usize, len: usize, out: &mut [u8]) -> Option<
         (n ≡ length (canon_head (parts_message parts.now) len) + len)
         × (take n out.new
         ≡ canon_head (parts_message parts.now) len ++ take len (drop at out.old))) }
-    // Of bindings in range, this is a shortest encoding.
+    // If these octets encode bindings in range, it is a shortest encoding.
     ensures shortest { (bindings : List VarBind)
         → AllByRecursion IsBindingInRange bindings
         → take len (drop at out.old) ≡ canon_bindings bindings
@@ -371,7 +373,7 @@ pub fn seal(parts: &Parts<'_>, at: usize, len: usize, out: &mut [u8]) -> Option<
     Some(head + len)
 }
 
-/// How many octets bindings take together.
+/// Returns the number of octets that the shortest encodings of `bindings` take together.
 #[inline(never)]
 #[tactic(auto, using(crate::proofs::BindingWriting::binding_sizes))]
 fn bindings_size(bindings: &[Binding<'_>]) -> u64
@@ -387,7 +389,7 @@ fn bindings_size(bindings: &[Binding<'_>]) -> u64
     total
 }
 
-/// How many octets an INTEGER takes.
+/// Returns the length, in octets, of an INTEGER with its header.
 #[inline]
 #[tactic(auto, using(std::proofs::lemmas::Grind::common_steps, crate::proofs::ElementLaws::sizes_value, crate::proofs::ElementLaws::content_number))]
 fn integer_element_size(number: i32) -> u64
@@ -398,7 +400,7 @@ fn integer_element_size(number: i32) -> u64
     header_size(content) + content
 }
 
-/// How many octets an OCTET STRING takes.
+/// Returns the length, in octets, of an OCTET STRING with its header.
 #[inline]
 #[tactic(auto, using(crate::proofs::ElementLaws::sizes_value, crate::proofs::ElementLaws::content_text))]
 fn text_element_size(text: &[u8]) -> u64
@@ -410,7 +412,7 @@ fn text_element_size(text: &[u8]) -> u64
     header_size(text.len() as u64) + text.len() as u64
 }
 
-/// Writes bindings before `end`, and returns where they begin.
+/// Writes bindings before `end`, and returns their offset.
 #[inline(never)]
 fn put_bindings(out: &mut [u8], end: usize, bindings: &[Binding<'_>]) -> usize
     requires bindings { All (λ b. IsEncodable (var_bind b)) bindings.now }
@@ -425,8 +427,8 @@ fn put_bindings(out: &mut [u8], end: usize, bindings: &[Binding<'_>]) -> usize
     start
 }
 
-/// Writes what stands before bindings that take `total` octets together, before `end`, and returns
-/// where it begins.
+/// Writes the head of a message whose bindings take `total` octets together before `end`, and
+/// returns its offset.
 fn put_head(out: &mut [u8], end: usize, parts: &Parts<'_>, total: u64) -> usize
     requires community { length parts.now.community.now ≤ 65535 }
     requires total { total ≤ 4000000000 }
@@ -444,8 +446,8 @@ fn put_head(out: &mut [u8], end: usize, parts: &Parts<'_>, total: u64) -> usize
     put_header(out, version, SEQUENCE, (end - version) as u64 + total)
 }
 
-/// Writes an INTEGER before `end`, and returns where it begins.
-// Hot: four numbers of each message, most of which take one octet.
+/// Writes an INTEGER before `end`, and returns its offset.
+// `inline(always)`: called for four numbers of each message, most of which take one octet.
 #[inline(always)]
 fn put_integer_element(out: &mut [u8], end: usize, number: i32) -> usize
     requires room { length (canon_value (integer_value number)) ≤ end }
@@ -459,7 +461,7 @@ fn put_integer_element(out: &mut [u8], end: usize, number: i32) -> usize
     put_any_integer_element(out, end, number)
 }
 
-/// Writes an INTEGER before `end`, however many octets it takes, and returns where it begins.
+/// Does what [`put_integer_element`] does, for a number of any length.
 #[inline(never)]
 fn put_any_integer_element(out: &mut [u8], end: usize, number: i32) -> usize
     requires room { length (canon_value (integer_value number)) ≤ end }
@@ -470,7 +472,7 @@ fn put_any_integer_element(out: &mut [u8], end: usize, number: i32) -> usize
     put_header(out, start, INTEGER, (end - start) as u64)
 }
 
-/// Writes an OCTET STRING before `end`, and returns where it begins.
+/// Writes an OCTET STRING before `end`, and returns its offset.
 #[inline]
 fn put_text_element(out: &mut [u8], end: usize, text: &[u8]) -> usize
     requires room { length (canon_value (octet_string text.now)) ≤ end }

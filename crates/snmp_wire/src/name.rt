@@ -1,4 +1,4 @@
-//! Names as they are encoded: compared, and tested against a root, without being decoded.
+//! Encoded names: compared, and tested against a root, without being decoded.
 ghost use Rattle.std.specs.Prelude.{◌≡◌, ℕ, ◌+◌, ◌<◌, ◌≤◌, ◌↔◌, List, length, get_or, IsOk, IsSome};
 ghost use Rattle.std.specs.Prelude.{IsTrue, IfSome, Ok, true};
 ghost use Rattle.std.specs.{Ordering.nat_cmp, Int.w64, Int.from_le_bytes};
@@ -15,13 +15,13 @@ use snmp_oid::{Oid, order};
 use std::cmp::Ordering;
 use std::marker::Model;
 
-/// The most octets that the content of an identifier takes: 128 subidentifiers of five.
+/// The limit of the octets in the content of an identifier: five for each of at most 128 numbers.
 pub const MAX_CONTENT: usize = 640;
 
 /// The name of an instance as it is encoded: the content octets of an identifier (X.690, 8.19).
 ///
-/// An identifier has one content, and a content is one identifier's ([`encoded_names`]). So names
-/// are compared as they lie in a datagram, and none of their numbers is read.
+/// An identifier has one content, and a content encodes one identifier ([`encoded_names`]). So
+/// names are compared as they are in a datagram, without decoding their numbers.
 #[derive(Debug, Drop)]
 pub struct EncodedName<'a> {
     content: &'a [u8],
@@ -39,7 +39,7 @@ impl<'a> Model for EncodedName<'a> {
 }
 
 impl<'a> EncodedName<'a> {
-    /// The name that the content octets encode, or None where they encode none.
+    /// Returns the name that `content` encodes, or `None` if it encodes none.
     #[inline]
     pub fn read(content: &'a [u8]) -> Option<EncodedName<'a>>
         ensures some { IfSome result (λ name. IsObjectId content.now name) }
@@ -51,7 +51,7 @@ impl<'a> EncodedName<'a> {
         }
     }
 
-    /// The name of content octets that were checked.
+    /// Returns the name with this content, which must have been checked.
     #[inline]
     pub(crate) fn of(content: &'a [u8]) -> EncodedName<'a>
         requires { IsOk (reading.identifier_of content.now) }
@@ -60,21 +60,21 @@ impl<'a> EncodedName<'a> {
         EncodedName { content }
     }
 
-    /// Writes the content of an identifier to the end of `out`, and returns the name that lies
+    /// Writes the content of `name` to the end of `out`, and returns the name that is stored
     /// there. The identifier must have an encoding ([`Oid::is_wire`]).
     #[inline]
     pub fn write(name: &Oid, out: &'a mut [u8; MAX_CONTENT]) -> EncodedName<'a>
         requires { IsWire name.now }
         ensures { result ≡ name.now }
     {
-        // This call states that there are at most 128 numbers, so that the content fits.
+        // By its contract, this call returns at most 128 numbers, so the content fits.
         let _numbers = name.as_slice();
         let start = put_identifier(out, MAX_CONTENT, name);
         let written: &'a [u8] = out;
         EncodedName::of(&written[start..])
     }
 
-    /// The content octets: at most 640, and the one encoding of the name.
+    /// Returns the content octets: at most 640, and the only encoding of the name.
     #[inline]
     #[tactic(auto, using(crate::proofs::NameOrder::is_name, crate::proofs::NameOrder::canonical, crate::proofs::Digits::octets_by, crate::proofs::NameOrder::content_short))]
     pub fn content(&self) -> &'a [u8]
@@ -86,7 +86,7 @@ impl<'a> EncodedName<'a> {
         self.content
     }
 
-    /// A second handle to the name.
+    /// Returns a second handle to the name.
     #[inline]
     pub fn copy(&self) -> EncodedName<'a>
         ensures { result ≡ self.now }
@@ -96,7 +96,7 @@ impl<'a> EncodedName<'a> {
         }
     }
 
-    /// Sets an identifier to the name, in place.
+    /// Sets `oid` to the name, in place.
     #[inline]
     pub fn read_into(&self, oid: &mut Oid)
         ensures { oid.new ≡ self.now }
@@ -105,9 +105,10 @@ impl<'a> EncodedName<'a> {
         push_identifier(oid, self.content);
     }
 
-    /// How two names compare ([`order`]). The first octet that differs decides, and the lengths of
-    /// the subidentifiers that it belongs to; the octets before it are compared eight at once.
-    // Hot: each turn of a search, mostly over names of 8 to 24 octets.
+    /// Compares two names as identifiers ([`order`]). The first octet that differs decides, with
+    /// the lengths of the subidentifiers that contain it; the octets before it are compared eight
+    /// at a time.
+    // `inline(always)`: called for each comparison of a search, mostly of names of 8 to 24 octets.
     #[inline(always)]
     pub fn compare(&self, other: &EncodedName<'_>) -> Ordering
         ensures { result ≡ slice_cmp nat_cmp self.now other.now }
@@ -118,7 +119,7 @@ impl<'a> EncodedName<'a> {
         }
     }
 
-    /// Whether the name begins with `root` and is longer.
+    /// Returns whether the name begins with `root` and is longer.
     #[inline]
     pub fn is_below(&self, root: &EncodedName<'_>) -> bool
         ensures { IsTrue result ↔ IsBelow self.now root.now }
@@ -127,8 +128,8 @@ impl<'a> EncodedName<'a> {
     }
 }
 
-/// How the names of two contents compare, where the shorter content has 8 to 24 octets and the
-/// first octets that differ tell it; else None.
+/// Compares the names of two contents if the shorter content has 8 to 24 octets and the first
+/// octets that differ decide. Otherwise returns `None`.
 #[inline(always)]
 fn compare_ends(content: &[u8], other: &[u8]) -> Option<Ordering>
     requires this { IsOk (reading.identifier_of content.now) }
@@ -154,9 +155,9 @@ fn compare_ends(content: &[u8], other: &[u8]) -> Option<Ordering>
     Some(octet.cmp(&beside))
 }
 
-/// How many octets at the front are the same, up to `both`, which is 8 to 24. They are compared in
-/// words of eight, the last of which may begin within the one before.
-// Hot: each comparison of names.
+/// Returns the length of the common prefix of the two slices, but at most `both`, which must be 8
+/// to 24. Compares words of eight octets; the last word may overlap the one before.
+// `inline(always)`: called for each comparison of names.
 #[inline(always)]
 fn words_alike(octets: &[u8], others: &[u8], both: usize) -> usize
     requires these { both ≤ length octets.now }
@@ -184,7 +185,8 @@ fn words_alike(octets: &[u8], others: &[u8], both: usize) -> usize
     both - 8 + third
 }
 
-/// Whether both have the last octet of a subidentifier at this place.
+/// Returns whether both contents have an octet at `at`, and it is the last of a subidentifier in
+/// each.
 #[inline(always)]
 fn both_end(content: &[u8], other: &[u8], at: usize) -> bool
     ensures { IsTrue result → EndsAt content.now at at × EndsAt other.now at at }
@@ -192,7 +194,7 @@ fn both_end(content: &[u8], other: &[u8], at: usize) -> bool
     at < content.len() && at < other.len() && content[at] < 0x80 && other[at] < 0x80
 }
 
-/// How the names of two contents compare, whatever their lengths.
+/// Compares the names of two contents of any length.
 #[cold]
 #[inline(never)]
 fn compare_contents(content: &[u8], other: &[u8]) -> Ordering
@@ -209,7 +211,7 @@ fn compare_contents(content: &[u8], other: &[u8]) -> Ordering
     let octet = content[at];
     let beside = other[at];
     if octet >= 0x80 && beside >= 0x80 {
-        // Both subidentifiers go on: the longer is the greater.
+        // Both subidentifiers continue: the longer one is greater.
         let end = last_octet(content, at);
         let other_end = last_octet(other, at);
         if end != other_end {
@@ -219,7 +221,7 @@ fn compare_contents(content: &[u8], other: &[u8]) -> Ordering
     octet.cmp(&beside)
 }
 
-/// Whether the name of a content is below that of another.
+/// Returns whether the name with the content `content` is below the one with the content `root`.
 fn is_content_below(content: &[u8], root: &[u8]) -> bool
     requires this { IsOk (reading.identifier_of content.now) }
     requires root { IsOk (reading.identifier_of root.now) }
@@ -229,7 +231,7 @@ fn is_content_below(content: &[u8], root: &[u8]) -> bool
     content.len() > root.len() && alike(content, root) == root.len()
 }
 
-/// The place of the last octet of the subidentifier that the octet at `at` belongs to.
+/// Returns the index of the last octet of the subidentifier that contains the octet at `at`.
 #[tactic(auto, using(std::proofs::lemmas::Grind::common_steps, crate::proofs::NameOrder::more_octets))]
 fn last_octet(content: &[u8], at: usize) -> usize
     requires identifier { IsOk (reading.identifier_of content.now) }
@@ -243,7 +245,7 @@ fn last_octet(content: &[u8], at: usize) -> usize
     end
 }
 
-/// How many octets at the front are the same.
+/// Returns the length of the common prefix of the two slices.
 #[inline]
 fn alike(octets: &[u8], others: &[u8]) -> usize
     ensures same { IsAlike octets.now others.now result }
@@ -262,11 +264,11 @@ fn alike(octets: &[u8], others: &[u8]) -> usize
         }
         count += 8;
     }
-    // The last eight, of which the first are known to be the same.
+    // The last eight octets overlap octets that are known to be the same.
     both - 8 + eight_alike(octets, others, both - 8)
 }
 
-/// How many octets at the front are the same, compared one by one.
+/// Does what [`alike`] does, octet by octet.
 fn few_alike(octets: &[u8], others: &[u8]) -> usize
     ensures same { IsAlike octets.now others.now result }
     ensures first { result < length octets.now → result < length others.now
@@ -280,9 +282,9 @@ fn few_alike(octets: &[u8], others: &[u8]) -> usize
     count
 }
 
-/// How many of the eight octets from a place on are the same, up to the first that differs: the
-/// lowest bit in which the two words differ lies in that octet.
-// Hot: each comparison of names.
+/// Returns how many of the eight octets from `at` on are the same before the first that differs.
+/// The lowest bit in which the two words differ is in that octet.
+// `inline(always)`: called for each comparison of names.
 #[inline(always)]
 fn eight_alike(octets: &[u8], others: &[u8], at: usize) -> usize
     requires these { at + 8 ≤ length octets.now }
@@ -297,8 +299,8 @@ fn eight_alike(octets: &[u8], others: &[u8], at: usize) -> usize
     differ.trailing_zeros() as usize / 8
 }
 
-/// The eight octets from a place on, as one word.
-// Hot: one load for eight octets of a name.
+/// Returns the eight octets from `at` on as one word.
+// `inline(always)`: inlined, it is one load for eight octets of a name.
 #[inline(always)]
 fn word_at(octets: &[u8], at: usize) -> u64
     requires { at + 8 ≤ length octets.now }
@@ -316,11 +318,11 @@ fn word_at(octets: &[u8], at: usize) -> u64
     ])
 }
 
-/// Contents stand for identifiers: each identifier that has one has just one, the content of a name
-/// below a root begins with the root's and is longer, and the order of names is that of their
-/// subidentifiers' lengths and octets.
+/// An identifier has at most one content, and a content encodes at most one identifier. A name is
+/// below a root if and only if its content begins with the root's and is longer. Names are ordered
+/// by their subidentifiers, and these by their lengths and then their octets.
 ///
-/// A law: the call does nothing, and its caller knows what it states.
+/// A law: the call does nothing; its caller's proof may use its clause.
 #[inline]
 #[tactic(auto, using(crate::proofs::NameOrder::encoded))]
 pub fn encoded_names()

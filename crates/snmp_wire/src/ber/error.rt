@@ -1,31 +1,33 @@
-//! Why a datagram is refused.
+//! Why a datagram isn't accepted.
 ghost use Rattle.snmp_wire.specs.ber.Reading as reading;
 ghost use Rattle.snmp_wire.specs.ber.Reading.{AgreesBy};
 
 use thiserror::Error;
 
-/// Why a datagram was refused. Where two apply, either may be returned.
+/// Why a datagram isn't accepted as a message. If several faults apply, any of them may be
+/// returned.
 #[derive(Clone, Copy, Debug, PartialEq, Eq, Error)]
 pub enum BerError {
-    /// The input ends before its outermost element does.
+    /// The datagram ends before its outermost element does.
     #[error("the message is cut short")]
     Truncated,
     /// Octets follow the outermost element.
     #[error("octets follow the message")]
     Trailing,
-    /// A length has a forbidden form, or an inner element is missing from, or reaches past, the one
-    /// around it.
+    /// A length has a forbidden form, or an inner element is missing from the element around it or
+    /// reaches past its end.
     #[error("a length is wrong")]
     Length,
-    /// A tag is one that its place doesn't allow.
+    /// A tag isn't allowed at its position.
     #[error("a tag is out of place")]
     Tag,
-    /// The content is not one that its type allows, or octets are left over in a SEQUENCE or PDU.
+    /// The content of an element isn't allowed for its type, or octets are left over in a SEQUENCE
+    /// or PDU.
     #[error("content doesn't fit its type")]
     Content,
 }
 
-/// The result of a check of content.
+/// Returns `Ok` if `is_allowed`, otherwise [`BerError::Content`].
 #[inline]
 pub(crate) fn allowed(is_allowed: bool) -> Result<(), BerError>
     ensures { AgreesBy (λ u. u) result (reading.allowed is_allowed) }

@@ -14,13 +14,13 @@ use crate::ber::BerError;
 use crate::ber::writing::{put_octet, put_text};
 use snmp_oid::Oid;
 
-/// The largest subidentifier: that of 2 and the largest number.
+/// The largest subidentifier: that of 2 and the largest number, 80 + 4294967295.
 const LARGEST_SUBIDENTIFIER: u64 = 4294967375;
 
-/// How many numbers may follow the first two.
+/// The number of numbers that may follow the first two.
 const MORE_NUMBERS: usize = 126;
 
-/// The subidentifier at the front, and what follows.
+/// Returns the subidentifier at the start of `octets`, and the octets after it.
 #[tactic(auto, unfolding(crate::specs::ber::Reading::subidentifier_at))]
 #[inline]
 fn subidentifier_at(octets: &[u8]) -> Result<(u64, &[u8]), BerError>
@@ -39,8 +39,9 @@ fn subidentifier_at(octets: &[u8]) -> Result<(u64, &[u8]), BerError>
     }
 }
 
-/// The number of three digits to the base 128, the last of which has a clear high bit.
-// Hot: a few instructions for each number of three digits, as most enterprises have.
+/// Returns the number of three digits to the base 128. The last digit has a clear high bit.
+// `inline(always)`: inlined, it is a few instructions for each number of three digits, as most
+// enterprises have.
 #[inline(always)]
 fn three_digits(high: u8, mid: u8, low: u8) -> u64
     requires { low < 128 }
@@ -50,8 +51,9 @@ fn three_digits(high: u8, mid: u8, low: u8) -> u64
     (u64::from(high % 128) * 128 + u64::from(mid % 128)) * 128 + u64::from(low)
 }
 
-/// The digits to the base 128 at the front, the last of which has a clear high bit, and what
-/// follows.
+/// Returns the number of the base-128 digits at the start of `octets`, the last of which has a
+/// clear high bit, and the octets after it. Fails if no octet has, or if the number is above the
+/// largest subidentifier.
 #[tactic(auto, using(crate::proofs::IdentifierReading::digit_steps))]
 fn digits_at(octets: &[u8]) -> Result<(u64, &[u8]), BerError>
     ensures { AgreesBy (λ x. (x.0, x.1.now)) result (reading.subidentifier_from 0 octets.now) }
@@ -69,7 +71,7 @@ fn digits_at(octets: &[u8]) -> Result<(u64, &[u8]), BerError>
     Err(BerError::Content)
 }
 
-/// The number at the front, and what follows.
+/// Returns the number of 32 bits at the start of `octets`, and the octets after it.
 #[tactic(auto, unfolding(crate::specs::ber::Reading::number_at))]
 #[inline]
 fn number_at(octets: &[u8]) -> Result<(u32, &[u8]), BerError>
@@ -82,8 +84,8 @@ fn number_at(octets: &[u8]) -> Result<(u32, &[u8]), BerError>
     Ok((number as u32, rest))
 }
 
-/// The subidentifier at the front, and what follows, of octets that are known to begin with one.
-/// Nothing is checked again.
+/// Does what [`subidentifier_at`] does, for octets that are known to begin with a subidentifier.
+/// Checks nothing again.
 #[inline]
 #[tactic(auto, using(std::proofs::lemmas::Grind::common_steps, crate::proofs::IdentifierReading::reads_short))]
 fn subidentifier_in(octets: &[u8]) -> (u64, &[u8])
@@ -108,8 +110,7 @@ fn subidentifier_in(octets: &[u8]) -> (u64, &[u8])
     digits_in(octets)
 }
 
-/// The subidentifier of four octets or more at the front, and what follows, of octets that are
-/// known to begin with one.
+/// Does what [`subidentifier_in`] does, for a subidentifier of any length.
 #[tactic(auto, using(crate::proofs::ReadingLaws::never_err, crate::proofs::IdentifierReading::digits_ok))]
 fn digits_in(octets: &[u8]) -> (u64, &[u8])
     requires { IsOk (reading.subidentifier_at octets.now) }
@@ -121,8 +122,8 @@ fn digits_in(octets: &[u8]) -> (u64, &[u8])
     }
 }
 
-/// The number at the front, and what follows, of octets that are known to begin with one. Nothing
-/// is checked again.
+/// Does what [`number_at`] does, for octets that are known to begin with a number. Checks nothing
+/// again.
 #[inline]
 fn number_in(octets: &[u8]) -> (u32, &[u8])
     requires { IsOk (reading.number_at octets.now) }
@@ -132,9 +133,9 @@ fn number_in(octets: &[u8]) -> (u32, &[u8])
     (number as u32, rest)
 }
 
-/// Checks that the content is an identifier.
+/// Checks that `content` encodes an identifier.
 #[tactic(auto, unfolding(crate::specs::ber::Reading::identifier_of))]
-// Hot: each binding that is checked.
+// `inline(always)`: called for each binding that is checked.
 #[inline(always)]
 pub fn check_identifier(content: &[u8]) -> Result<(), BerError>
     ensures { AgreesBy (λ u. u) result (checked (reading.identifier_of content.now)) }
@@ -143,8 +144,9 @@ pub fn check_identifier(content: &[u8]) -> Result<(), BerError>
     check_numbers(rest)
 }
 
-/// Checks that the octets are numbers, no more than may follow the first two.
-// Hot: the loop that checks a name.
+/// Checks that `octets` encode numbers, one after the other, and no more than may follow the first
+/// two.
+// `inline(always)`: this is the loop that checks a name.
 #[inline(always)]
 #[tactic(auto, using(crate::proofs::IdentifierReading::counted_numbers))]
 fn check_numbers(octets: &[u8]) -> Result<(), BerError>
@@ -157,15 +159,16 @@ fn check_numbers(octets: &[u8]) -> Result<(), BerError>
         rest = after;
         count += some;
     }
-    // Tested once, after all turns.
+    // Tested once, after the loop.
     if count > MORE_NUMBERS {
         return Err(BerError::Content);
     }
     Ok(())
 }
 
-/// How many numbers are at the front, one, four or eight, and what follows them.
-// Hot, and called once: a turn of the loop that checks a name.
+/// Checks one, four or eight numbers at the start of `octets`. Returns how many it checked, and
+/// the octets after them.
+// `inline(always)`: its single caller is the loop that checks a name.
 #[inline(always)]
 #[tactic(auto, using(crate::proofs::IdentifierReading::checked_numbers))]
 fn some_numbers_at(octets: &[u8]) -> Result<(usize, &[u8]), BerError>
@@ -189,9 +192,9 @@ fn some_numbers_at(octets: &[u8]) -> Result<(usize, &[u8]), BerError>
     Ok((1, rest))
 }
 
-/// The eight octets at the front, where each is a number of its own, as in most names, and what
-/// follows them.
-// Hot: a few instructions for eight numbers of a name.
+/// Returns the first eight octets if each is a number of its own, as in most names, and the octets
+/// after them.
+// `inline(always)`: inlined, it is a few instructions for eight numbers of a name.
 #[inline(always)]
 #[tactic(auto, using(crate::proofs::IdentifierReading::plain_fronts))]
 fn eight_at(octets: &[u8]) -> Option<(&[u8], &[u8])>
@@ -209,8 +212,8 @@ fn eight_at(octets: &[u8]) -> Option<(&[u8], &[u8])>
     }
 }
 
-/// The four octets at the front, where each is a number of its own, and what follows them.
-// Hot: a few instructions for four numbers of a name.
+/// Returns the first four octets if each is a number of its own, and the octets after them.
+// `inline(always)`: inlined, it is a few instructions for four numbers of a name.
 #[inline(always)]
 #[tactic(auto, using(crate::proofs::IdentifierReading::plain_front))]
 fn four_at(octets: &[u8]) -> Option<(&[u8], &[u8])>
@@ -228,8 +231,8 @@ fn four_at(octets: &[u8]) -> Option<(&[u8], &[u8])>
     }
 }
 
-/// Whether no octet has its high bit set, tested in one word.
-// Hot: a few instructions for four numbers of a name.
+/// Returns whether no octet has its high bit set, by a test of one word.
+// `inline(always)`: inlined, it is a few instructions for four numbers of a name.
 #[inline(always)]
 #[tactic(auto, using(std::proofs::lemmas::Grind::common_steps, crate::proofs::HighBits::low_octets))]
 fn are_low(a: u8, b: u8, c: u8, d: u8) -> bool
@@ -238,7 +241,7 @@ fn are_low(a: u8, b: u8, c: u8, d: u8) -> bool
     u32::from_le_bytes([a, b, c, d]) & 0x8080_8080 == 0
 }
 
-/// The identifier that the content is.
+/// Returns the identifier that `content` encodes. The content must have been checked.
 #[inline]
 pub(crate) fn identifier_of(content: &[u8]) -> Oid
     requires { IsOk (reading.identifier_of content.now) }
@@ -249,10 +252,10 @@ pub(crate) fn identifier_of(content: &[u8]) -> Oid
     oid
 }
 
-/// Appends to the empty identifier the one that the content is. To fill it in place saves moving
-/// its 520 octets.
+/// Sets `oid`, which must be empty, to the identifier that `content` encodes. The content must
+/// have been checked. Setting it in place saves moving its 520 octets.
 #[tactic(auto, using(crate::proofs::IdentifierReading::subidentifier_small), unfolding(crate::specs::ber::Reading::identifier_of))]
-// Hot: each binding that is read.
+// `inline(always)`: called for each binding that is read.
 #[inline(always)]
 pub fn push_identifier(oid: &mut Oid, content: &[u8])
     requires is_identifier { IsOk (reading.identifier_of content.now) }
@@ -265,7 +268,7 @@ pub fn push_identifier(oid: &mut Oid, content: &[u8])
     push_numbers(oid, rest);
 }
 
-/// The first number of a first subidentifier.
+/// Returns the first number of the identifier that begins with `subidentifier`.
 #[inline]
 fn first_number(subidentifier: u64) -> u32
     requires { subidentifier ≤ reading.largest_subidentifier }
@@ -278,7 +281,7 @@ fn first_number(subidentifier: u64) -> u32
     }
 }
 
-/// The second number of a first subidentifier.
+/// Returns the second number of the identifier that begins with `subidentifier`.
 #[inline]
 fn second_number(subidentifier: u64) -> u32
     requires { subidentifier ≤ reading.largest_subidentifier }
@@ -291,8 +294,8 @@ fn second_number(subidentifier: u64) -> u32
     }
 }
 
-/// Appends the numbers that the octets are.
-// Hot, and called once: the loop that reads a name.
+/// Appends the numbers that `octets` encode. The octets must have been checked.
+// `inline(always)`: this is the loop that reads a name.
 #[inline(always)]
 #[tactic(auto, using(crate::proofs::IdentifierReading::pushed_numbers))]
 fn push_numbers(oid: &mut Oid, octets: &[u8])
@@ -314,7 +317,7 @@ fn push_numbers(oid: &mut Oid, octets: &[u8])
 }
 
 /// Appends four numbers, each of one octet, to an identifier that has room for them.
-// Hot: four stores for four numbers of a name.
+// `inline(always)`: inlined, it is four stores for four numbers of a name.
 #[inline(always)]
 fn push_four(oid: &mut Oid, octets: &[u8])
     requires four { length octets.now ≡ 4 }
@@ -328,7 +331,7 @@ fn push_four(oid: &mut Oid, octets: &[u8])
     oid.push_with_room(u32::from(*d));
 }
 
-/// How many octets a subidentifier takes.
+/// Returns the number of octets that a subidentifier takes.
 #[inline]
 #[tactic(auto, unfolding(crate::specs::ber::Canon::subidentifier_size))]
 fn septets_size(number: u64) -> usize
@@ -349,8 +352,8 @@ fn septets_size(number: u64) -> usize
     }
 }
 
-/// How many octets the content of an identifier takes, at most 640.
-// Hot: each binding that is written.
+/// Returns the length, in octets, of the content of an identifier: at most 640.
+// `inline(always)`: called for each binding that is written.
 #[inline(always)]
 pub fn identifier_size(name: &Oid) -> u64
     requires { IsWire name.now }
@@ -364,7 +367,7 @@ pub fn identifier_size(name: &Oid) -> u64
     first_size(*first, *second) + numbers_size(rest)
 }
 
-/// How many octets the subidentifier of the first two numbers takes.
+/// Returns the number of octets that the subidentifier of the first two numbers takes.
 #[inline]
 #[tactic(auto, using(crate::proofs::IdentifierWriting::subidentifier_one))]
 fn first_size(first: u32, second: u32) -> u64
@@ -380,10 +383,10 @@ fn first_size(first: u32, second: u32) -> u64
     }
 }
 
-/// How many octets numbers take, each as a subidentifier.
+/// Returns the number of octets that `numbers` take, each as a subidentifier.
 ///
-/// In most names eight short numbers, the column among them, precede the last.
-// Hot, and called once: the loop that measures a name.
+/// In most names eight short numbers, the column among them, precede the last number.
+// `inline(always)`: its single caller measures each name that is written.
 #[inline(always)]
 #[tactic(auto, using(crate::proofs::IdentifierWriting::nine_counted, crate::proofs::IdentifierWriting::none_before))]
 fn numbers_size(numbers: &[u32]) -> u64
@@ -402,8 +405,9 @@ fn numbers_size(numbers: &[u32]) -> u64
     size + other_numbers_size(&numbers[..count - 9])
 }
 
-/// How many octets numbers take, each as a subidentifier, whatever they are.
-// 2.8 % of the work of an agent that serves tables, so four short numbers are counted at once.
+/// Does what [`numbers_size`] does, for any numbers.
+// This is 2.8 % of the work of an agent that serves tables, so four short numbers are counted at
+// once.
 #[inline(never)]
 #[tactic(auto, using(crate::proofs::IdentifierWriting::subidentifier_sizes))]
 fn other_numbers_size(numbers: &[u32]) -> u64
@@ -428,8 +432,8 @@ fn other_numbers_size(numbers: &[u32]) -> u64
     size
 }
 
-/// Whether the eight numbers from a place on have one octet each.
-// Hot: a few instructions for eight numbers of a name.
+/// Returns whether the eight numbers from `from` on take one octet each.
+// `inline(always)`: inlined, it is a few instructions for eight numbers of a name.
 #[inline(always)]
 fn are_short(numbers: &[u32], from: usize) -> bool
     requires { from + 8 ≤ length numbers.now }
@@ -440,9 +444,9 @@ fn are_short(numbers: &[u32], from: usize) -> bool
     low | high < 128
 }
 
-/// The subidentifiers of the four numbers before the place `left`, where each has one octet, as in
-/// most names.
-// Hot: a few instructions for four numbers of a name.
+/// Returns the subidentifiers of the four numbers before the index `left` if each takes one octet,
+/// as in most names.
+// `inline(always)`: inlined, it is a few instructions for four numbers of a name.
 #[inline(always)]
 fn four_before(numbers: &[u32], left: usize) -> Option<(u8, u8, u8, u8)>
     requires { left ≤ length numbers.now }
@@ -465,7 +469,7 @@ fn four_before(numbers: &[u32], left: usize) -> Option<(u8, u8, u8, u8)>
     }
 }
 
-/// The subidentifier of the first two numbers (X.690, 8.19.4).
+/// Returns the subidentifier of the first two numbers (X.690, 8.19.4).
 #[inline]
 fn first_subidentifier(first: u32, second: u32) -> u64
     requires { first ≤ 2 }
@@ -474,8 +478,8 @@ fn first_subidentifier(first: u32, second: u32) -> u64
     40 * u64::from(first) + u64::from(second)
 }
 
-/// Writes the content of an identifier before `end`, and returns where it begins.
-// Hot: each binding that is written.
+/// Writes the content of an identifier before `end`, and returns its offset.
+// `inline(always)`: called for each binding that is written.
 #[inline(always)]
 pub fn put_identifier(out: &mut [u8], end: usize, name: &Oid) -> usize
     requires encodable { IsWire name.now }
@@ -490,9 +494,9 @@ pub fn put_identifier(out: &mut [u8], end: usize, name: &Oid) -> usize
     put_subidentifier(out, start, first_subidentifier(*first, *second))
 }
 
-/// Writes numbers before `end`, each as a subidentifier, and returns where they begin.
-/// [`numbers_size`] says what most of them are.
-// Hot, and called once: the loop that writes a name.
+/// Writes `numbers` before `end`, each as a subidentifier, and returns their offset.
+/// [`numbers_size`] says what most numbers are.
+// `inline(always)`: its single caller writes each name.
 #[inline(always)]
 #[tactic(auto, using(crate::proofs::IdentifierWriting::subidentifier_sizes))]
 fn put_numbers(out: &mut [u8], end: usize, numbers: &[u32]) -> usize
@@ -512,9 +516,9 @@ fn put_numbers(out: &mut [u8], end: usize, numbers: &[u32]) -> usize
     put_other_numbers(out, start, &numbers[..count - 9])
 }
 
-/// Writes numbers before `end`, each as a subidentifier, whatever they are, and returns where they
-/// begin.
-// 3.9 % of the work of an agent that serves tables, so four short numbers are written at once.
+/// Does what [`put_numbers`] does, for any numbers.
+// This is 3.9 % of the work of an agent that serves tables, so four short numbers are written at
+// once.
 #[inline(never)]
 fn put_other_numbers(out: &mut [u8], end: usize, numbers: &[u32]) -> usize
     requires room { length (flat_map canon_subidentifier numbers.now) ≤ end }
@@ -538,9 +542,8 @@ fn put_other_numbers(out: &mut [u8], end: usize, numbers: &[u32]) -> usize
     start
 }
 
-/// Writes the eight numbers from a place on before `end`, an octet each, and returns where they
-/// begin.
-// Hot: a few instructions for eight numbers of a name.
+/// Writes the eight numbers from `from` on before `end`, an octet each, and returns their offset.
+// `inline(always)`: inlined, it is a few instructions for eight numbers of a name.
 #[inline(always)]
 fn put_eight(out: &mut [u8], end: usize, numbers: &[u32], from: usize) -> usize
     requires one_octet_each { AreShort numbers.now from }
@@ -568,7 +571,7 @@ fn put_eight(out: &mut [u8], end: usize, numbers: &[u32], from: usize) -> usize
     put_octet(out, at_b, a)
 }
 
-/// Writes a subidentifier before `end`, and returns where it begins.
+/// Writes a subidentifier before `end`, and returns its offset.
 #[inline]
 #[tactic(auto, using(crate::proofs::IdentifierWriting::subidentifier_sizes))]
 fn put_subidentifier(out: &mut [u8], end: usize, number: u64) -> usize
@@ -591,8 +594,8 @@ fn put_subidentifier(out: &mut [u8], end: usize, number: u64) -> usize
     put_septets(out, last, septets_size(number) - 1, number / 128)
 }
 
-/// Writes the lowest `count` digits of a number to the base 128 before `end`, each with the bit
-/// that says that it isn't the last, and returns where they begin.
+/// Writes the lowest `count` base-128 digits of a number before `end`, each with the bit that says
+/// that more digits follow, and returns their offset.
 fn put_septets(out: &mut [u8], end: usize, count: usize, number: u64) -> usize
     requires room { count ≤ end }
     requires within { end ≤ length out.old }

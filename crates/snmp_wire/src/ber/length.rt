@@ -8,10 +8,10 @@ use crate::ber::BerError;
 use crate::ber::number::{put_octets, unsigned};
 use crate::ber::writing::put_octet;
 
-/// The length at the front, and what follows. The error is `cut` where the octets end before the
-/// length does.
+/// Returns the length that is encoded at the start of `octets`, and the octets after it. Fails
+/// with `cut` if the octets end before the length does.
 #[tactic(auto, unfolding(crate::specs::ber::Reading::length_at))]
-// Hot: each element. Inlined, its result stays in registers.
+// `inline(always)`: called for each element. Inlined, its result stays in registers.
 #[inline(always)]
 fn length_at(octets: &[u8], cut: BerError) -> Result<(usize, &[u8]), BerError>
     ensures { AgreesBy (λ x. (x.0, x.1.now)) result (reading.length_at cut octets.now) }
@@ -28,7 +28,8 @@ fn length_at(octets: &[u8], cut: BerError) -> Result<(usize, &[u8]), BerError>
     }
 }
 
-/// A length of the long form after its first octet, which says how many octets it has.
+/// Returns the length in the long form whose first octet is `first`, and the octets after it.
+/// `octets` follow the first octet, which says how many octets the length has.
 #[tactic(auto, unfolding(crate::specs::ber::Reading::long_length_at))]
 #[cold]
 fn long_length_at(first: u8, octets: &[u8], cut: BerError) -> Result<(usize, &[u8]), BerError>
@@ -45,10 +46,10 @@ fn long_length_at(first: u8, octets: &[u8], cut: BerError) -> Result<(usize, &[u
     Ok((unsigned(digits) as usize, rest))
 }
 
-/// The content after a tag, and what follows. The error is `cut` where the octets end before the
-/// content does.
+/// Returns the content of an element and the octets after it; `octets` follow the element's tag.
+/// Fails with `cut` if the octets end before the content does.
 #[tactic(auto, unfolding(crate::specs::ber::Reading::content_at))]
-// Hot: each element. Inlined, its result stays in registers.
+// `inline(always)`: called for each element. Inlined, its result stays in registers.
 #[inline(always)]
 pub fn content_at(octets: &[u8], cut: BerError) -> Result<(&[u8], &[u8]), BerError>
     ensures { AgreesBy (λ x. (x.0.now, x.1.now)) result (reading.content_at cut octets.now) }
@@ -60,9 +61,10 @@ pub fn content_at(octets: &[u8], cut: BerError) -> Result<(&[u8], &[u8]), BerErr
     Ok(rest.split_at(length))
 }
 
-/// The content of an inner element of this tag, and what follows.
+/// Returns the content of the inner element at the start of `octets`, which must have this tag,
+/// and the octets after it.
 #[tactic(auto, unfolding(crate::specs::ber::Reading::inner_at))]
-// Hot: each element. Inlined, its tag is a constant.
+// `inline(always)`: called for each element. Inlined, its tag is a constant.
 #[inline(always)]
 pub fn inner_at(tag: u8, octets: &[u8]) -> Result<(&[u8], &[u8]), BerError>
     ensures { AgreesBy (λ x. (x.0.now, x.1.now)) result (reading.inner_at tag octets.now) }
@@ -79,9 +81,10 @@ pub fn inner_at(tag: u8, octets: &[u8]) -> Result<(&[u8], &[u8]), BerError>
     }
 }
 
-/// The tag and the content of an inner element, and what follows.
+/// Returns the tag and the content of the inner element at the start of `octets`, and the octets
+/// after it.
 #[tactic(auto, unfolding(crate::specs::ber::Reading::element_at))]
-// Hot: each element. Inlined, its result stays in registers.
+// `inline(always)`: called for each element. Inlined, its result stays in registers.
 #[inline(always)]
 pub fn element_at(octets: &[u8]) -> Result<(u8, &[u8], &[u8]), BerError>
     ensures { AgreesBy (λ x. (x.0, x.1.now, x.2.now)) result (reading.element_at octets.now) }
@@ -95,7 +98,7 @@ pub fn element_at(octets: &[u8]) -> Result<(u8, &[u8], &[u8]), BerError>
     }
 }
 
-/// How many octets the digits of a length take.
+/// Returns the number of octets that the long form of a length takes after the first.
 #[inline]
 #[tactic(auto, unfolding(crate::specs::ber::Canon::length_size))]
 fn digits_size(size: u64) -> usize
@@ -113,7 +116,7 @@ fn digits_size(size: u64) -> usize
     }
 }
 
-/// How many octets a header takes before a content of `size` octets.
+/// Returns the length, in octets, of the header before a content of `size` octets.
 #[inline]
 #[tactic(auto, using(crate::proofs::CanonLemmas::header_lengths))]
 pub fn header_size(size: u64) -> u64
@@ -127,7 +130,7 @@ pub fn header_size(size: u64) -> u64
     }
 }
 
-/// Writes a header before `end`, for a content of `size` octets, and returns where it begins.
+/// Writes the header for a content of `size` octets before `end`, and returns its offset.
 #[inline]
 pub fn put_header(out: &mut [u8], end: usize, tag: u8, size: u64) -> usize
     requires room { length (canon_header tag size) ≤ end }
@@ -138,8 +141,8 @@ pub fn put_header(out: &mut [u8], end: usize, tag: u8, size: u64) -> usize
     put_octet(out, start, tag)
 }
 
-/// Writes a header of two octets before `end`, for a content of `size` octets, fewer than 128, and
-/// returns where it begins.
+/// Writes the header for a content of `size` octets, fewer than 128, before `end`, and returns its
+/// offset. The header has two octets.
 #[inline]
 pub fn put_short_header(out: &mut [u8], end: usize, tag: u8, size: u64) -> usize
     requires below_128 { size < 128 }
@@ -151,7 +154,7 @@ pub fn put_short_header(out: &mut [u8], end: usize, tag: u8, size: u64) -> usize
     put_octet(out, start, tag)
 }
 
-/// Writes a length before `end` in the shortest form, and returns where it begins.
+/// Writes the shortest form of a length before `end`, and returns its offset.
 #[inline]
 #[tactic(auto, using(crate::proofs::CanonLemmas::length_forms))]
 fn put_length(out: &mut [u8], end: usize, size: u64) -> usize

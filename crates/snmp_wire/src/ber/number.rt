@@ -9,7 +9,8 @@ use crate::ber::length::inner_at;
 use crate::ber::writing::{put_octet, put_text};
 use crate::ber::{BerError, tag};
 
-/// The octets as an unsigned number, the most significant first.
+/// Returns the unsigned number that `octets`, at most eight, encode, with the most significant
+/// octet first.
 #[inline]
 pub(crate) fn unsigned(octets: &[u8]) -> u64
     requires { length octets.now ≤ 8 }
@@ -23,14 +24,14 @@ pub(crate) fn unsigned(octets: &[u8]) -> u64
     sum
 }
 
-/// The INTEGER of 32 bits that the content is, in two's complement.
+/// Returns the INTEGER of 32 bits whose two's complement is `content`, of one to four octets.
 #[tactic(auto, unfolding(crate::specs::ber::Reading::integer_of))]
-// Hot: each value of its type, and four numbers of each message.
+// `inline(always)`: called for each value of its type, and for four numbers of each message.
 #[inline(always)]
 pub(crate) fn integer_of(content: &[u8]) -> Result<i32, BerError>
     ensures { AgreesBy (λ z. z) result (reading.integer_of content.now) }
 {
-    // Octets before the first have its sign.
+    // The octets before the first have its sign.
     match content {
         [a] => {
             let s = sign_of(*a);
@@ -46,7 +47,7 @@ pub(crate) fn integer_of(content: &[u8]) -> Result<i32, BerError>
     }
 }
 
-/// The octet that may precede this one in two's complement without changing the number.
+/// Returns the octet that may precede `octet` in two's complement without changing the number.
 #[inline]
 fn sign_of(octet: u8) -> u8
     ensures { result ≡ reading.sign_of octet }
@@ -54,21 +55,22 @@ fn sign_of(octet: u8) -> u8
     if octet < 0x80 { 0 } else { 0xFF }
 }
 
-/// The INTEGER at the front, and what follows.
+/// Returns the INTEGER at the start of `octets`, and the octets after it.
 #[tactic(auto, unfolding(crate::specs::ber::Reading::integer_at, crate::specs::ber::Reading::inner_at, crate::specs::ber::Reading::content_at, crate::specs::ber::Reading::length_at, crate::specs::ber::Reading::integer_of))]
-// Hot: four numbers of each message. Inlined, those of one octet take a few tests.
+// `inline(always)`: called for four numbers of each message. Inlined, numbers of one octet take a
+// few tests.
 #[inline(always)]
 pub fn integer_at(octets: &[u8]) -> Result<(i32, &[u8]), BerError>
     ensures { AgreesBy (λ x. (x.0, x.1.now)) result (reading.integer_at octets.now) }
 {
     match octets {
-        // Most have one octet, as the version, the error status and the error index have.
+        // Most have one octet, as the version, the error-status and the error-index.
         [tag::INTEGER, 1, octet, rest @ ..] if *octet < 0x80 => Ok((i32::from(*octet), rest)),
         _ => any_integer_at(octets),
     }
 }
 
-/// The INTEGER at the front, and what follows, whatever its length.
+/// Does what [`integer_at`] does, for a number of any length.
 #[tactic(auto, unfolding(crate::specs::ber::Reading::integer_at))]
 #[inline(never)]
 fn any_integer_at(octets: &[u8]) -> Result<(i32, &[u8]), BerError>
@@ -78,8 +80,8 @@ fn any_integer_at(octets: &[u8]) -> Result<(i32, &[u8]), BerError>
     Ok((integer_of(content)?, rest))
 }
 
-/// Whether the content of an unsigned number has 1 to `width` octets, or one more whose first is
-/// zero.
+/// Returns whether the content of an unsigned number has 1 to `width` octets, or one octet more of
+/// which the first is zero.
 #[inline]
 pub(crate) fn has_width(width: usize, content: &[u8]) -> bool
     requires { width ≤ 8 }
@@ -91,8 +93,8 @@ pub(crate) fn has_width(width: usize, content: &[u8]) -> bool
     }
 }
 
-/// The unsigned number of 32 bits that the content is.
-// Hot: each value of its type, as those of most columns.
+/// Returns the unsigned number of 32 bits that `content` encodes.
+// `inline(always)`: called for each value of its type, as those of most columns.
 #[inline(always)]
 pub(crate) fn unsigned32(content: &[u8]) -> u32
     requires { IsTrue (reading.has_width 4 content.now) }
@@ -104,7 +106,7 @@ pub(crate) fn unsigned32(content: &[u8]) -> u32
     }
 }
 
-/// The unsigned number of 64 bits that the content is.
+/// Returns the unsigned number of 64 bits that `content` encodes.
 #[inline]
 pub(crate) fn unsigned64(content: &[u8]) -> u64
     requires { IsTrue (reading.has_width 8 content.now) }
@@ -113,7 +115,7 @@ pub(crate) fn unsigned64(content: &[u8]) -> u64
     unsigned(without_zero(8, content))
 }
 
-/// The content without the zero in front of `width` octets.
+/// Returns `content` without its leading zero octet if it has more than `width` octets.
 #[inline]
 fn without_zero(width: usize, content: &[u8]) -> &[u8]
     requires { IsTrue (reading.has_width width content.now) }
@@ -127,7 +129,7 @@ fn without_zero(width: usize, content: &[u8]) -> &[u8]
     }
 }
 
-/// How many octets a number from 0 up takes.
+/// Returns the number of octets that the content of an unsigned number takes.
 #[inline]
 pub(crate) fn unsigned_size(number: u64) -> usize
     ensures value { result ≡ number_size number }
@@ -136,12 +138,12 @@ pub(crate) fn unsigned_size(number: u64) -> usize
     if number < 128 {
         1
     } else {
-        // After the seventh bit, one octet more for each eight.
+        // After the first seven bits, one octet more for each eight bits.
         (number.ilog2() as usize + 9) / 8
     }
 }
 
-/// How many octets a number of 32 bits takes.
+/// Returns the number of octets that the content of an unsigned number of 32 bits takes.
 #[inline]
 #[tactic(auto, using(crate::proofs::CanonLemmas::size_four, crate::proofs::CanonLemmas::size_five))]
 pub(crate) fn unsigned32_size(number: u32) -> usize
@@ -157,7 +159,7 @@ pub(crate) fn unsigned32_size(number: u32) -> usize
     }
 }
 
-/// How many octets an INTEGER takes.
+/// Returns the number of octets that the content of an INTEGER takes.
 #[inline]
 #[tactic(auto, using(crate::proofs::CanonLemmas::number_lengths))]
 pub fn integer_size(number: i32) -> usize
@@ -167,7 +169,7 @@ pub fn integer_size(number: i32) -> usize
     unsigned_size(magnitude(number))
 }
 
-/// The number, or for one below zero its complement: as many octets hold either.
+/// Returns the number, or its complement if it is below zero. Both take the same number of octets.
 #[inline]
 fn magnitude(number: i32) -> u64
     ensures { result ≡ magnitude_of number }
@@ -179,7 +181,7 @@ fn magnitude(number: i32) -> u64
     }
 }
 
-/// Writes a number from 0 before `end`, and returns where it begins.
+/// Writes the content of an unsigned number before `end`, and returns its offset.
 #[inline]
 #[tactic(auto, using(crate::proofs::WritingLaws::writes_same, crate::proofs::CanonLemmas::octets_from_zero))]
 pub(crate) fn put_unsigned(out: &mut [u8], end: usize, number: u64) -> usize
@@ -190,7 +192,7 @@ pub(crate) fn put_unsigned(out: &mut [u8], end: usize, number: u64) -> usize
     put_octets(out, end, unsigned_size(number), number)
 }
 
-/// Writes the four octets of a number before `end`, and returns where they begin.
+/// Writes the four octets of a number before `end`, and returns their offset.
 #[inline]
 #[tactic(auto, using(crate::proofs::WritingLaws::writes_same, crate::proofs::CanonLemmas::four_octets))]
 pub(crate) fn put_four(out: &mut [u8], end: usize, number: u32) -> usize
@@ -201,7 +203,7 @@ pub(crate) fn put_four(out: &mut [u8], end: usize, number: u32) -> usize
     put_text(out, end, &number.to_be_bytes())
 }
 
-/// Writes an INTEGER before `end`, and returns where it begins.
+/// Writes the content of an INTEGER before `end`, and returns its offset.
 #[inline]
 pub fn put_integer(out: &mut [u8], end: usize, number: i32) -> usize
     requires room { length (canon_number number) ≤ end }
@@ -211,7 +213,7 @@ pub fn put_integer(out: &mut [u8], end: usize, number: i32) -> usize
     put_octets(out, end, integer_size(number), sign_extended(number))
 }
 
-/// The two's complement of 64 bits, whose lowest octets are the number's.
+/// Returns the two's complement of 64 bits, whose lowest octets are the content of the number.
 #[inline]
 #[tactic(auto, using(std::proofs::lemmas::Grind::common_steps, crate::proofs::CanonLemmas::extended_below, crate::proofs::CanonLemmas::extended_above))]
 fn sign_extended(number: i32) -> u64
@@ -225,7 +227,7 @@ fn sign_extended(number: i32) -> u64
     }
 }
 
-/// Writes the lowest `count` octets of a number before `end`, and returns where they begin.
+/// Writes the lowest `count` octets of a number before `end`, and returns their offset.
 #[inline]
 pub(crate) fn put_octets(out: &mut [u8], end: usize, count: usize, number: u64) -> usize
     requires room { count ≤ end }
@@ -233,7 +235,7 @@ pub(crate) fn put_octets(out: &mut [u8], end: usize, count: usize, number: u64) 
     ensures { Writes out.old result end (octets count number) out.new }
 {
     match count {
-        // Most are one or two, and need no loop.
+        // Most numbers take one or two octets, and need no loop.
         1 => put_octet(out, end, (number % 256) as u8),
         2 => {
             let last = put_octet(out, end, (number % 256) as u8);
@@ -243,8 +245,7 @@ pub(crate) fn put_octets(out: &mut [u8], end: usize, count: usize, number: u64) 
     }
 }
 
-/// Writes the lowest `count` octets of a number before `end`, however many they are, and returns
-/// where they begin.
+/// Does what [`put_octets`] does, for any `count`.
 fn put_many_octets(out: &mut [u8], end: usize, count: usize, number: u64) -> usize
     requires room { count ≤ end }
     requires within { end ≤ length out.old }

@@ -7,7 +7,7 @@ use snmp_oid::Oid;
 use std::alloc::{AllocError, Global};
 use std::marker::Model;
 
-/// The octets of a string.
+/// The octets of a string, owned.
 #[derive(Debug, Drop)]
 pub struct OctetString {
     octets: Vec<u8>,
@@ -22,7 +22,7 @@ impl Model for OctetString {
 }
 
 impl OctetString {
-    /// A copy of the octets, for which it takes memory.
+    /// Returns a copy of `octets`. Allocates memory for it, and fails only if memory runs out.
     pub fn from_slice(alloc: Global, octets: &[u8]) -> Result<OctetString, AllocError>
         ensures { IfOk result (λ s. s ≡ octets.now) }
     {
@@ -31,14 +31,14 @@ impl OctetString {
         })
     }
 
-    /// The octets.
+    /// Returns the octets.
     pub fn as_slice(&self) -> &[u8]
         ensures { result.now ≡ self.now }
     {
         self.octets.as_slice()
     }
 
-    /// The octets, given back in the vector that holds them: it takes no memory.
+    /// Returns the vector that stores the octets, without allocating.
     pub fn into_vec(self) -> Vec<u8>
         ensures { result.items ≡ self }
     {
@@ -46,8 +46,8 @@ impl OctetString {
     }
 }
 
-/// A value, or an exception in its place (RFC 3416, section 3), that owns its octets: the twin of
-/// `ValueRef`.
+/// A value, or an exception in place of one (RFC 3416, section 3), that owns its octets: the
+/// counterpart of [`ValueRef`].
 #[derive(Debug, Drop)]
 pub enum Value {
     /// INTEGER.
@@ -79,8 +79,8 @@ pub enum Value {
 }
 
 impl Value {
-    /// A copy of a value. It takes memory for the octets of a string, and can't fail for any other
-    /// value.
+    /// Returns a copy of `value`. Allocates memory only for the octets of a string, and can't fail
+    /// for any other value.
     pub fn from_ref(alloc: Global, value: &ValueRef<'_>) -> Result<Value, AllocError>
         ensures same_value { IfOk result (λ v. owned v ≡ datum value.now) }
         ensures ok_without_string { HasNoString (datum value.now) → IsOk result }
@@ -102,7 +102,7 @@ impl Value {
         })
     }
 
-    /// The value, its strings borrowed.
+    /// Returns the value, with its strings borrowed.
     pub fn as_ref(&self) -> ValueRef<'_>
         ensures { datum result ≡ owned self.now }
     {

@@ -21,8 +21,8 @@ use crate::ber::writing::{put_octet, put_text};
 use crate::ber::{BerError, tag};
 use snmp_oid::Oid;
 
-/// A value, or an exception in its place (RFC 3416, section 3). Its strings lie in the datagram
-/// that it was read from.
+/// A value, or an exception in place of one (RFC 3416, section 3). Its strings are borrowed, from
+/// the datagram if it was decoded.
 #[derive(Debug, Drop, PartialEq)]
 pub enum ValueRef<'a> {
     /// INTEGER, tag 02.
@@ -33,7 +33,7 @@ pub enum ValueRef<'a> {
     Null,
     /// OBJECT IDENTIFIER, tag 06.
     ObjectId(Oid),
-    /// IpAddress, tag 40: four octets, the first of the address first.
+    /// IpAddress, tag 40: the four octets of the address, in its order.
     IpAddress([u8; 4]),
     /// Counter32, tag 41.
     Counter32(u32),
@@ -53,12 +53,12 @@ pub enum ValueRef<'a> {
     EndOfMibView,
 }
 
-/// Checks that a value of this tag has this content.
+/// Checks that `content` is the content of a value with this tag.
 #[tactic(auto, unfolding(crate::specs::ber::Reading::typed_value, crate::specs::ber::Reading::unsigned_of, crate::specs::ber::Reading::integer_of))]
-// Hot: each binding that is checked.
+// `inline(always)`: called for each binding that is checked.
 #[inline(always)]
 pub fn check_value(tag: u8, content: &[u8]) -> Result<(), BerError>
-    // Ok exactly where they encode a value: `value_gives` and `value_again` of the proofs.
+    // `Ok` if and only if they encode a value: lemmas `value_gives` and `value_again`.
     ensures { AgreesBy (λ u. u) result (checked (reading.typed_value tag content.now)) }
 {
     match tag {
@@ -84,8 +84,9 @@ fn check_object_id(content: &[u8]) -> Result<(), BerError>
     check_identifier(content)
 }
 
-/// Reads the value of this tag and content into an existing one.
-// Hot: each binding that is read. Over a value of the same type this is a store or two.
+/// Reads the value with this tag and content into `into`. The content must have been checked.
+// `inline(always)`: called for each binding that is read. Over a value of the same type this is a
+// store or two.
 #[inline(always)]
 pub fn read_value<'a>(tag: u8, content: &'a [u8], into: &mut ValueRef<'a>)
     requires { IsOk (reading.typed_value tag content.now) }
@@ -96,8 +97,8 @@ pub fn read_value<'a>(tag: u8, content: &'a [u8], into: &mut ValueRef<'a>)
     }
 }
 
-/// [`read_value`] over a value of any type. It is a function of its own since here all octets of a
-/// value are set.
+/// Does what [`read_value`] does, over a value of any type. `inline(never)`, since it writes all
+/// octets of a [`ValueRef`].
 #[tactic(auto, unfolding(crate::specs::ber::Reading::typed_value, crate::specs::ber::Reading::unsigned_of))]
 #[inline(never)]
 fn replace_value<'a>(tag: u8, content: &'a [u8], into: &mut ValueRef<'a>)
@@ -128,8 +129,9 @@ fn replace_value<'a>(tag: u8, content: &'a [u8], into: &mut ValueRef<'a>)
     }
 }
 
-/// Changes a value to the identifier of this content. Not inlined: its identifier, of over 500
-/// octets, is set to zeros as the function begins, which the other types are spared.
+/// Sets `into` to the identifier with this content. `inline(never)`: its `Oid`, of over 500
+/// octets, is zeroed when the function begins; inlined, it would be zeroed for the other types
+/// too.
 #[tactic(auto, unfolding(crate::specs::ber::Reading::typed_value))]
 #[inline(never)]
 fn set_object_id<'a>(content: &'a [u8], into: &mut ValueRef<'a>)
@@ -139,11 +141,11 @@ fn set_object_id<'a>(content: &'a [u8], into: &mut ValueRef<'a>)
     *into = ValueRef::ObjectId(identifier_of(content));
 }
 
-/// Sets a value that already has the type of this tag, as those of one column have, to the one of
-/// this content, and returns whether it did. It does so for most types, and saves setting over 500
-/// octets.
+/// If `value` already has the type of this tag, as the values of a column have, sets it to the
+/// value with this content and returns `true`. Otherwise returns `false`, and so it does for the
+/// types that have no case here. Setting only the content saves writing over 500 octets.
 #[tactic(auto, unfolding(crate::specs::ber::Reading::typed_value, crate::specs::ber::Reading::unsigned_of))]
-// Hot, and called once: each binding that is read.
+// `inline(always)`: its single caller calls it for each binding that is read.
 #[inline(always)]
 fn set_if_same_type<'a>(tag: u8, content: &'a [u8], value: &mut ValueRef<'a>) -> bool
     requires { IsOk (reading.typed_value tag content.now) }
@@ -195,7 +197,7 @@ fn set_if_same_type<'a>(tag: u8, content: &'a [u8], value: &mut ValueRef<'a>) ->
     false
 }
 
-/// How many octets the content of a value takes.
+/// Returns the length, in octets, of the content of a value.
 #[inline]
 #[tactic(auto, unfolding(crate::specs::ber::Canon::canon_content))]
 pub fn content_size(value: &ValueRef<'_>) -> u64
@@ -220,8 +222,8 @@ pub fn content_size(value: &ValueRef<'_>) -> u64
     }
 }
 
-/// How many octets a string has. A function of its own, since the proof takes from a slice that is
-/// passed that each item is an octet.
+/// Returns the number of octets in a string. This is a function because a proof knows that the
+/// items of a slice are octets if the slice is a parameter.
 #[inline]
 fn string_size(text: &[u8]) -> u64
     ensures value { result ≡ length text.now }
@@ -230,8 +232,8 @@ fn string_size(text: &[u8]) -> u64
     text.len() as u64
 }
 
-/// How many octets the content of an identifier takes. Few values are identifiers, so this isn't
-/// inlined.
+/// Returns the length, in octets, of the content of an identifier. Few values are identifiers, so
+/// this isn't inlined.
 #[inline(never)]
 fn object_id_size(name: &Oid) -> u64
     requires { IsWire name.now }
@@ -242,7 +244,7 @@ fn object_id_size(name: &Oid) -> u64
     identifier_size(name)
 }
 
-/// How many octets an address has.
+/// Returns the number of octets in an address.
 #[inline]
 fn address_size(address: [u8; 4]) -> u64
     ensures value { result ≡ length address }
@@ -252,17 +254,17 @@ fn address_size(address: [u8; 4]) -> u64
     address.len() as u64
 }
 
-/// Writes a value before `end`, its tag (RFC 3416, section 3) with its content, and returns where
-/// it begins.
-// Hot: each binding that is written.
+/// Writes a value, with its tag (RFC 3416, section 3) and its length, before `end`, and returns
+/// its offset.
+// `inline(always)`: called for each binding that is written.
 #[inline(always)]
 #[tactic(auto, unfolding(crate::specs::ber::Canon::canon_value, crate::specs::ber::Canon::canon_content))]
 pub fn put_value(out: &mut [u8], end: usize, value: &ValueRef<'_>) -> usize
     requires encodable { IsEncodableValue (datum value.now) }
     requires room { length (canon_value (datum value.now)) ≤ end }
     requires within { end ≤ length out.old }
-    // What is written of a value in range is a strict encoding, and no other is as short:
-    // `spells_value` and `value_least` of the proofs.
+    // What is written of a value in range is a strict encoding, and no strict encoding is shorter:
+    // lemmas `spells_value` and `value_least`.
     ensures { Writes out.old result end (canon_value (datum value.now)) out.new }
 {
     match value {
@@ -282,7 +284,7 @@ pub fn put_value(out: &mut [u8], end: usize, value: &ValueRef<'_>) -> usize
     }
 }
 
-/// Writes an element of no content before `end`, and returns where it begins.
+/// Writes an element with empty content before `end`, and returns its offset.
 #[inline]
 fn put_empty(out: &mut [u8], end: usize, tag: u8) -> usize
     requires room { length (canon_element tag []) ≤ end }
@@ -292,14 +294,15 @@ fn put_empty(out: &mut [u8], end: usize, tag: u8) -> usize
     put_short_header(out, end, tag, 0)
 }
 
-/// Writes a number of 32 bits before `end`, as an element of this tag, and returns where it begins.
+/// Writes a number of 32 bits before `end`, as an element with this tag, and returns its offset.
 #[inline]
 fn put_number(out: &mut [u8], end: usize, tag: u8, number: u32) -> usize
     requires room { length (canon_element tag (canon_number (pos number))) ≤ end }
     requires within { end ≤ length out.old }
     ensures { Writes out.old result end (canon_element tag (canon_number (pos number))) out.new }
 {
-    // Large ones, as most counters are, have four octets, or five with the zero before a high bit.
+    // Large numbers, as most counters are, have four octets, or five if the high bit is set and
+    // needs a zero octet before it.
     if number < 1 << 23 {
         let start = put_unsigned(out, end, u64::from(number));
         return put_short_header(out, start, tag, (end - start) as u64);
@@ -313,7 +316,7 @@ fn put_number(out: &mut [u8], end: usize, tag: u8, number: u32) -> usize
     }
 }
 
-/// Writes a number of 64 bits before `end`, as an element of this tag, and returns where it begins.
+/// Writes a number of 64 bits before `end`, as an element with this tag, and returns its offset.
 #[inline(never)]
 #[tactic(auto, using(crate::proofs::ElementLemmas::number_short, crate::proofs::ElementLaws::header_fits))]
 fn put_long_number(out: &mut [u8], end: usize, tag: u8, number: u64) -> usize
@@ -325,7 +328,7 @@ fn put_long_number(out: &mut [u8], end: usize, tag: u8, number: u64) -> usize
     put_short_header(out, start, tag, (end - start) as u64)
 }
 
-/// Writes an INTEGER before `end`, and returns where it begins.
+/// Writes an INTEGER before `end`, and returns its offset.
 #[inline]
 #[tactic(auto, using(crate::proofs::ElementLemmas::number_short, crate::proofs::ElementLaws::header_fits))]
 fn put_integer_value(out: &mut [u8], end: usize, number: i32) -> usize
@@ -337,7 +340,7 @@ fn put_integer_value(out: &mut [u8], end: usize, number: i32) -> usize
     put_short_header(out, start, tag::INTEGER, (end - start) as u64)
 }
 
-/// Writes a text before `end`, as an element of this tag, and returns where it begins.
+/// Writes `text` before `end`, as an element with this tag, and returns its offset.
 #[inline(never)]
 fn put_string(out: &mut [u8], end: usize, tag: u8, text: &[u8]) -> usize
     requires room { length (canon_element tag text.now) ≤ end }
@@ -348,8 +351,8 @@ fn put_string(out: &mut [u8], end: usize, tag: u8, text: &[u8]) -> usize
     put_header(out, start, tag, (end - start) as u64)
 }
 
-/// Writes an OBJECT IDENTIFIER before `end`, and returns where it begins. Few values are
-/// identifiers, so this isn't inlined.
+/// Writes an OBJECT IDENTIFIER before `end`, and returns its offset. Few values are identifiers,
+/// so this isn't inlined.
 #[inline(never)]
 fn put_object_id(out: &mut [u8], end: usize, name: &Oid) -> usize
     requires encodable { IsWire name.now }

@@ -1,9 +1,10 @@
-//! Pieces of a message as they are written: from its end to its front, so that each length is known
-//! when it is written.
+//! Writing of the pieces of a message, from its end to its start, so that each length is known
+//! when it is written. A piece is written directly before the offset `end`, and its own offset is
+//! returned.
 ghost use Rattle.std.specs.Prelude.{◌≡◌, ℕ, ◌+◌, ◌<◌, ◌≤◌, [], ◌∷◌, length};
 ghost use Rattle.snmp_wire.specs.ber.Writing.{Writes};
 
-/// Writes an octet before `end`, and returns its place.
+/// Writes an octet before `end`, and returns its offset.
 #[inline]
 #[tactic(auto, using(crate::proofs::WritingLemmas::writes_one))]
 pub fn put_octet(out: &mut [u8], end: usize, octet: u8) -> usize
@@ -15,7 +16,7 @@ pub fn put_octet(out: &mut [u8], end: usize, octet: u8) -> usize
     end - 1
 }
 
-/// Writes a text before `end`, and returns where it begins.
+/// Writes `text` before `end`, and returns its offset.
 #[inline]
 #[tactic(auto, using(crate::proofs::WritingLemmas::writes_copy))]
 pub fn put_text(out: &mut [u8], end: usize, text: &[u8]) -> usize
