@@ -1,5 +1,5 @@
--- The shortest encoding of bindings and messages, made of that of values (ber/Canon.antt): each
--- length is in the shortest form (X.690, 8.1.3; RFC 3417, section 8).
+-- The shortest encoding of bindings and messages, composed of the encodings of values
+-- (ber/Canon.antt): each length is in the shortest form (X.690, 8.1.3; RFC 3417, section 8).
 use Rattle.std.specs.Prelude.{ℕ, ◌+◌, List, ◌++◌, length}
 use Rattle.std.specs.List.{flat_map}
 use Rattle.snmp_oid.specs.Identifier.{IsWire}
@@ -13,21 +13,21 @@ unfoldable pub use Rattle.snmp_wire.specs.ber.Canon.{canon_value, digits, length
 unfoldable pub use Rattle.snmp_wire.specs.ber.Canon.{septets, subidentifier_size}
 pub use Rattle.snmp_wire.specs.ber.Canon.{IsEncodableValue, digit_count, magnitude_of, octets}
 
--- a SEQUENCE of the name and the value
+-- the encoding of a binding: a SEQUENCE of the name and the value
 unfoldable pub canon_binding : VarBind → List ℕ
 canon_binding binding =
     canon_element sequence_tag (canon_value (object_id binding.name) ++ canon_value binding.value)
 
--- the bindings, one after the other
+-- the encodings of the bindings, one after the other
 unfoldable pub canon_bindings : List VarBind → List ℕ
 canon_bindings bindings = flat_map canon_binding bindings
 
--- what stands before the PDU: the version and the community
+-- what precedes the PDU: the version and the community
 unfoldable pub canon_opening : Message → List ℕ
 canon_opening message =
     canon_value (integer_value message.version) ++ canon_value (octet_string message.community)
 
--- what stands in the PDU before the varbind list: the request-id and the two numbers after it
+-- what precedes the varbind list in the PDU: the request-id, `a` and `b`
 unfoldable pub canon_fields : Message → List ℕ
 canon_fields message =
     canon_value (integer_value message.id) ++ canon_value (integer_value message.a)
@@ -40,7 +40,7 @@ canon message =
     ++ canon_element (kind_tag message.kind)
     (canon_fields message ++ canon_element sequence_tag (canon_bindings message.bindings)))
 
--- what stands between the first length of a message and its bindings, where these take `total`
+-- what is between the first length of a message and its bindings, if the bindings take `total`
 -- octets together
 unfoldable pub canon_front : Message → ℕ → List ℕ
 canon_front message total =
@@ -49,14 +49,14 @@ canon_front message total =
     (length (canon_fields message) + length (canon_header sequence_tag total) + total)
     ++ (canon_fields message ++ canon_header sequence_tag total))
 
--- the shortest encoding of a message up to its first binding, where these take `total` octets
+-- the shortest encoding of a message up to its first binding, if the bindings take `total` octets
 -- together
 unfoldable pub canon_head : Message → ℕ → List ℕ
 canon_head message total =
     canon_header sequence_tag (length (canon_front message total) + total)
     ++ canon_front message total
 
--- the binding can be written: its name has an encoding, and its value can be written
+-- `binding` can be written: its name has an encoding, and its value can be written
 pub record IsEncodable (binding : VarBind) : Type 0 where
   pub name : IsWire binding.name
   pub value : IsEncodableValue binding.value

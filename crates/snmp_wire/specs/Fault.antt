@@ -1,4 +1,4 @@
--- Why octets encode no message: what each fault says of them.
+-- Why octets don't encode a message: what each error says of them.
 use Rattle.std.specs.Prelude.{◌≡◌, ◌≢◌, ℕ, ◌≤◌, ◌⊎◌, List, [], ◌∷◌, ◌++◌, Option, Some, None}
 use Rattle.snmp_wire.specs.declared.ber.error.BerError.{BerError}
 use Rattle.snmp_wire.specs.declared.ber.error.BerError.TheVariants as error
@@ -6,13 +6,13 @@ use Rattle.snmp_wire.specs.{declared.kind.Kind.Kind, ber.Number.lenient, ber.Len
 use Rattle.snmp_wire.specs.{ber.Value.Datum, Spelling.kind_tag}
 use Rattle.snmp_wire.specs.ber.Spelling.{sequence_tag, value_tag, IsContent}
 
--- the octets begin with an element, and the rest follows
+-- `octets` begin with an element with this tag and content, and `rest` follows it
 pub record BeginsWith (tag : ℕ) (content octets rest : List ℕ) : Type 0 where
   pub element : List ℕ
   pub is_element : IsElement tag content element
   pub parts : octets ≡ element ++ rest
 
--- the octets end before their first element does: with those that are missing they would be an
+-- `octets` end before their first element does: together with some missing octets they would be an
 -- element
 pub record EndsEarly (octets : List ℕ) : Type 0 where
   pub missing : List ℕ
@@ -21,7 +21,7 @@ pub record EndsEarly (octets : List ℕ) : Type 0 where
   pub content : List ℕ
   pub whole : IsElement tag content (octets ++ missing)
 
--- the first octet of the first element's length is 0x80 (the indefinite form), or 0x85 or above
+-- the length of the first element begins with 0x80 (the indefinite form), or with 0x85 or above
 pub record HasForbiddenLength (octets : List ℕ) : Type 0 where
   pub tag : ℕ
   pub first : ℕ
@@ -29,7 +29,7 @@ pub record HasForbiddenLength (octets : List ℕ) : Type 0 where
   pub parts : octets ≡ tag ∷ first ∷ rest
   pub forbidden : (first ≡ 0x80) ⊎ (0x85 ≤ first)
 
--- the elements of a message, by their places in it
+-- the elements of a message, by their positions in it
 pub data Place : Type 0 where
   at_message : Place
   at_version : Place
@@ -43,7 +43,8 @@ pub data Place : Type 0 where
   at_name : Place
   at_value : Place
 
--- the place of the first element in the one at this place, where that is made of elements
+-- the position of the first element inside the element at this position, if that consists of
+-- elements
 abbrev pub first_inside : Place → Option Place
 first_inside at_message = Some at_version
 first_inside at_pdu = Some at_id
@@ -51,7 +52,7 @@ first_inside at_list = Some at_binding
 first_inside at_binding = Some at_name
 first_inside place = None
 
--- the place of the element that follows in the same one, if any
+-- the position of the next element inside the same one, if any
 abbrev pub next_behind : Place → Option Place
 next_behind at_version = Some at_community
 next_behind at_community = Some at_pdu
@@ -62,7 +63,7 @@ next_behind at_binding = Some at_binding
 next_behind at_name = Some at_value
 next_behind place = None
 
--- the tags that a place allows
+-- `tag` is allowed at the position
 abbrev pub AllowsTag : Place → ℕ → Type 0
 AllowsTag at_message tag = tag ≡ sequence_tag
 AllowsTag at_version tag = tag ≡ 0x02
@@ -76,13 +77,13 @@ AllowsTag at_binding tag = tag ≡ sequence_tag
 AllowsTag at_name tag = tag ≡ 0x06
 AllowsTag at_value tag = (value : Datum) × (tag ≡ value_tag value)
 
--- an element of the place must stand here: a binding where octets are left, any other always
+-- an element of the position is required: a binding if octets are left, any other element always
 abbrev pub Calls : Place → List ℕ → Type 0
 Calls at_binding here = here ≢ []
 Calls place here = Unit {0}
 
--- an element of the place must stand at the front of `here`, which is what is left of the element
--- round it
+-- an element of the position is required at the start of `here`, which is what is left of the
+-- element around it
 pub data Expects (octets : List ℕ) : Place → List ℕ → Type 0 where
   starts : Expects octets at_message octets
   inside : (place next : Place) (here : List ℕ) (tag : ℕ) (content rest : List ℕ)
@@ -92,15 +93,15 @@ pub data Expects (octets : List ℕ) : Place → List ℕ → Type 0 where
       → Expects octets place here → AllowsTag place tag → BeginsWith tag content here rest
       → next_behind place ≡ Some next → Calls next rest → Expects octets next rest
 
--- a length of no allowed form, or an inner element that is missing from the one round it or reaches
--- past it
+-- `octets` have a length of a forbidden form, or an inner element that is missing from the element
+-- around it or reaches past its end
 pub record HasBadLength (octets : List ℕ) : Type 0 where
   pub place : Place
   pub here : List ℕ
   pub expected : Expects octets place here
   pub bad : HasForbiddenLength here ⊎ ((place ≢ at_message) × EndsEarly here)
 
--- a tag that its place doesn't allow
+-- `octets` have a tag that isn't allowed at its position
 pub record HasBadTag (octets : List ℕ) : Type 0 where
   pub place : Place
   pub here : List ℕ
@@ -110,7 +111,7 @@ pub record HasBadTag (octets : List ℕ) : Type 0 where
   pub parts : here ≡ tag ∷ after
   pub bad : AllowsTag place tag → ⊥
 
--- content that no value of the tag has
+-- `octets` have a content that no value with its tag has
 pub record HasBadContent (octets : List ℕ) : Type 0 where
   pub place : Place
   pub here : List ℕ
@@ -123,8 +124,8 @@ pub record HasBadContent (octets : List ℕ) : Type 0 where
   pub begins : BeginsWith tag content here after
   pub bad : (value : Datum) → tag ≡ value_tag value → IsContent lenient value content → ⊥
 
--- octets after the last element of a SEQUENCE or a PDU, where the tag of that element is one that
--- its place allows
+-- `octets` have octets left over after the last element of a SEQUENCE or a PDU, and the tag of
+-- that element is allowed at its position
 pub record HasLeftOver (octets : List ℕ) : Type 0 where
   pub place : Place
   pub here : List ℕ
@@ -138,7 +139,7 @@ pub record HasLeftOver (octets : List ℕ) : Type 0 where
   pub begins : BeginsWith tag content here after
   pub some : after ≢ []
 
--- octets after the outermost element
+-- `octets` continue after the outermost element
 pub record HasTrailing (octets : List ℕ) : Type 0 where
   pub tag : ℕ
   pub content : List ℕ
@@ -146,7 +147,7 @@ pub record HasTrailing (octets : List ℕ) : Type 0 where
   pub begins : BeginsWith tag content octets after
   pub some : after ≢ []
 
--- what the fault says of the octets
+-- what the error says of `octets`
 abbrev pub IsFault : BerError → List ℕ → Type 0
 IsFault error.Truncated octets = EndsEarly octets
 IsFault error.Trailing octets = HasTrailing octets

@@ -1,5 +1,5 @@
--- Values, variable bindings and messages as the standard has them (RFC 3416, section 3; RFC 1901,
--- section 3), without where they lie in memory.
+-- Values, variable bindings and messages as the standard defines them (RFC 3416, section 3; RFC
+-- 1901, section 3), regardless of where their octets are in memory.
 use Rattle.std.specs.Prelude.{ℕ, ℤ, List, map}
 use Rattle.snmp_wire.specs.{declared.kind.Kind.Kind, declared.binding.Binding.Binding}
 pub use Rattle.snmp_wire.specs.ber.Value.{Datum, integer_value, octet_string, null_value, object_id}
@@ -12,8 +12,8 @@ pub record VarBind : Type 0 where
   pub name : List ℕ
   pub value : Datum
 
--- a message. In a GetBulk request `a` and `b` are non-repeaters and max-repetitions, elsewhere
--- error-status and error-index.
+-- a message. In a GetBulk request `a` and `b` are the non-repeaters and the max-repetitions, in
+-- all others the error-status and the error-index.
 pub record Message : Type 0 where
   pub version : ℤ
   pub community : List ℕ
@@ -23,10 +23,10 @@ pub record Message : Type 0 where
   pub b : ℤ
   pub bindings : List VarBind
 
--- the binding without where it lies
+-- the binding, regardless of where its octets are
 abbrev pub var_bind : Binding → VarBind
 var_bind b = record { name = b.name; value = datum b.value }
 
--- the bindings without where they lie
+-- the bindings, regardless of where their octets are
 abbrev pub var_binds : List Binding → List VarBind
 var_binds bindings = map var_bind bindings

@@ -1,5 +1,5 @@
--- Names as they are encoded: what content octets say of identifiers and of their order (X.690,
--- 8.19; RFC 3416, section 4.2.2).
+-- Encoded names: what content octets say of identifiers and of their order (X.690, 8.19; RFC 3416,
+-- section 4.2.2).
 use Rattle.std.specs.Prelude.{◌≡◌, ℕ, ◌<◌, ◌≤◌, ◌⊎◌, ◌↔◌, List, [], length, get_or, IsOk}
 use Rattle.std.specs.Result.{result_unwrap_or}
 use Rattle.snmp_oid.specs.Identifier.{IsBelow, IsWire, Precedes}
@@ -7,52 +7,52 @@ use Rattle.snmp_wire.specs.Message.{VarBind, null_value}
 use Rattle.snmp_wire.specs.ber.Identifier.{IsObjectId, IsSubidentifier, subidentifiers}
 use Rattle.snmp_wire.specs.{ber.Number.AreOctets, ber.Reading.identifier_of}
 
--- the identifier that the content encodes, or the empty one where it encodes none
+-- the identifier that `content` encodes, or the empty one if it encodes none
 abbrev pub identifier_in : List ℕ → List ℕ
 identifier_in content = result_unwrap_or (identifier_of content) []
 
--- the content is octets that encode an identifier
+-- `content` consists of octets and encodes an identifier
 pub record IsContentOctets (content : List ℕ) : Type 0 where
   pub read : IsOk (identifier_of content)
   pub octets : AreOctets content
 
--- the binding by which a request asks for a name
+-- the binding that requests `name`: its value is NULL
 abbrev pub asking : List ℕ → VarBind
 asking name = record { name = name; value = null_value }
 
--- Of two subidentifiers the one comes first: it has fewer octets, or as many and the smaller octet
--- at the first place where the two differ.
+-- The subidentifier `text` comes before `other`: it has fewer octets, or as many octets and the
+-- smaller one at the first index at which the two differ.
 abbrev pub ComesFirst : List ℕ → List ℕ → Type 0
 ComesFirst text other =
     (length text < length other) ⊎ ((length text ≡ length other) × Precedes text other)
 
 -- what contents say of the identifiers that they encode
 pub record EncodedNames : Type 0 where
-  -- a content is one identifier's
+  -- a content encodes at most one identifier
   pub one_name : (content o p : List ℕ) → IsObjectId content o → IsObjectId content p → o ≡ p
-  -- and an identifier has one content
+  -- an identifier has at most one content
   pub one_content : (content other o : List ℕ) → AreOctets content → AreOctets other
       → IsObjectId content o → IsObjectId other o → content ≡ other
-  -- a name is below a root where its content begins with the root's and is longer
+  -- a name is below a root if and only if its content begins with the root's and is longer
   pub below : (content root o p : List ℕ) → AreOctets content → AreOctets root
       → IsObjectId content o → IsObjectId root p → IsBelow o p ↔ IsBelow content root
-  -- names are in the order of their subidentifiers
+  -- names are ordered by their subidentifiers
   pub names_order : (o p : List ℕ) → IsWire o → IsWire p
       → Precedes o p ↔ Precedes (subidentifiers o) (subidentifiers p)
-  -- and subidentifiers in that of their lengths and octets
+  -- subidentifiers are ordered by their lengths, and then by their octets
   pub octets_order : (text other : List ℕ) (n m : ℕ) → AreOctets text → AreOctets other
       → IsSubidentifier text n → IsSubidentifier other m → (n < m) ↔ ComesFirst text other
 
 -- ---- for private functions
 
--- the subidentifier that has the octet at `at` has its last octet at `end`
+-- the subidentifier that contains the octet at `at` has its last octet at `end`
 pub record EndsAt (content : List ℕ) (at end : ℕ) : Type 0 where
   pub behind : at ≤ end
   pub within : end < length content
   pub goes_on : (k : ℕ) → at ≤ k → k < end → 128 ≤ get_or content k 0
   pub ends : get_or content end 0 < 128
 
--- both begin with the same `count` octets
+-- the first `count` octets of both are the same
 pub record IsAlike (octets others : List ℕ) (count : ℕ) : Type 0 where
   pub short : count ≤ length octets
   pub other_short : count ≤ length others

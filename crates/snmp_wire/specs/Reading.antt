@@ -1,5 +1,6 @@
--- Bindings and messages read from the front, with the first fault that is met. What lies in a
--- datagram is seen by this; that it agrees with what octets spell is proved.
+-- Decoding of bindings and messages from their start, with the first fault that is found. These
+-- are the models of what is borrowed from a datagram; that they agree with Spelling.antt, which
+-- says what octets encode, is proved.
 use Rattle.std.specs.Prelude.{ℕ, zero, suc, ℤ, ◌==◌, if◌then◌else◌, List, [], ◌∷◌, length, Result}
 use Rattle.std.specs.Prelude.{Ok, Err}
 use Rattle.std.specs.Result.{result_unwrap_or}
@@ -12,13 +13,13 @@ use Rattle.snmp_wire.specs.declared.binding.Fields as Lent
 use Rattle.snmp_wire.specs.ber.Reading.{fault_or, content_at, element_at, identifier_of, inner_at}
 use Rattle.snmp_wire.specs.ber.Reading.{integer_at, typed_value, ◌>>=◌}
 
--- where a binding's name and value lie
+-- the fields of an encoded binding
 pub record Fields : Type 0 where
   pub name : List ℕ
   pub tag : ℕ
   pub content : List ℕ
 
--- the fields without where they lie
+-- the fields, regardless of where their octets are in memory
 abbrev pub fields : Lent.Fields → Fields
 fields f = record { name = f.name.now; tag = f.tag; content = f.content.now }
 
@@ -36,14 +37,14 @@ fields_at octets = do
   fields ← fields_of binding.0
   Ok (fields, binding.1)
 
--- the binding of these fields: an identifier, and the value of the tag and the content
+-- the binding with these fields: the identifier, and the value of the tag and the content
 unfoldable pub binding_of : Fields → Result VarBind BerError
 binding_of fields = do
   name ← identifier_of fields.name
   value ← typed_value fields.tag fields.content
   Ok (record { name = name; value = value })
 
--- the binding of fields that are known to be a binding's
+-- the binding with these fields, which are known to be those of a binding
 abbrev pub binding_with : Fields → VarBind
 binding_with fields =
     result_unwrap_or (binding_of fields) (record { name = []; value = null_value })
@@ -54,7 +55,7 @@ binding_at octets = do
   binding ← binding_of fields.0
   Ok (binding, fields.1)
 
--- all bindings that the octets are; `fuel` is no less than their number
+-- the bindings that the octets encode, one after the other, at most `fuel` of them
 unfoldable pub bindings_within : ℕ → List ℕ → Result (List VarBind) BerError
 bindings_within fuel [] = Ok []
 bindings_within zero (octet ∷ rest) = Err error.Content
@@ -63,17 +64,18 @@ bindings_within (suc fuel) (octet ∷ rest) = do
   more ← bindings_within fuel first.1
   Ok (first.0 ∷ more)
 
--- the bindings that the octets are, one after the other
+-- the bindings that the octets encode, one after the other
 unfoldable pub bindings_of : List ℕ → Result (List VarBind) BerError
 bindings_of octets = bindings_within (length octets) octets
 
--- the bindings that the octets are, or none where they aren't bindings
+-- the bindings that the octets encode, or `[]` if they don't encode bindings
 abbrev pub bindings_in : List ℕ → List VarBind
 bindings_in octets = result_unwrap_or (bindings_of octets) []
 
 -- ---- for private functions
 
--- the fault of a binding with octets left over after its value: the value's own, if it has one
+-- the fault of a binding with octets left over after its value: the fault of the value, or
+-- `Content` if it has none
 abbrev pub left_over_after : ℕ → List ℕ → BerError
 left_over_after tag content = fault_or (typed_value tag content) error.Content
 
@@ -89,7 +91,7 @@ kind_of tag =
     else (if tag == 0xA8 then Ok kind.Report
     else Err error.Tag)))))))
 
--- the content of the outermost element, where no octets follow that
+-- the content of the outermost element, if no octets follow it
 unfoldable pub outermost_of : List ℕ → Result (List ℕ) BerError
 outermost_of [] = Err error.Truncated
 outermost_of (tag ∷ rest) =

@@ -1,4 +1,4 @@
--- How many octets the parts of a message's encoding take.
+-- The lengths of the parts of a message's encoding.
 use Rattle.std.specs.Prelude.{◌≡◌, ◌≤◌, ℕ, ◌+◌, length}
 use Rattle.snmp_wire.specs.ber.Canon.{canon_header, canon_value}
 use Rattle.snmp_wire.specs.{ber.Spelling.sequence_tag, Message.Message, Spelling.kind_tag}
@@ -6,7 +6,7 @@ use Rattle.snmp_wire.specs.ber.Value.{integer_value, octet_string}
 use Rattle.snmp_wire.specs.Canon.{canon, canon_bindings, canon_fields, canon_front, canon_head}
 use Rattle.snmp_wire.specs.Canon.{canon_opening}
 
--- how many octets the content of a PDU takes, where its bindings take `total` octets together
+-- the length of the content of a PDU, if its bindings take `total` octets together
 abbrev pub pdu_size : Message → ℕ → ℕ
 pdu_size message total =
     length (canon_fields message) + length (canon_header sequence_tag total) + total
@@ -38,6 +38,6 @@ pub record MessageSizes : Type 0 where
       → length (canon m)
       ≡ length (canon_head m (length (canon_bindings m.bindings)))
       + length (canon_bindings m.bindings)
-  -- a head is no shorter where the bindings after it take more octets
+  -- a head is no shorter if its bindings take more octets
   pub heads_rise : (m : Message) (n k : ℕ)
       → n ≤ k → length (canon_head m n) ≤ length (canon_head m k)

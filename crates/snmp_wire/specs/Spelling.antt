@@ -8,7 +8,7 @@ use Rattle.snmp_wire.specs.ber.Value.{integer_value, octet_string, object_id}
 use Rattle.snmp_wire.specs.Message.{VarBind, Message}
 pub use Rattle.snmp_wire.specs.ber.Spelling.{IsContent, SpellsValue, sequence_tag, value_tag}
 
--- the octets encode the binding: a SEQUENCE of its name and its value
+-- `octets` encode `binding`: a SEQUENCE of its name and its value
 pub record SpellsBinding (form : Form) (binding : VarBind) (octets : List ℕ) : Type 0 where
   pub name : List ℕ
   pub value : List ℕ
@@ -16,14 +16,14 @@ pub record SpellsBinding (form : Form) (binding : VarBind) (octets : List ℕ) :
   pub is_value : SpellsValue form binding.value value
   pub element : IsElement sequence_tag (name ++ value) octets
 
--- the octets encode these bindings in turn
+-- `octets` encode the bindings in turn
 abbrev pub SpellsBindings : Form → List VarBind → List ℕ → Type 0
 SpellsBindings form [] octets = octets ≡ []
 SpellsBindings form (binding ∷ more) octets =
     (first : List ℕ) × (rest : List ℕ) × (octets ≡ first ++ rest)
     × SpellsBinding form binding first × SpellsBindings form more rest
 
--- the tag of a PDU (RFC 3416, section 3)
+-- the tag of a PDU of this kind (RFC 3416, section 3)
 abbrev pub kind_tag : Kind → ℕ
 kind_tag kind.GetRequest = 0xA0
 kind_tag kind.GetNextRequest = 0xA1
@@ -34,8 +34,8 @@ kind_tag kind.InformRequest = 0xA6
 kind_tag kind.Trap = 0xA7
 kind_tag kind.Report = 0xA8
 
--- the octets encode the PDU of the message: an element of its kind's tag, of request-id, the two
--- numbers after it, and a SEQUENCE of the bindings
+-- `octets` encode the PDU of `message`: an element with the tag of its kind, which contains the
+-- request-id, `a`, `b`, and a SEQUENCE of the bindings
 pub record SpellsPdu (form : Form) (message : Message) (octets : List ℕ) : Type 0 where
   pub id : List ℕ
   pub a : List ℕ
@@ -49,7 +49,7 @@ pub record SpellsPdu (form : Form) (message : Message) (octets : List ℕ) : Typ
   pub is_list : IsElement sequence_tag bindings list
   pub element : IsElement (kind_tag message.kind) (id ++ a ++ b ++ list) octets
 
--- the octets encode the message: a SEQUENCE of version, community and PDU
+-- `octets` encode `message`: a SEQUENCE of version, community and PDU
 pub record SpellsMessage (form : Form) (message : Message) (octets : List ℕ) : Type 0 where
   pub version : List ℕ
   pub community : List ℕ
@@ -60,11 +60,11 @@ pub record SpellsMessage (form : Form) (message : Message) (octets : List ℕ) :
   pub element : IsElement sequence_tag (version ++ community ++ pdu) octets
   pub are_octets : AreOctets octets
 
--- the octets encode the message, in a form that is read
+-- `octets` encode `message` in the forms that are accepted
 abbrev pub Spells : Message → List ℕ → Type 0
 Spells message octets = SpellsMessage lenient message octets
 
--- the octets are a strict encoding of the message: its unsigned numbers too are in two's complement
+-- `octets` are a strict encoding of `message`: its unsigned numbers too are in two's complement
 -- (X.690, 8.3.3), minimal or not
 abbrev pub Strict : Message → List ℕ → Type 0
 Strict message octets = SpellsMessage strict message octets

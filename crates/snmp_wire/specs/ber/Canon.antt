@@ -1,5 +1,5 @@
--- The shortest encoding of values: each length in the shortest form, each whole number and each
--- subidentifier in the fewest octets (X.690, 8.1.3, 8.3 and 8.19; RFC 3417, section 8).
+-- The shortest encoding of values: each length is in the shortest form, and each whole number and
+-- each subidentifier takes the fewest octets (X.690, 8.1.3, 8.3 and 8.19; RFC 3417, section 8).
 use Rattle.std.specs.Prelude.{ℕ, ℤ, pos, negsuc, ◌+◌, ◌-◌, ◌*◌, ◌/◌, ◌%◌, ◌^◌, ◌<◌, ◌≤◌, suc, zero}
 use Rattle.std.specs.Prelude.{List, [], ◌∷◌, ◌++◌, length, get_or, map, nat_lt, if◌then◌else◌}
 use Rattle.std.specs.List.{flat_map}
@@ -8,23 +8,23 @@ use Rattle.snmp_wire.specs.{ber.Identifier.subidentifiers, ber.Spelling.value_ta
 use Rattle.snmp_wire.specs.ber.Value.{Datum, integer_value, octet_string, object_id, ip_address}
 use Rattle.snmp_wire.specs.ber.Value.{counter32, gauge32, time_ticks, opaque_octets, counter64}
 
--- how many digits a number has to a base: one below the limit, and one more for each further power
--- of the base, up to `more` more
+-- the number of digits of `n` to the base `base`: one if `n` is below `limit`, and one more for
+-- each further power of the base, at most `more` more
 abbrev pub digit_count : ℕ → ℕ → ℕ → ℕ → ℕ
 digit_count base limit zero n = 1
 digit_count base limit (suc more) n =
     if nat_lt n limit then 1 else 1 + digit_count base (limit * base) more n
 
--- the number's lowest digits to a base, `count` of them, the most significant first
+-- the lowest `count` digits of `n` to the base `base`, with the most significant first
 unfoldable pub digits : ℕ → ℕ → ℕ → List ℕ
 digits base zero n = []
 digits base (suc count) n = (n / base ^ count % base) ∷ digits base count n
 
--- the number's lowest octets, `count` of them, as `digits` has them
+-- the lowest `count` octets of `n`, with the most significant first
 abbrev pub octets : ℕ → ℕ → List ℕ
 octets count n = digits 256 count n
 
--- how many octets two's complement takes for a number from 0, the first bit being the sign
+-- the number of octets that `n` takes in two's complement, where the first bit is the sign
 unfoldable pub number_size : ℕ → ℕ
 number_size n = digit_count 256 128 8 n
 
@@ -33,7 +33,7 @@ unfoldable pub canon_number : ℤ → List ℕ
 canon_number (pos n) = octets (number_size n) n
 canon_number (negsuc n) = octets (number_size n) (256 ^ number_size n - (n + 1))
 
--- how many octets a length takes in the long form, after the first
+-- the number of octets that a length takes in the long form, after the first octet
 unfoldable pub length_size : ℕ → ℕ
 length_size n = digit_count 256 256 3 n
 
@@ -41,12 +41,12 @@ length_size n = digit_count 256 256 3 n
 unfoldable pub canon_length : ℕ → List ℕ
 canon_length n = if nat_lt n 128 then n ∷ [] else (128 + length_size n) ∷ octets (length_size n) n
 
--- how many octets a subidentifier takes, of seven bits each
+-- the number of octets that a subidentifier takes, of seven bits each
 unfoldable pub subidentifier_size : ℕ → ℕ
 subidentifier_size n = digit_count 128 128 4 n
 
--- the number's lowest digits to the base 128, `count` of them, each with the bit that says that the
--- subidentifier goes on
+-- the lowest `count` digits of `n` to the base 128, each with the bit that says that more digits
+-- follow
 unfoldable pub septets : ℕ → ℕ → List ℕ
 septets count n = map (λ digit. 128 + digit) (digits 128 count n)
 
@@ -62,7 +62,7 @@ canon_header tag size = tag ∷ canon_length size
 unfoldable pub canon_element : ℕ → List ℕ → List ℕ
 canon_element tag content = canon_header tag (length content) ++ content
 
--- the content of a value; Null and the exceptions have none (X.690, 8.8)
+-- the content of a value; NULL and the exceptions have none (X.690, 8.8)
 unfoldable pub canon_content : Datum → List ℕ
 canon_content (integer_value z) = canon_number z
 canon_content (octet_string text) = text
@@ -78,8 +78,8 @@ canon_content value = []
 unfoldable pub canon_value : Datum → List ℕ
 canon_value value = canon_element (value_tag value) (canon_content value)
 
--- the value can be written: an identifier that has an encoding, a string of at most 65535 octets,
--- or any value of another type
+-- the value can be written: it is an identifier that has an encoding, a string of at most 65535
+-- octets, or any value of another type
 abbrev pub IsEncodableValue : Datum → Type 0
 IsEncodableValue (octet_string text) = length text ≤ 65535
 IsEncodableValue (object_id name) = IsWire name
@@ -88,13 +88,13 @@ IsEncodableValue value = Unit {0}
 
 -- ---- for private functions
 
--- a whole number, or for one below zero its complement: two's complement takes as many octets for
--- either
+-- the number, or its complement if it is below zero: both take the same number of octets in two's
+-- complement
 abbrev pub magnitude_of : ℤ → ℕ
 magnitude_of (pos n) = n
 magnitude_of (negsuc n) = n
 
--- The eight numbers from a place on have one octet each.
+-- the eight numbers from `from` on take one octet each
 pub record AreShort (numbers : List ℕ) (from : ℕ) : Type 0 where
   pub first : get_or numbers from 0 < 128
   pub second : get_or numbers (from + 1) 0 < 128
@@ -105,7 +105,7 @@ pub record AreShort (numbers : List ℕ) (from : ℕ) : Type 0 where
   pub seventh : get_or numbers (from + 6) 0 < 128
   pub eighth : get_or numbers (from + 7) 0 < 128
 
--- The eight numbers from a place on.
+-- the eight numbers from `from` on
 abbrev pub eight_from : List ℕ → ℕ → List ℕ
 eight_from numbers from =
     get_or numbers from 0 ∷ get_or numbers (from + 1) 0

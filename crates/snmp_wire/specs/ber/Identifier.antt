@@ -4,8 +4,8 @@ use Rattle.std.specs.Prelude.{slice_index, All}
 use Rattle.snmp_oid.specs.Identifier.{IsIdentifier, IsWire}
 use Rattle.snmp_wire.specs.ber.Number.{number_of}
 
--- the octets are the subidentifier n (8.19.2): its digits to the base 128, the high bit set on each
--- but the last, and no zero in front
+-- `octets` encode the subidentifier `n` (8.19.2): they are its digits to the base 128, with the
+-- high bit set on each but the last, and without a leading zero
 pub record IsSubidentifier (octets : List ℕ) (n : ℕ) : Type 0 where
   pub front : List ℕ
   pub last : ℕ
@@ -15,21 +15,22 @@ pub record IsSubidentifier (octets : List ℕ) (n : ℕ) : Type 0 where
   pub minimal : slice_index octets 0 ≢ 128
   pub value : number_of 128 (map (λ octet. octet % 128) octets) ≡ n
 
--- the octets are these subidentifiers in turn
+-- `octets` encode the subidentifiers in turn
 abbrev pub AreSubidentifiers : List ℕ → List ℕ → Type 0
 AreSubidentifiers octets [] = octets ≡ []
 AreSubidentifiers octets (n ∷ more) =
     (first : List ℕ) × (rest : List ℕ) × (octets ≡ first ++ rest)
     × IsSubidentifier first n × AreSubidentifiers rest more
 
--- the subidentifiers of an identifier (8.19.4): one for its first two numbers, and one for each
--- other
+-- the subidentifiers of an identifier (8.19.4): one for its first two numbers together, and one
+-- for each of the others
 abbrev pub subidentifiers : List ℕ → List ℕ
 subidentifiers [] = []
 subidentifiers (x ∷ []) = []
 subidentifiers (x ∷ y ∷ more) = (40 * x + y) ∷ more
 
--- the content is the identifier, which has an encoding and is of at most 128 numbers of 32 bits
+-- `content` encodes the identifier `name`, which has an encoding and at most 128 numbers of 32
+-- bits
 pub record IsObjectId (content name : List ℕ) : Type 0 where
   pub wire : IsWire name
   pub identifier : IsIdentifier name

@@ -1,5 +1,5 @@
--- Lengths and elements (X.690, 8.1). RFC 3417, section 8 allows definite lengths alone; of those,
--- this profile reads up to four octets of a length.
+-- Lengths and elements (X.690, 8.1). RFC 3417, section 8 allows only definite lengths; of those,
+-- the ones with up to four octets are accepted here.
 use Rattle.std.specs.Prelude.{◌≡◌, ℕ, ◌+◌, ◌<◌, ◌≤◌, ◌⊎◌, List, [], ◌∷◌, ◌++◌, length}
 use Rattle.snmp_wire.specs.ber.Number.{unsigned}
 
@@ -8,8 +8,8 @@ pub record IsShortLength (octets : List ℕ) (n : ℕ) : Type 0 where
   pub small : n < 128
   pub one : octets ≡ n ∷ []
 
--- the long form (X.690, 8.1.3.5): the octets of the length, also where fewer would do, after 128
--- plus their number, which is 1 to 4
+-- the long form (X.690, 8.1.3.5): 128 plus the number of octets of the length, which is 1 to 4,
+-- and then these octets, even if fewer would do
 pub record IsLongLength (octets : List ℕ) (n : ℕ) : Type 0 where
   pub digits : List ℕ
   pub some : 1 ≤ length digits
@@ -17,11 +17,11 @@ pub record IsLongLength (octets : List ℕ) (n : ℕ) : Type 0 where
   pub value : unsigned digits ≡ n
   pub parts : octets ≡ (128 + length digits) ∷ digits
 
--- the octets are a form of the length n
+-- `octets` are a form of the length `n`
 abbrev pub IsLength : List ℕ → ℕ → Type 0
 IsLength octets n = IsShortLength octets n ⊎ IsLongLength octets n
 
--- the octets are an element (X.690, 8.1.1): a tag, the length of the content in some form, and the
+-- `octets` are an element (X.690, 8.1.1): a tag, the length of the content in some form, and the
 -- content
 pub record IsElement (tag : ℕ) (content octets : List ℕ) : Type 0 where
   pub length_octets : List ℕ

@@ -2,46 +2,47 @@
 use Rattle.std.specs.Prelude.{◌≡◌, ℕ, ℤ, pos, ◌-ℤ◌, ◌+◌, ◌*◌, ◌^◌, ◌<◌, ◌≤◌, ◌⊎◌, List, [], ◌∷◌}
 use Rattle.std.specs.Prelude.{length, slice_index, nat_lt, if◌then◌else◌, All}
 
--- each number is an octet
+-- each of the numbers is an octet
 abbrev pub AreOctets : List ℕ → Type 0
 AreOctets octets = All (λ octet. octet < 256) octets
 
--- the number with these digits to a base, the most significant first
+-- the number with these digits to the base `base`, the most significant first
 abbrev pub number_of : ℕ → List ℕ → ℕ
 number_of base [] = 0
 number_of base (digit ∷ rest) = digit * base ^ length rest + number_of base rest
 
--- octets as an unsigned number
+-- the octets as an unsigned number
 abbrev pub unsigned : List ℕ → ℕ
 unsigned octets = number_of 256 octets
 
--- octets as a two's complement number (X.690, 8.3.3): the unsigned number, less 256 ^ length where
--- the high bit of the first octet is set
+-- the octets as a number in two's complement (X.690, 8.3.3): the unsigned number, less 256 ^
+-- length if the high bit of the first octet is set
 abbrev pub twos_complement : List ℕ → ℤ
 twos_complement octets =
     if nat_lt (slice_index octets 0) 128
     then pos (unsigned octets)
     else pos (unsigned octets) -ℤ pos (256 ^ length octets)
 
--- the content of an INTEGER of 32 bits: 1 to 4 octets in two's complement, minimal or not
+-- `content` encodes the INTEGER `z` of 32 bits: it is 1 to 4 octets in two's complement, minimal
+-- or not
 pub record IsInteger (content : List ℕ) (z : ℤ) : Type 0 where
   pub some : 1 ≤ length content
   pub few : length content ≤ 4
   pub value : twos_complement content ≡ z
 
--- which contents an unsigned number may have: all that are read, or of those the ones in two's
--- complement (X.690, 8.3.3), minimal or not
+-- the contents that an unsigned number may have: all that are accepted (`lenient`), or only those
+-- in two's complement (X.690, 8.3.3), minimal or not (`strict`)
 pub data Form : Type 0 where
   lenient : Form
   strict : Form
 
--- In two's complement the high bit of an unsigned number is clear.
+-- the form allows `content`: in two's complement the high bit of an unsigned number is clear
 abbrev pub Admits : Form → List ℕ → Type 0
 Admits lenient content = Unit {0}
 Admits strict content = slice_index content 0 < 128
 
--- the content of an unsigned number of at most `width` octets: 1 to `width` octets, or one more
--- where the first is zero
+-- `content` encodes the unsigned number `n` of at most `width` octets: it has 1 to `width` octets,
+-- or one more of which the first is zero
 pub record IsUnsigned (form : Form) (width : ℕ) (content : List ℕ) (n : ℕ) : Type 0 where
   pub some : 1 ≤ length content
   pub few : (length content ≤ width) ⊎ ((length content ≡ width + 1) × (slice_index content 0 ≡ 0))

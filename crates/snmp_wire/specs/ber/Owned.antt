@@ -5,7 +5,7 @@ use Rattle.snmp_wire.specs.ber.Value.{Datum, integer_value, octet_string, null_v
 use Rattle.snmp_wire.specs.ber.Value.{ip_address, counter32, gauge32, time_ticks, opaque_octets}
 use Rattle.snmp_wire.specs.ber.Value.{counter64, no_such_object, no_such_instance, end_of_mib_view}
 
--- the value that an owned one stands for
+-- the value that an owned one represents
 abbrev pub owned : Value → Datum
 owned (value.Integer n) = integer_value n
 owned (value.Octets octets) = octet_string octets
@@ -21,7 +21,7 @@ owned value.NoSuchObject = no_such_object
 owned value.NoSuchInstance = no_such_instance
 owned value.EndOfMibView = end_of_mib_view
 
--- the value is no string, so its copy takes no memory
+-- the value isn't a string, so copying it doesn't allocate
 abbrev pub HasNoString : Datum → Type 0
 HasNoString (octet_string text) = ⊥
 HasNoString (opaque_octets text) = ⊥

@@ -1,5 +1,5 @@
--- What has an encoding by the standard: numbers of their types' ranges, octets, and identifiers
--- with a form on the wire (RFC 2578, section 7.1).
+-- Which values have an encoding by the standard: numbers within the ranges of their types, strings
+-- of octets, and identifiers with an encoding (RFC 2578, section 7.1).
 use Rattle.std.specs.Prelude.{◌≡◌, ◌^◌, ◌<◌, ◌≤◌, length, FitsSigned}
 use Rattle.std.specs.Int.{w32}
 use Rattle.snmp_oid.specs.Identifier.{IsIdentifier, IsWire}
@@ -20,7 +20,7 @@ IsInRange (opaque_octets text) = AreOctets text × (length text ≤ 65535)
 IsInRange (counter64 n) = n < 2 ^ 64
 IsInRange value = Unit {0}
 
--- the value is within the range of its type, and a string is of octets, however many
+-- the value is within the range of its type; a string may have any number of octets
 abbrev pub IsOfType : Datum → Type 0
 IsOfType (octet_string text) = AreOctets text
 IsOfType (opaque_octets text) = AreOctets text

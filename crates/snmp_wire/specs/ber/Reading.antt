@@ -1,6 +1,6 @@
--- Lengths, numbers, identifiers and values read from the front, with the first fault that is met:
--- what the readers are proved to compute, those too that messages are read by. What octets encode
--- is said in Spelling.antt; that both agree is proved (`value_gives` and `value_again`).
+-- Decoding of lengths, numbers, identifiers and values from their start, with the first fault that
+-- is found: what the functions of `src/ber` are proved to compute. Spelling.antt says what octets
+-- encode; that both agree is proved (`value_gives` and `value_again`).
 use Rattle.std.specs.Prelude.{◌≡◌, ℕ, zero, suc, ℤ, ◌+◌, ◌-◌, ◌*◌, ◌/◌, ◌%◌, ◌^◌, ◌<◌, ◌++◌, All}
 use Rattle.std.specs.Prelude.{Bool, true, false, ◌&&◌, ◌||◌, ◌==◌, nat_lt, nat_le, if◌then◌else◌}
 use Rattle.std.specs.Prelude.{List, [], ◌∷◌, length, take, drop, Result, Ok, Err}
@@ -17,12 +17,12 @@ abbrev pub ◌>>=◌ : {A B : Type 0} → Result A BerError → (A → Result B 
 (Ok x) >>= f = f x
 (Err e) >>= f = Err e
 
--- the fault of a reading, or another where it has none
+-- the fault of a decoding, or `e` if it has none
 abbrev pub fault_or : {A : Type 0} → Result A BerError → BerError → BerError
 fault_or (Ok x) e = e
 fault_or (Err d) e = d
 
--- ---- lengths and elements; `cut` is the fault where the octets end too early
+-- ---- lengths and elements; `cut` is the fault if the octets end too early
 
 unfoldable pub long_length_at : BerError → ℕ → List ℕ → Result (ℕ × List ℕ) BerError
 long_length_at cut first rest =
@@ -37,18 +37,18 @@ length_at cut [] = Err cut
 length_at cut (first ∷ rest) =
     if nat_lt first 128 then Ok (first, rest) else long_length_at cut first rest
 
--- the content after a tag, and what follows
+-- the content of an element and the octets after it, from the octets that follow the tag
 unfoldable pub content_at : BerError → List ℕ → Result (List ℕ × List ℕ) BerError
 content_at cut octets = do
   n ← length_at cut octets
   if nat_lt (length n.1) n.0 then Err cut else Ok (take n.0 n.1, drop n.0 n.1)
 
--- the content of an inner element of this tag, and what follows
+-- the content of an inner element with this tag, and the octets after it
 unfoldable pub inner_at : ℕ → List ℕ → Result (List ℕ × List ℕ) BerError
 inner_at tag [] = Err error.Length
 inner_at tag (found ∷ rest) = if found == tag then content_at error.Length rest else Err error.Tag
 
--- the tag and the content of an inner element, and what follows
+-- the tag and the content of an inner element, and the octets after it
 unfoldable pub element_at : List ℕ → Result (ℕ × List ℕ × List ℕ) BerError
 element_at [] = Err error.Length
 element_at (tag ∷ rest) = do
@@ -74,11 +74,11 @@ unsigned_of width content =
 
 -- ---- identifiers
 
--- the largest subidentifier: 80 and the largest number
+-- the largest subidentifier: 80 plus the largest number
 abbrev pub largest_subidentifier : ℕ
 largest_subidentifier = 4294967375
 
--- the octets that are left of a subidentifier, where those before them make n
+-- the rest of a subidentifier, whose octets so far make `n`, and the octets after it
 unfoldable pub subidentifier_from : ℕ → List ℕ → Result (ℕ × List ℕ) BerError
 subidentifier_from n [] = Err error.Content
 subidentifier_from n (octet ∷ rest) =
@@ -97,7 +97,7 @@ number_at octets = do
   n ← subidentifier_at octets
   if nat_lt n.0 (2 ^ 32) then Ok n else Err error.Content
 
--- all numbers that the octets are, at most `room`
+-- the numbers that the octets encode, one after the other, at most `room` of them
 unfoldable pub numbers_of : ℕ → List ℕ → Result (List ℕ) BerError
 numbers_of room [] = Ok []
 numbers_of zero (octet ∷ rest) = Err error.Content
@@ -145,16 +145,16 @@ typed_value tag content =
 
 -- ---- for private functions
 
--- What a function returned, seen by view, is what reading gives.
+-- `result`, seen through `view`, is what `read` says
 abbrev pub AgreesBy : {X Y : Type 0} → (X → Y) → Result X BerError → Result Y BerError → Type 0
 AgreesBy view (Ok x) read = read ≡ Ok (view x)
 AgreesBy view (Err e) read = read ≡ Err e
 
--- whether something was read, and not what
+-- whether something was decoded, without its value
 abbrev pub checked : {A : Type 0} → Result A BerError → Result (Unit {0}) BerError
 checked read = read >>= λ _. Ok tt
 
--- whether content is allowed
+-- `Ok` if the content is allowed, otherwise the fault `Content`
 abbrev pub allowed : Bool → Result (Unit {0}) BerError
 allowed true = Ok tt
 allowed false = Err error.Content
@@ -165,15 +165,15 @@ integer_at octets = do
   z ← integer_of element.0
   Ok (z, element.1)
 
--- the octet that two's complement may have in front of this one
+-- the octet that may precede `octet` in two's complement without changing the number
 abbrev pub sign_of : ℕ → ℕ
 sign_of octet = if nat_lt octet 128 then 0 else 255
 
--- the numbers that the octets are, where they are 126 at most
+-- the numbers that the octets encode, or `[]` if they don't encode at most 126 numbers
 abbrev pub numbers_in : List ℕ → List ℕ
 numbers_in octets = result_unwrap_or (numbers_of 126 octets) []
 
--- The octets begin with `count` numbers that have an octet each.
+-- `octets` begin with `count` numbers of one octet each, and `rest` follows them
 abbrev pub IsPlainFront : ℕ → List ℕ → List ℕ → List ℕ → Type 0
 IsPlainFront count numbers rest octets =
     (octets ≡ numbers ++ rest) × (length numbers ≡ count) × All (λ n. n < 128) numbers

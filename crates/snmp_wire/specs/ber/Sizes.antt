@@ -1,17 +1,17 @@
--- How many octets encodings take (X.690, 8.1 and 8.3).
+-- The lengths of encodings (X.690, 8.1 and 8.3).
 use Rattle.std.specs.Prelude.{◌≡◌, ℕ, ℤ, pos, ◌+◌, ◌<◌, ◌≤◌, List, length, FitsSigned}
 use Rattle.std.specs.Int.{w32}
 use Rattle.snmp_wire.specs.ber.Canon.{canon_element, canon_header, canon_length, canon_number}
 use Rattle.snmp_wire.specs.ber.Canon.{canon_value, digit_count, length_size, number_size}
 use Rattle.snmp_wire.specs.ber.Value.{integer_value}
 
--- the sizes of lengths, whole numbers and elements
+-- the lengths of the encodings of lengths, whole numbers and elements
 pub record ElementSizes : Type 0 where
   -- the short form of a length
   pub short_length : (n : ℕ) → n < 128 → length (canon_length n) ≡ 1
   -- the long form: an octet, and the digits
   pub long_length : (n : ℕ) → 128 ≤ n → length (canon_length n) ≡ 1 + length_size n
-  -- there is a digit at least
+  -- there is at least one digit
   pub digits : (base limit more n : ℕ) → 1 ≤ digit_count base limit more n
   -- a number from 0
   pub number : (n : ℕ) → length (canon_number (pos n)) ≡ number_size n
@@ -23,8 +23,8 @@ pub record ElementSizes : Type 0 where
   pub element : (tag : ℕ) (content : List ℕ)
       → length (canon_element tag content)
       ≡ 1 + length (canon_length (length content)) + length content
-  -- a greater number has no fewer digits
+  -- a greater number doesn't have fewer digits
   pub digits_rise : (base limit more m n : ℕ)
       → m ≤ n → digit_count base limit more m ≤ digit_count base limit more n
-  -- a greater length takes no fewer octets
+  -- a greater length doesn't take fewer octets
   pub lengths_rise : (m n : ℕ) → m ≤ n → length (canon_length m) ≤ length (canon_length n)

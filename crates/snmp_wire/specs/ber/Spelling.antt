@@ -22,7 +22,7 @@ value_tag no_such_object = 0x80
 value_tag no_such_instance = 0x81
 value_tag end_of_mib_view = 0x82
 
--- the content is a form of the value; Null and the exceptions have none (X.690, 8.8)
+-- `content` encodes the value in this form; NULL and the exceptions have no content (X.690, 8.8)
 abbrev pub IsContent : Form → Datum → List ℕ → Type 0
 IsContent form (integer_value z) content = IsInteger content z
 IsContent form (octet_string text) content = content ≡ text
@@ -35,7 +35,7 @@ IsContent form (opaque_octets text) content = content ≡ text
 IsContent form (counter64 n) content = IsUnsigned form 8 content n
 IsContent form value content = content ≡ []
 
--- the octets encode the value: an element of its tag
+-- `octets` encode the value: they are an element with its tag
 pub record SpellsValue (form : Form) (value : Datum) (octets : List ℕ) : Type 0 where
   pub content : List ℕ
   pub is_content : IsContent form value content

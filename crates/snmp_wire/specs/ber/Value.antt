@@ -1,9 +1,10 @@
--- Values as the standard has them (RFC 3416, section 3), without where they lie in memory.
+-- Values as the standard defines them (RFC 3416, section 3), regardless of where their octets are
+-- in memory.
 use Rattle.std.specs.Prelude.{ℕ, ℤ, List}
 use Rattle.snmp_wire.specs.declared.ber.value.ValueRef.{ValueRef}
 use Rattle.snmp_wire.specs.declared.ber.value.ValueRef.TheVariants as value
 
--- what a binding gives its name: a value, or an exception in place of one
+-- the value of a binding, or an exception in place of one
 pub data Datum : Type 0 where
   integer_value : ℤ → Datum
   octet_string : List ℕ → Datum
@@ -19,7 +20,7 @@ pub data Datum : Type 0 where
   no_such_instance : Datum
   end_of_mib_view : Datum
 
--- the value that a borrowed one stands for, wherever its octets lie
+-- the value that a borrowed one represents, wherever its octets are
 abbrev pub datum : ValueRef → Datum
 datum (value.Integer n) = integer_value n
 datum (value.Octets octets) = octet_string octets.now
