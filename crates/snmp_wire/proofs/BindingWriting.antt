@@ -1,4 +1,4 @@
--- Bindings: how long they are, and how they are written.
+-- The lengths of bindings, and how they are written.
 use Rattle.std.proofs.{lemmas.Grind.common_steps, lemmas.List.at_drop_all, lemmas.List.map-append, lemmas.List.take_more}
 use Rattle.std.proofs.Common.{◌≡◌, ℕ, ◌+◌, ◌-◌, ◌<◌, ◌≤◌, List, [], ◌∷◌, ◌++◌, length, get_or, take, drop, refl, sym, ap, ◌∙◌, arith, length-append}
 use Rattle.std.specs.List.{flat_map, AllByRecursion}
@@ -13,7 +13,7 @@ pub sizes_binding : (header name value : ℕ) (binding : VarBind) → name ≡ l
 unfolding canon_binding
 sizes_binding header name value binding n v h = grind (arith, common_steps, length-append, element_size)
 
--- three headers of two octets each
+-- a short binding has three headers of two octets each
 pub sizes_short : (name value : ℕ) (binding : VarBind) → name ≡ length (canon_content (object_id binding.name)) → value ≡ length (canon_content binding.value)
     → name + value < 124 → name + value + 6 ≡ length (canon_binding binding)
 sizes_short name value binding n v short =
@@ -58,11 +58,11 @@ pub writes_binding : {old mid out new : List ℕ} {start name middle end : ℕ} 
 unfolding canon_binding
 writes_binding binding w v u = writes_element sequence_tag (writes_then w v) u
 
--- a text that fills the front of a slice
+-- after `text` is written to the start of a slice, the slice is `text` and then what it was
 pub encoded : {old new text : List ℕ} {start size : ℕ} → Writes old start size text new → size ≡ length text → new ≡ text ++ drop size old
 encoded {old} {new} {text} {start} {size} w e = grind (arith, common_steps)
 
--- bindings one after the other
+-- the encoding of a binding
 abbrev pub binding_octets : Binding → List ℕ
 binding_octets binding = canon_binding (var_bind binding)
 
@@ -75,7 +75,8 @@ ranges_push : (ps : List VarBind) (p : VarBind) → AllByRecursion IsBindingInRa
 ranges_push [] p are here = (here, tt)
 ranges_push (q ∷ ps) p are here = (are.0, ranges_push ps p are.1 here)
 
--- the bindings before a place are in range, and so is the one there
+-- if the bindings before index `i` and the one at `i` are in range, so are the bindings before `i
+-- + 1`
 pub ranges_more : (bindings : List Binding) (i : ℕ) (binding : Binding) → i < length bindings → binding ≡ get_or bindings i binding
     → IsBindingInRange (var_bind binding)
     → AllByRecursion IsBindingInRange (var_binds (take i bindings)) → AllByRecursion IsBindingInRange (var_binds (take (i + 1) bindings))
@@ -83,12 +84,12 @@ ranges_more bindings i binding low is here before = rw (take_more bindings i bin
 
 pub ruleset binding_sizes = (common_steps, bindings_are, binding_octets, length-flat_map_drop, at_drop_all, ranges_more)
 
--- NULL has no content
+-- the encoding of NULL, which has no content
 pub null_octets : canon_value null_value ≡ 5 ∷ 0 ∷ []
 unfolding canon_value canon_element canon_header canon_length canon_content
 null_octets = refl
 
--- how long a binding is whose value is NULL
+-- the length of a binding whose value is NULL
 pub sizes_null : (header name_header name : ℕ) (o : List ℕ) → name ≡ length (canon_content (object_id o)) → name_header ≡ 1 + length (canon_length name)
     → header ≡ 1 + length (canon_length (name_header + name + 2))
     → header + (name_header + name + 2) ≡ length (canon_binding (record { name = o; value = null_value }))

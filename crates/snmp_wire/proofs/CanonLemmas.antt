@@ -1,5 +1,5 @@
--- Numbers as octets: how many a number takes, by its digits and by its highest bit, and how long
--- an encoding is.
+-- Numbers as octets: how many octets a number takes, by its digits and by its highest bit, and the
+-- lengths of encodings.
 use Rattle.std.proofs.{lemmas.Grind.common_steps, lemmas.Bool.Decides.nat_tests, lemmas.Bool.cases_lt, lemmas.Bool.le-ltb, lemmas.Bool.lt-ltb}
 use Rattle.std.proofs.Common.{true, false, ◌≡◌, ℕ, ◌+◌, ◌-◌, ◌*◌, ◌^◌, ◌<◌, ◌≤◌, ℤ, pos, negsuc, lit<, suc, zero, ◌∷◌, length, refl, sym, ap, ◌∙◌}
 use Rattle.std.proofs.Common.{sub-one, pow-add, ⊎_elim, arith, ◌/◌, ◌%◌, List, []}
@@ -22,20 +22,21 @@ count_taken base limit more n h = rw (lt-ltb n limit h) refl
 pub count_left : (base limit more n : ℕ) → limit ≤ n → digit_count base limit (suc more) n ≡ 1 + digit_count base (limit * base) more n
 count_left base limit more n h = rw (le-ltb n limit h) refl
 
--- a number has a digit at least
+-- a number has at least one digit
 pub digit_some : (base limit more n : ℕ) → 1 ≤ digit_count base limit more n
 digit_some base limit zero n = omega arith
 digit_some base limit (suc more) n = grind (arith, common_steps, ⊎_elim, count_taken, count_left, cases_lt)
 
--- and at most so many
+-- a number has at most `1 + more` digits
 pub digit_most : (base limit more n : ℕ) → digit_count base limit more n ≤ 1 + more
 digit_most base limit zero n = omega arith
 digit_most base limit (suc more) n = grind (arith, common_steps, digit_most base (limit * base) more n, ⊎_elim, count_taken, count_left, cases_lt)
 
--- a greater number has no fewer
+-- a greater number doesn't have fewer digits
 pub count_rises : (base limit more m n : ℕ) → m ≤ n → digit_count base limit more m ≤ digit_count base limit more n
 count_rises base limit zero m n h = omega arith
-count_rises base limit (suc more) m n h = grind (arith, common_steps, count_rises base (limit * base) more m n h, ⊎_elim, count_taken, digit_some, count_left, cases_lt)
+count_rises base limit (suc more) m n h =
+    grind (arith, common_steps, count_rises base (limit * base) more m n h, ⊎_elim, count_taken, digit_some, count_left, cases_lt)
 
 times_power : (limit base k : ℕ) → limit * base ^ suc k ≡ limit * base * base ^ k
 times_power limit base k = omega (arith, ap (λ p. limit * p) (pow-suc base k))
@@ -43,7 +44,7 @@ times_power limit base k = omega (arith, ap (λ p. limit * p) (pow-suc base k))
 times_one : (limit base : ℕ) → limit * base ^ 0 ≡ limit
 times_one limit base = omega (arith, ap (λ p. limit * p) (pow-zero base))
 
--- a number of so many digits, one less of them given, is below the power of that
+-- a number with `less + 1` digits is below `limit * base ^ less`
 pub record Sized (base limit more n : ℕ) : Type 0 where
   pub less : ℕ
   pub size : digit_count base limit more n ≡ suc less
@@ -60,7 +61,7 @@ sized base limit (suc more) n h = ⊎_elim
     })
     (cases_lt n limit)
 
--- a number below a power has no more digits
+-- a number below `limit * base ^ most` has at most `1 + most` digits
 pub digits_small : (base limit more n most : ℕ) → n < limit * base ^ most → digit_count base limit more n ≤ 1 + most
 digits_small base limit zero n most h = omega arith
 digits_small base limit (suc more) n zero h = grind (arith, common_steps, ⊎_elim, count_taken, times_one, cases_lt)
@@ -70,11 +71,11 @@ digits_small base limit (suc more) n (suc most) h = ⊎_elim
     omega (arith, count_left base limit more n above, fewer))
     (cases_lt n limit)
 
--- each digit is needed
+-- a number with `k + 2` digits is at least `limit * base ^ k`
 pub digits_needed : (base limit more n k : ℕ) → digit_count base limit more n ≡ suc (suc k) → limit * base ^ k ≤ n
 digits_needed base limit more n k e = grind (arith, common_steps, ⊎_elim, digits_small, cases_lt)
 
--- two's complement of so many octets holds the number
+-- two's complement of `number_size n` octets can hold `n`
 pub number_fits : (n : ℕ) → n < 2 ^ 64 → 2 * n < 256 ^ number_size n
 unfolding number_size
 number_fits n h = grind (arith, common_steps, sized, pow-suc)
@@ -91,7 +92,7 @@ complement : (n low high : ℕ) → 2 * n < low → low * high ≡ 1844674407370
 complement n low zero fits e = omega arith
 complement n low (suc high) fits e = grind (arith, common_steps, mul-suc, sub-one)
 
--- the lowest octets of a number below zero, of 64 bits, are those of the fewest octets
+-- the lowest octets of a negative number of 64 bits are its shortest encoding
 pub octets_below_zero : (n : ℕ) → n < 2 ^ 31 → octets (number_size n) (18446744073709551615 - n) ≡ canon_number (negsuc n)
 unfolding canon_number
 octets_below_zero n h =
@@ -113,7 +114,7 @@ pub magnitude_small : (z : ℤ) → SFits w32 z → magnitude_of z < 2 ^ 31
 magnitude_small (pos n) fits = omega (arith, fits)
 magnitude_small (negsuc n) fits = omega (arith, fits)
 
--- an INTEGER of 32 bits has four octets at most
+-- an INTEGER of 32 bits has at most four octets
 pub number_few : (z : ℤ) → SFits w32 z → length (canon_number z) ≤ 4
 number_few z fits = omega (arith, length-canon_number z, number_small (magnitude_of z) 3 (omega (arith, magnitude_small z fits)))
 
@@ -151,18 +152,18 @@ pub ruleset header_lengths = (header_short, header_long)
 
 pub ruleset length_forms = (canon_length_short, canon_length_long, length-canon_length_short, length-canon_length_long, length-digits)
 
--- more content has no shorter length
+-- a longer content doesn't have a shorter length
 pub length_rises : (m n : ℕ) → m ≤ n → length (canon_length m) ≤ length (canon_length n)
 unfolding length_size
 length_rises m n h = grind (arith, common_steps, ⊎_elim, length-canon_length_short, length-canon_length_long, cases_lt, count_rises)
 
--- a number below zero, of 64 bits
+-- the lowest octets of a negative number, extended to 64 bits
 pub extended_below : (z : ℤ) (m : ℕ) → SFits w32 z → lt_z z (pos 0) ≡ true → m ≡ magnitude_of z
     → octets (length (canon_number z)) (18446744073709551615 - m) ≡ canon_number z
 extended_below (pos n) m fits below e = absurd (grind (arith, nat_tests))
 extended_below (negsuc n) m fits below e = grind (arith, common_steps, length-canon_number, octets_below_zero)
 
--- a number from zero
+-- the lowest octets of a number from zero, extended to 64 bits
 pub extended_above : (z : ℤ) (m : ℕ) → lt_z z (pos 0) ≡ false → m ≡ magnitude_of z → octets (length (canon_number z)) m ≡ canon_number z
 extended_above (pos n) m above e = ap (λ k. octets k m) (length-canon_number (pos n)) ∙ ap (octets (number_size n)) e ∙ octets_from_zero n
 extended_above (negsuc n) m above e = absurd (cc)
@@ -170,9 +171,9 @@ extended_above (negsuc n) m above e = absurd (cc)
 pub length-from_zero : (n : ℕ) → length (canon_number (pos n)) ≡ number_size n
 length-from_zero n = length-canon_number (pos n)
 
--- ---- how many octets a number takes, by its highest bit, and four octets at once
+-- ---- the octets of a number by its highest bit, and four octets at once
 
--- the least number that wants one octet more, as a power of 2
+-- the least number that takes `m + 2` octets, as a power of 2
 octet_limit : (m : ℕ) → 2 ^ (8 * m + 7) ≡ 128 * 256 ^ m
 octet_limit zero = refl
 octet_limit (suc m) =
@@ -197,7 +198,7 @@ octets_least n k (suc m) fits low all =
     let limit : 2 ^ (8 * m + 7) ≤ 2 ^ k = pow-le-pow_right {n = 2} (lit< tt) (omega (arith, fits)) in
     omega (arith, number_large n m all (omega (arith, limit, octet_limit m, low)))
 
--- by the place of the highest bit
+-- the octets of a number whose highest set bit is bit `k`
 pub size_of_bits : (n k : ℕ) → 2 ^ k ≤ n → n < 2 * 2 ^ k → n < 2 ^ 64 → number_size n ≡ (k + 9) / 8
 size_of_bits n k low high all =
     let m : ℕ = (k + 1) / 8 in
@@ -218,7 +219,7 @@ size_four n low high = size_is n 2 (omega arith) (omega arith) (omega arith)
 pub size_five : (n : ℕ) → 2147483648 ≤ n → n < 2 ^ 32 → number_size n ≡ 5
 size_five n low high = size_is n 3 (omega arith) (omega arith) (omega arith)
 
--- the octets of a number of 32 bits
+-- the four octets of a number of 32 bits
 pub four_octets : (n : ℕ) → to_be_bytes w32 n ≡ octets 4 n
 unfolding digits
 four_octets n = ap (λ m. (n / 256 ^ 3 % 256) ∷ (n / 256 ^ 2 % 256) ∷ (n / 256 ^ 1 % 256) ∷ (m % 256) ∷ []) (sym (div-one n))
@@ -227,7 +228,7 @@ pub writes_four_octets : {old new : List ℕ} {start end : ℕ} (n : ℕ) → 83
     → Writes old start end (canon_number (pos n)) new
 writes_four_octets n low high w = writes_same w (ap (λ k. octets k n) (sym (size_four n low high)) ∙ octets_from_zero n)
 
--- a zero octet stands before a highest bit
+-- the five lowest octets of a number of 32 bits begin with a zero octet
 five_octets : (n : ℕ) → n < 2 ^ 32 → 0 ∷ octets 4 n ≡ octets 5 n
 five_octets n h = let zero_octet : n / 256 ^ 4 % 256 ≡ 0 = omega (arith, h) in sym (digits-suc 256 4 n ∙ ap (λ d. d ∷ octets 4 n) zero_octet)
 
@@ -235,7 +236,7 @@ pub writes_five_octets : {old mid new : List ℕ} {start middle end : ℕ} (n : 
     → Writes mid start middle (0 ∷ []) new → Writes old start end (canon_number (pos n)) new
 writes_five_octets n low high w v = writes_same (writes_then w v) (five_octets n high ∙ ap (λ k. octets k n) (sym (size_five n low high)) ∙ octets_from_zero n)
 
--- one octet, and two
+-- the lowest octet, and the lowest two
 pub one_octet : (n : ℕ) → (n % 256) ∷ [] ≡ octets 1 n
 unfolding digits
 one_octet n = ap (λ m. (m % 256) ∷ []) (sym (div-one n))
@@ -244,7 +245,7 @@ pub two_octets : (n : ℕ) → (n / 256 % 256) ∷ (n % 256) ∷ [] ≡ octets 2
 unfolding digits
 two_octets n = ap (λ m. (n / 256 % 256) ∷ (m % 256) ∷ []) (sym (div-one n))
 
--- a number from 0 to 127 is its octet
+-- a number from 0 to 127 is encoded as one octet, itself
 pub short_number : (z : ℤ) → le_z (pos 0) z ≡ true → lt_z z (pos 128) ≡ true → nat_abs z ∷ [] ≡ canon_number z
 short_number (pos n) low high =
     let below : n < 128 = grind (arith, nat_tests) in

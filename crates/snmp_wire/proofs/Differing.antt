@@ -1,4 +1,5 @@
--- The first octet in which two words of eight differ: where the lowest bit is set in which they differ.
+-- The first octet in which two words of eight octets differ: it contains the lowest bit in which
+-- the words differ.
 use Rattle.std.proofs.{lemmas.Grind.common_steps, Math.ListN.get_or-eq_default, lemmas.Bool.cases_lt, lemmas.Nat.trailing_le, lemmas.Nat.xor_lt}
 use Rattle.std.proofs.Common.{◌≡◌, ℕ, zero, suc, ◌+◌, ◌-◌, ◌*◌, ◌/◌, ◌%◌, ◌^◌, ◌<◌, ◌≤◌, ◌⊎◌, inl, inr, List, [], ◌∷◌, length, get_or, refl, sym, ap}
 use Rattle.std.proofs.Common.{◌∙◌, arith}
@@ -9,7 +10,7 @@ use Rattle.std.proofs.lemmas.Nat.Bits.{same_from_bits_below}
 use Rattle.snmp_wire.specs.ber.Canon.{eight_from}
 use Rattle.snmp_wire.proofs.IdentifierWriting.{eight_then}
 
--- the number of octets, the lowest first
+-- the number of the octets, the lowest first
 word_of : List ℕ → ℕ
 word_of [] = 0
 word_of (octet ∷ rest) = word_of rest * 2 ^ 8 + octet
@@ -34,7 +35,7 @@ some_or_none : (n : ℕ) → (n ≡ 0) ⊎ (0 < n)
 some_or_none zero = inl refl
 some_or_none (suc n) = inr (omega arith)
 
--- below the lowest set bit none is set
+-- no bit below the lowest set bit is set
 bits_below : (n i : ℕ) → n < 2 ^ 64 → i < trailing_zeros w64 n → bit_at n i ≡ 0
 bits_below n i fits low = elim (some_or_none n) [
   | inl none ↦ ap (λ m. bit_at m i) none ∙ bit_at-zero i
@@ -65,7 +66,7 @@ module _ (xs ys : List ℕ) (small : (i : ℕ) → get_or xs i 0 < 256) (other_s
       cc (bits_of xs small (t / 8) (t % 8) within, bits_of ys other_small (t / 8) (t % 8) within) in
       other_bit (word_of xs) (word_of ys) t (ap (λ m. bit_at m t) (sym is) ∙ lowest_set n fits low) bits
 
--- one of the eight octets from a place on
+-- the k-th of the eight octets from `at` on
 at_place : (octets : List ℕ) (at k : ℕ) → at + 8 ≤ length octets → k < 8 → get_or (eight_from octets at) k 0 ≡ get_or octets (at + k) 0
 at_place octets at k fits low = grind (arith, common_steps, get_or_append_left, eight_then, get_or-drop)
 
@@ -76,7 +77,7 @@ eight_word : (octets : List ℕ) (at : ℕ) → from_le_bytes w64 (eight_from oc
 unfolding word_of
 eight_word octets at = omega arith
 
--- what the octets of two words have in common at the front
+-- exactly the first `count` of the eight octets from `at` on are the same in both
 pub record AreAlike (octets others : List ℕ) (at count : ℕ) : Type 0 where
   pub most : count ≤ 8
   pub same : (k : ℕ) → k < count → get_or octets (at + k) 0 ≡ get_or others (at + k) 0

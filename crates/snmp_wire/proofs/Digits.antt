@@ -1,4 +1,5 @@
--- Numbers and their digits.
+-- Numbers and their digits: `number_of` and `digits` are inverse to each other (`digits_value`,
+-- `digits_are`).
 use Rattle.std.proofs.{lemmas.Grind.common_steps, Math.Arith.mod-mul, lemmas.Nat.mul-add-lt, lemmas.List.length_push, lemmas.List.take_more}
 use Rattle.std.proofs.Common.{◌≡◌, ℕ, zero, suc, ◌+◌, ◌*◌, ◌/◌, ◌%◌, ◌^◌, ◌<◌, List, [], ◌∷◌, ◌++◌, length, get_or, take, refl, sym, ap, ◌∙◌, add-one}
 use Rattle.std.proofs.Common.{lit<, arith}
@@ -8,7 +9,7 @@ use Rattle.std.proofs.lemmas.List.Elements.{All-from_recursion, recursion_from_A
 use Rattle.std.specs.List.{AllByRecursion}
 use Rattle.snmp_wire.specs.{ber.Canon.digits, ber.Number.AreOctets, ber.Number.number_of}
 
--- one more digit at the end
+-- the value after one more digit at the end
 pub number_of-push : (base : ℕ) (xs : List ℕ) (digit : ℕ) → number_of base (xs ++ digit ∷ []) ≡ number_of base xs * base + digit
 number_of-push base [] digit = rw pow-zero (omega arith)
 number_of-push base (first ∷ rest) digit = grind (arith, common_steps, number_of-push base rest digit, length_push, add-one, pow-suc)
@@ -22,13 +23,13 @@ number_of-more base xs i lt = ap (number_of base) (take_more xs i 0 lt) ∙ numb
 pub octet_more : (i sum octet : ℕ) → sum < 256 ^ i → octet < 256 → sum * 256 + octet < 256 ^ (i + 1)
 octet_more i sum octet below small = rw (add-one, pow-suc) (omega arith)
 
--- eight octets fit 64 bits
+-- eight octets fit into 64 bits
 pub octet_fits : (i sum : ℕ) → i < 8 → sum < 256 ^ i → sum * 256 + 255 < 2 ^ 64
 octet_fits i sum lt below = omega (arith, pow-le-pow_right {n = 256} (lit< tt) {i = i} {j = 7} (omega arith))
 
 -- ---- the digits of a number
 
--- digits of a base
+-- `xs` are digits to the base `base`
 abbrev pub AreDigits : ℕ → List ℕ → Type 0
 AreDigits base xs = AllByRecursion (λ digit. digit < base) xs
 
@@ -51,7 +52,7 @@ unfolding digits
 are_digits base zero n some = tt
 are_digits base (suc count) n some = (mod-lt (n / base ^ count) some, are_digits base count n some)
 
--- they are those of the number, as far as they go
+-- the number of the lowest `count` digits of `n` is `n % base ^ count`
 pub number_of-digits : (base count n : ℕ) → 0 < base → number_of base (digits base count n) ≡ n % base ^ count
 unfolding digits
 number_of-digits base zero n some = rw pow-zero (sym (mod-one n))
@@ -60,13 +61,14 @@ number_of-digits base (suc count) n some = grind (arith, common_steps, number_of
 pub digits_value : (base count n : ℕ) → 0 < base → n < base ^ count → number_of base (digits base count n) ≡ n
 digits_value base count n some h = number_of-digits base count n some ∙ mod-eq_of_lt h
 
--- higher digits are left out
+-- the lowest digits don't depend on higher ones
 pub digits-add : (base count a b : ℕ) → 0 < base → digits base count (a + base ^ count * b) ≡ digits base count a
 unfolding digits
 digits-add base zero a b some = refl
-digits-add base (suc count) a b some = grind (arith, common_steps, digits-add base count a (base * b) some, pow-suc, mul_assoc, add-mul-div_left, one-le-pow, add-mul-mod_self_left)
+digits-add base (suc count) a b some =
+    grind (arith, common_steps, digits-add base count a (base * b) some, pow-suc, mul_assoc, add-mul-div_left, one-le-pow, add-mul-mod_self_left)
 
--- digits are those of their number
+-- digits are the digits of their number
 pub digits_are : (base : ℕ) (xs : List ℕ) → 0 < base → AreDigits base xs → xs ≡ digits base (length xs) (number_of base xs)
 unfolding digits
 digits_are base [] some h = refl

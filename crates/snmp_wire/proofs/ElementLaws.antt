@@ -1,5 +1,5 @@
--- Lemmas on headers, elements and values as they are written, for proofs of values and messages:
--- how long they are, and how they are written before their content.
+-- The lengths of headers, elements and values, and how they are written before their contents. For
+-- proofs about values and messages.
 use Rattle.std.proofs.{lemmas.Grind.common_steps, lemmas.Bool.lt-ltb}
 use Rattle.std.proofs.Common.{◌≡◌, ℕ, ℤ, ◌+◌, ◌-◌, ◌<◌, ◌≤◌, List, [], ◌∷◌, ◌++◌, length, refl, ap, arith, length-append}
 use Rattle.snmp_wire.specs.ber.Canon.{canon_content, canon_element, canon_header, canon_length, canon_number, canon_value}
@@ -13,11 +13,11 @@ pub canon_length_short : (n : ℕ) → n < 128 → canon_length n ≡ n ∷ []
 unfolding canon_length
 canon_length_short n h = rw (lt-ltb n 128 h) refl
 
--- its header has two
+-- the header with such a length has two octets
 pub header_short : (n : ℕ) → n < 128 → 1 + length (canon_length n) ≡ 2
 header_short n h = ap (λ octets. 1 + length octets) (canon_length_short n h)
 
--- a header is a tag and a length
+-- the length of a header: a tag and a length
 pub length-canon_header : (tag size : ℕ)
     → length (canon_header tag size) ≡ 1 + length (canon_length size)
 unfolding canon_header
@@ -25,31 +25,31 @@ length-canon_header tag size = grind (arith, common_steps)
 
 -- ---- elements
 
--- an element is a tag, a length and its content
+-- the length of an element: a tag, a length and the content
 pub length-canon_element : (tag : ℕ) (content : List ℕ)
     → length (canon_element tag content)
     ≡ 1 + length (canon_length (length content)) + length content
 unfolding canon_element
 length-canon_element tag content = grind (arith, common_steps, length-append, length-canon_header)
 
--- the sizes of a header and a content are together that of the element
+-- the lengths of a header and a content add up to the length of the element
 pub element_size : (tag header size : ℕ) (content : List ℕ)
     → size ≡ length content → header ≡ 1 + length (canon_length size)
     → header + size ≡ length (canon_element tag content)
 element_size tag header size content s h = grind (arith, common_steps, length-canon_element)
 
--- a content has room where its element has
+-- a content has room if its element has
 pub content_fits : (tag end : ℕ) (content : List ℕ)
     → length (canon_element tag content) ≤ end → length content ≤ end
 content_fits tag end content room = omega (arith, length-canon_element tag content)
 
--- and its header has room before it
+-- if an element has room, its header has room before its content
 pub header_fits : {old mid content : List ℕ} {middle end : ℕ} (tag : ℕ)
     → Writes old middle end content mid → length (canon_element tag content) ≤ end
     → length (canon_header tag (end - middle)) ≤ middle
 header_fits {old} {mid} {content} {middle} {end} tag w room = grind (arith, common_steps, length-canon_header, length-canon_element)
 
--- a header is written before its content
+-- a header written before its content makes the element
 pub writes_element : {old mid new content : List ℕ} {start middle end : ℕ} (tag : ℕ)
     → Writes old middle end content mid
     → Writes mid start middle (canon_header tag (end - middle)) new
@@ -71,27 +71,27 @@ pub content_text : (text : List ℕ) → canon_content (octet_string text) ≡ t
 unfolding canon_content
 content_text text = refl
 
--- the sizes of a header and a content are together that of the value
+-- the lengths of a header and a content add up to the length of the value
 pub sizes_value : (header size : ℕ) (value : Datum)
     → size ≡ length (canon_content value) → header ≡ 1 + length (canon_length size)
     → header + size ≡ length (canon_value value)
 unfolding canon_value
 sizes_value header size value s h = grind (arith, common_steps, element_size)
 
--- a content has room where its value has
+-- a content has room if its value has
 pub value_content_fits : (end : ℕ) (value : Datum)
     → length (canon_value value) ≤ end → length (canon_content value) ≤ end
 unfolding canon_value
 value_content_fits end value room = content_fits (value_tag value) end (canon_content value) room
 
--- and its header has room before it
+-- if a value has room, its header has room before its content
 pub value_header_fits : {old mid : List ℕ} {middle end : ℕ} (tag : ℕ) (value : Datum)
     → tag ≡ value_tag value → Writes old middle end (canon_content value) mid
     → length (canon_value value) ≤ end → length (canon_header tag (end - middle)) ≤ middle
 unfolding canon_value
 value_header_fits tag value e w room = header_fits tag w (rw e room)
 
--- a header is written before the content of its value
+-- a header written before the content of a value makes the value
 pub writes_value : {old mid new : List ℕ} {start middle end : ℕ} (tag : ℕ) (value : Datum)
     → tag ≡ value_tag value → Writes old middle end (canon_content value) mid
     → Writes mid start middle (canon_header tag (end - middle)) new

@@ -1,17 +1,17 @@
--- Headers and elements behind contents whose sizes are known.
+-- Headers and elements written before contents of known length.
 use Rattle.std.proofs.Common.{◌≡◌, ℕ, ℤ, ◌-◌, ◌<◌, ◌≤◌, List, [], ◌∷◌, length, sym, ap, subst, arith, append-nil, length-append}
 use Rattle.snmp_wire.specs.ber.Canon.{canon_element, canon_header, canon_length, canon_number}
 use Rattle.snmp_wire.proofs.ElementLaws.{header_fits, writes_element}
 use Rattle.snmp_wire.specs.ber.Writing.{Writes}
 use Rattle.snmp_wire.proofs.{WritingLaws.writes_same, WritingLaws.writes_then, Shortest.length-number}
 
--- a tag before a length
+-- a header is written as a tag before a length
 pub writes_tag : {old mid new : List ℕ} {start middle end : ℕ} (tag size : ℕ) → Writes old middle end (canon_length size) mid
     → Writes mid start middle (tag ∷ []) new → Writes old start end (canon_header tag size) new
 unfolding canon_header
 writes_tag tag size w v = writes_then w v
 
--- a header has room before a content whose size is known
+-- if an element has room, its header has room before its content
 pub sized_header_fits : {old mid content : List ℕ} {middle end : ℕ} (tag size : ℕ) → size ≡ length content → Writes old middle end content mid
     → length (canon_element tag content) ≤ end → length (canon_header tag size) ≤ middle
 sized_header_fits {old} {mid} {content} {middle} {end} tag size e w room =
@@ -24,7 +24,7 @@ writes_sized {old} {mid} {new} {content} {start} {middle} {end} tag size e w v =
     let same : size ≡ end - middle = omega (arith, e, w.begins) in
     writes_element tag w (writes_same v (ap (canon_header tag) same))
 
--- the content of a number is short
+-- the content of a number has fewer than 128 octets
 pub number_short : {old new : List ℕ} {start end : ℕ} (z : ℤ) → Writes old start end (canon_number z) new → end - start < 128
 number_short {old} {new} {start} {end} z w = omega (arith, w.begins, length-number z)
 

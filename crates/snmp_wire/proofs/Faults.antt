@@ -1,5 +1,6 @@
--- What is read as a message is spelt so, and each fault that reading gives is one of the octets.
--- Octets that spell a message have no fault.
+-- What is decoded as a message is encoded by the octets (`message_takes`), and a fault that
+-- decoding finds is a fault of the octets (`message_faults`). Octets that encode a message have no
+-- fault (`no_fault_of`).
 use Rattle.std.proofs.lemmas.List.{nil_from_length, length-append, append-nil}
 use Rattle.std.proofs.{lemmas.Grind.common_steps, lemmas.Bool.eqb-true, lemmas.Bool.eqb-false}
 use Rattle.std.proofs.Common.{◌≡◌, ◌≢◌, ℕ, ℤ, zero, suc, ◌<◌, ◌≤◌, eqb, None, List, [], ◌∷◌, ◌++◌, length, Ok, Err, refl, sym, ap, subst, ◌∙◌, arith}
@@ -24,9 +25,9 @@ use Rattle.snmp_wire.proofs.MessageElements.{elements_of_bindings, of_row, Eleme
 use Rattle.snmp_wire.proofs.{IdentifierReading.identifier_gives, MessageLaws.kind_again}
 use Rattle.snmp_wire.proofs.ValueLaws.{IsRead, integer_gives, known_gives, value_again, value_gives}
 
--- ---- faults at a place
+-- ---- faults at a position
 
--- an inner element that can't be read
+-- an inner element that can't be decoded is a fault
 bad_inner : (octets : List ℕ) (place : Place) (here : List ℕ) (e : BerError) → Expects octets place here → place ≢ at_message
     → IsBadElement error.Length here e → IsFault e octets
 bad_inner octets place here e stands inner (inl cut) = grind (arith, common_steps, stands)
@@ -52,7 +53,7 @@ kind_gives : (tag : ℕ) → Gives (λ found. kind_tag found ≡ tag) (λ e. err
 unfolding kind_of
 kind_gives tag = grind (arith, common_steps, a_fault, gives_either, a_value, eqb-true)
 
--- what is an error isn't a value's content
+-- a content that can't be decoded isn't the content of a value
 not_content : (tag : ℕ) (content : List ℕ) (e : BerError) → typed_value tag content ≡ Err e → (value : Datum) → tag ≡ value_tag value
     → IsContent lenient value content → ⊥
 not_content tag content e h value is is_content = grind (arith, common_steps, done, failed, value_again)
@@ -78,14 +79,14 @@ outermost_reads (tag ∷ rest) =
     (λ some. record { tag = tag; content = x.0; after = x.1; begins = begins; some = some })))
     (λ other. a_fault error.Tag (bad_tag octets at_message tag rest error.Tag starts (λ allowed. eqb-false tag 0x30 other allowed) refl))
 
--- where the parts of a binding stand in its content
+-- the fields of a binding are at their positions in its content
 record StandIn (octets content : List ℕ) (fields : Fields) : Type 0 where
   value_here : List ℕ
   name_begins : BeginsWith 0x06 fields.name content value_here
   value_stands : Expects octets at_value value_here
   value_begins : BeginsWith fields.tag fields.content value_here []
 
--- the content of a binding at the front
+-- the octets begin with the encoding of a binding
 abbrev IsBinding : List ℕ → VarBind × List ℕ → Type 0
 IsBinding here x =
     (content : List ℕ) × BeginsWith 0x30 content here x.1
@@ -96,7 +97,7 @@ message_with version community found id a b bindings =
     record { version = version; community = community; kind = found; id = id; a = a; b = b; bindings = bindings }
 
 module _ (octets : List ℕ) where
-  -- a place of one tag
+  -- an element at a position that allows only one tag
   inner_reads : (place : Place) (tag : ℕ) (here : List ℕ) → Expects octets place here → place ≢ at_message
       → ((found : ℕ) → AllowsTag place found → found ≡ tag) → Gives (λ x. BeginsWith tag x.0 here x.1) (λ e. IsFault e octets) (inner_at tag here)
   inner_reads place tag here stands inner only =
@@ -106,12 +107,12 @@ module _ (octets : List ℕ) where
         | inr t ↦ bad_tag octets place t.1 t.2 e (subst (Expects octets place) t.3 stands) (λ allowed. t.4 (only t.1 allowed)) t.0
       ]) (inner_gives tag here)
 
-  -- a place of several tags
+  -- an element at a position that allows several tags
   element_reads : (place : Place) (here : List ℕ) → Expects octets place here → place ≢ at_message
       → Gives (λ x. BeginsWith x.0 x.1 here x.2) (λ e. IsFault e octets) (element_at here)
   element_reads place here stands inner = gives_so (λ x begins. begins) (λ e bad. bad_inner octets place here e stands inner bad) (element_gives here)
 
-  -- a place of an INTEGER
+  -- an element at the position of an INTEGER
   integer_reads : (place : Place) (here : List ℕ) → Expects octets place here → place ≢ at_message → first_inside place ≡ None
       → ((found : ℕ) → AllowsTag place found → found ≡ 0x02) → AllowsTag place 0x02
       → Gives (λ x. (first : List ℕ) × (here ≡ first ++ x.1) × SpellsValue lenient (integer_value x.0) first) (λ e. IsFault e octets)
@@ -125,7 +126,7 @@ module _ (octets : List ℕ) where
       (failing e (integer_gives x.0) h)))
       (λ z is. a_value _ (begins.element, begins.parts, record { content = x.0; is_content = is; element = begins.is_element })))
 
-  -- what stands behind an INTEGER
+  -- what follows an INTEGER is at the next position
   behind_integer : (before place : Place) (here first rest : List ℕ) (z : ℤ) → Expects octets before here → AllowsTag before 0x02
       → SpellsValue lenient (integer_value z) first → here ≡ first ++ rest → next_behind before ≡ Some place → Calls place rest
       → Expects octets place rest
@@ -269,9 +270,9 @@ module _ (octets : List ℕ) where
   pub message_takes : (message : Message) → AreOctets octets → message_of octets ≡ Ok message → Spells message octets
   message_takes message h e = of_row lenient message octets h (given message message_reads e)
 
--- ---- what stands at a place
+-- ---- the elements at a position
 
--- these elements may stand from a place on, or at none
+-- the elements may be at the position and those after it, or there are none
 abbrev FitsAt : Option Place → Elements → Type 0
 FitsAt None no_elements = Unit {0}
 FitsAt None (value_then value more) = ⊥
@@ -296,7 +297,7 @@ message_fits message =
 abbrev Row : Place → List ℕ → Type 0
 Row place here = (all : Elements) × FitsAt (Some place) all × SpellsAll lenient all here
 
--- the element there, and what stands inside it and behind it
+-- the element at the position, what is inside it, and what follows it
 record Parts (place : Place) (here : List ℕ) : Type 0 where
   tag : ℕ
   content : List ℕ
@@ -340,7 +341,7 @@ parts_of place here calls (element_then tag within more, (allowed, first_place, 
   after = λ next e. (more, subst (λ (at : Option Place). FitsAt at more) e fits, others);
 }
 
--- octets begin with one element only
+-- octets begin with at most one element: its tag, its content, and what follows it
 abbrev Front : Type 0
 Front = ℕ × List ℕ × List ℕ
 
@@ -352,7 +353,7 @@ one_front : {tag other : ℕ} {content contents here rest more : List ℕ} → B
 one_front {tag} {other} {content} {contents} {here} {rest} {more} b c =
     ok_is (tag, content, rest) (other, contents, more) (sym (reads tag content here rest b) ∙ reads other contents here more c)
 
--- what is expected stands there
+-- the element that is expected at a position of a message is there
 
 stands : (octets : List ℕ) (place : Place) (here : List ℕ) → Row at_message octets → Expects octets place here → Parts place here
 stands octets place here all starts = parts_of at_message octets tt all
@@ -365,7 +366,7 @@ stands octets place here all (behind before _ around tag content rest expected a
     let same : p.rest ≡ rest = ap (λ (f : Front). f.2) (one_front p.begins begins) in
     parts_of place here calls (subst (Row place) same (p.after place is_next))
 
--- ---- what stands so has no fault
+-- ---- the octets of a message have no fault
 
 not_early : (tag : ℕ) (content here rest : List ℕ) → BeginsWith tag content here rest → EndsEarly here → ⊥
 not_early tag content here rest b early =
@@ -376,7 +377,8 @@ not_early tag content here rest b early =
     let none : length (rest ++ early.missing) ≡ 0 = ap (λ (f : Front). length f.2) (one_front longer whole) in
     early.some (nil_from_length early.missing (omega (arith, none, length-append rest early.missing)))
 
--- a length begins with an octet below 128, or with 129 to 132 for one to four digits: never with 128, nor with 133 or more
+-- the first octet of a length is below 128, or 129 to 132 for one to four digits: never 128, nor
+-- 133 or more
 not_forbidden : (tag : ℕ) (content here rest : List ℕ) → BeginsWith tag content here rest → HasForbiddenLength here → ⊥
 not_forbidden tag content here rest b f = grind (arith, common_steps)
 

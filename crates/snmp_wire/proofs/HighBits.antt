@@ -1,9 +1,9 @@
--- Four octets tested at once, as the four octets of a word.
+-- Four octets tested at once, as the octets of one word.
 use Rattle.std.proofs.Common.{◌≡◌, ℕ, ◌+◌, ◌*◌, ◌/◌, ◌%◌, ◌<◌, [], ◌∷◌, refl, ap, ◌∙◌, arith}
 use Rattle.std.specs.{Int.w32, Int.bit_at, Int.from_le_bytes, Int.Bits.bit_and}
 use Rattle.std.proofs.lemmas.Nat.Bits.{bit_at_and, bit_at-zero, bit_at-lt}
 
--- the high bit of each octet of a word
+-- the word with the high bit of each of its four octets set
 abbrev high_bits : ℕ
 high_bits = 2155905152
 

@@ -1,11 +1,13 @@
--- Reading identifiers, a subidentifier or a number at a time: what is read as one is one, what is
--- read as none has content at fault, and what is one is read.
+-- Decoding of identifiers, a subidentifier or a number at a time: what is decoded as one is one
+-- (`identifier_takes`), what isn't has a fault in its content, and each is decoded
+-- (`identifier_again`).
 use Rattle.std.proofs.Common.{◌≡◌, ℕ, ◌+◌, ◌*◌, ◌%◌, ◌^◌, ◌<◌, ◌≤◌, cond, eqb, ltb, List, [], ◌∷◌, length, get_or, drop, Result, Ok, Err, IsOk, refl}
 use Rattle.std.proofs.Common.{sym, ◌∙◌, arith, zero, suc, ◌-◌, ◌++◌, take, All, ap, append_assoc, ◌≢◌, map, lit<, ⊎_elim, inl, inr, is_ok, true}
 use Rattle.std.proofs.lemmas.Bool.{ltb-true, lt-ltb, le-ltb, ltb-false, eqb-false, ne_eqb, cases_lt}
 use Rattle.std.proofs.{lemmas.Grind.common_steps, lemmas.Result.err_from_is_err_and, Math.Nat.pow-suc, Math.Nat.one-le-pow, Math.Nat.mul-le-mul_left}
 use Rattle.std.proofs.lemmas.List.Elements.{All-head, All-tail, All-cons, All-nil, All-append, All-from_recursion, recursion_from_All}
-use Rattle.std.proofs.lemmas.List.{get_or_append_left, at_drop_more, at_drop_all, length_push, append-nil, nil_from_length, length-append, length-map, take_rest}
+use Rattle.std.proofs.lemmas.List.{get_or_append_left, at_drop_more, at_drop_all, length_push, append-nil, nil_from_length}
+use Rattle.std.proofs.lemmas.List.{length-append, length-map, take_rest}
 use Rattle.std.specs.{Result.result_unwrap_or, List.AllByRecursion}
 use Rattle.snmp_wire.specs.{declared.ber.error.BerError.BerError, ber.Number.number_of}
 use Rattle.snmp_wire.specs.declared.ber.error.BerError.TheVariants as error
@@ -16,14 +18,14 @@ use Rattle.snmp_wire.proofs.ReadingLaws.{given, gives_either, gives_so, gives_th
 use Rattle.snmp_wire.specs.ber.Identifier.{IsSubidentifier, AreSubidentifiers, IsObjectId}
 use Rattle.snmp_wire.proofs.IdentifierWriting.{subidentifier_some}
 
--- the first step of what is right
+-- if two steps return a value, so does the first
 pub first_ok : {A B : Type 0} (r : Result A BerError) (f : A → Result B BerError) → IsOk (r >>= f) → IsOk r
 first_ok (Ok x) f h = refl
 first_ok (Err d) f h = absurd cc
 
 -- ---- subidentifiers
 
--- what the first octets tell of one that is read
+-- what the first octets of a subidentifier that can be decoded say of it
 pub record ReadsShort (octets : List ℕ) : Type 0 where
   pub some : 0 < length octets
   pub one : get_or octets 0 0 < 128 → subidentifier_at octets ≡ Ok (get_or octets 0 0, drop 1 octets)
@@ -50,7 +52,7 @@ pub number_subidentifier : (octets : List ℕ) → IsOk (number_at octets) → I
 unfolding number_at
 number_subidentifier octets h = first_ok (subidentifier_at octets) (λ n. cond (ltb n.0 (2 ^ 32)) (Ok n) (Err error.Content)) h
 
--- and is that, of 32 bits
+-- if a number can be decoded, it is the subidentifier, and below 2 ^ 32
 pub number_is : (octets : List ℕ) (n : ℕ) (rest : List ℕ) → IsOk (number_at octets) → subidentifier_at octets ≡ Ok (n, rest)
     → (n < 2 ^ 32) × (number_at octets ≡ Ok (n, rest))
 unfolding number_at
@@ -64,7 +66,7 @@ number_is octets n rest h e = elim (cases_lt n (2 ^ 32)) [
 abbrev pub next_of : ℕ → List ℕ → ℕ → ℕ
 next_of n octets i = n * 128 + get_or octets i 0 % 128
 
--- one octet of it
+-- one step of the loop: the octet at `i`
 pub from_step : (n : ℕ) (octets : List ℕ) (i : ℕ) → i < length octets → subidentifier_from n (drop i octets)
     ≡ cond (ltb largest_subidentifier (next_of n octets i)) (Err error.Content)
     (cond (ltb (get_or octets i 0) 128) (Ok (next_of n octets i, drop (i + 1) octets)) (subidentifier_from (next_of n octets i) (drop (i + 1) octets)))
@@ -104,7 +106,7 @@ pub check_goes_on : (room : ℕ) (octets : List ℕ) (n : ℕ) (after : List ℕ
     → checked (numbers_of room octets) ≡ total → checked (numbers_of (room - 1) after) ≡ total
 check_goes_on room octets n after total some has_room h so_far = grind (arith, common_steps, numbers_step, forget)
 
--- what was read before, and what is still read
+-- the numbers decoded so far, and those that are still to be decoded
 abbrev pub with_front : List ℕ → Result (List ℕ) BerError → Result (List ℕ) BerError
 with_front front read = read >>= λ more. Ok (front ++ more)
 
@@ -150,7 +152,7 @@ check_skips (n ∷ ns) rest room plain fits =
     let less : room - length (n ∷ ns) ≡ room - 1 - length ns = omega arith in
     rw less (check_skips ns rest (room - 1) (All-tail is_plain n ns plain) (omega arith) ∙ one)
 
--- and there was room for them
+-- numbers of one octet each are appended, and there was room for them
 push_skips : (front numbers rest whole : List ℕ) → All (λ n. n < 128) numbers
     → with_front front (numbers_of (128 - length front) (numbers ++ rest)) ≡ Ok whole
     → (length numbers ≤ 128 - length front) × (with_front (front ++ numbers) (numbers_of (128 - length (front ++ numbers)) rest) ≡ Ok whole)
@@ -162,7 +164,7 @@ push_skips front (n ∷ ns) rest whole plain so_far =
     let same : (front ++ n ∷ []) ++ ns ≡ front ++ (n ∷ ns) = append_assoc front (n ∷ []) ns in
     (omega (arith, length_push front n, all.0), rw same at all.1)
 
--- four octets without high bits
+-- the four octets from `i` on have no high bit
 abbrev pub AreLow : List ℕ → ℕ → Type 0
 AreLow octets i = (get_or octets i 0 < 128) × (get_or octets (i + 1) 0 < 128) × (get_or octets (i + 2) 0 < 128) × (get_or octets (i + 3) 0 < 128)
 
@@ -176,7 +178,7 @@ four_then (a ∷ b ∷ c ∷ d ∷ rest) long = refl
 pub plain_front : (octets : List ℕ) → 4 ≤ length octets → AreLow octets 0 → IsPlainFront 4 (take 4 octets) (drop 4 octets) octets
 plain_front octets long low = rw (four_then octets long) (grind (arith, common_steps, All-cons, All-nil))
 
--- eight, as four and four
+-- eight octets, as four and four
 pub plain_fronts : (octets : List ℕ) → 8 ≤ length octets → AreLow octets 0 → AreLow octets 4 → IsPlainFront 8 (take 8 octets) (drop 8 octets) octets
 plain_fronts [] long low high = absurd (omega arith)
 plain_fronts (a ∷ []) long low high = absurd (omega arith)
@@ -206,7 +208,7 @@ number_ok front octets whole some so_far = grind (arith, common_steps, push_has_
 abbrev digits : List ℕ → List ℕ
 digits octets = map (λ octet. octet % 128) octets
 
--- the digits read before are n
+-- the value of a subidentifier whose digits so far make `n`, and whose other octets are `octets`
 abbrev value_behind : ℕ → List ℕ → ℕ
 value_behind n octets = n * 128 ^ length octets + number_of 128 (digits octets)
 
@@ -243,7 +245,7 @@ digits_give n (octet ∷ rest) =
       small = t.small;
     }) (λ e fault. fault) (digits_give next rest)))
 
--- no digit makes a number smaller
+-- a further digit doesn't make a number smaller
 value_behind_grows : (n : ℕ) (octets : List ℕ) → n ≤ value_behind n octets
 value_behind_grows n octets = omega (arith, mul-le-mul_left n (one-le-pow (length octets) 128 (lit< tt)))
 
@@ -259,7 +261,7 @@ digits_again n (octet ∷ front) last rest goes_on ends small =
     let more = digits_again next front last rest goes_on.1 ends (omega arith) in
     rw (le-ltb largest_subidentifier next (omega arith), le-ltb octet 128 goes_on.0) (more ∙ ap (λ (v : ℕ). done (v, rest)) (sym same))
 
--- a subidentifier at the front, and what follows
+-- `octets` begin with a subidentifier of value `x.0`, and `x.1` follows it
 record TakesSubidentifier (octets : List ℕ) (x : ℕ × List ℕ) : Type 0 where
   text : List ℕ
   is_subidentifier : IsSubidentifier text x.0
@@ -307,7 +309,7 @@ number_gives octets = gives_then _ (subidentifier_gives octets) (λ x t.
 pub number_fails : (octets : List ℕ) (e : BerError) → number_at octets ≡ Err e → error.Content ≡ e
 number_fails octets e h = failing e (number_gives octets) h
 
--- what follows a number is shorter
+-- what follows a number is shorter than the octets that begin with it
 pub number_shrinks : (octets : List ℕ) (x : ℕ × List ℕ) → number_at octets ≡ Ok x → 1 + length x.1 ≤ length octets
 number_shrinks octets x e =
     let t = (given x (number_gives octets) e).0 in
@@ -347,7 +349,7 @@ numbers_again room octets (n ∷ more) parts few small =
 
 -- ---- identifiers
 
--- the first two numbers of a subidentifier
+-- the first two numbers that a first subidentifier encodes
 splits : (n : ℕ) → n ≤ largest_subidentifier → (first_number n ≤ 2) × (first_number n < 2 → second_number n < 40) × (second_number n < 2 ^ 32)
     × (40 * first_number n + second_number n ≡ n)
 splits n small = grind (arith, common_steps, cases_lt, lt-ltb, le-ltb)
@@ -391,14 +393,14 @@ identifier_again content (x ∷ y ∷ more) h =
     ap identifier_of h.parts.2 ∙ rw (subidentifier_again text (40 * x + y) rest h.parts.3 j.2, others)
     (ap (λ (v : ℕ). done (v ∷ second_number (40 * x + y) ∷ more)) j.0 ∙ ap (λ (v : ℕ). done (x ∷ v ∷ more)) j.1)
 
--- ---- numbers are checked first, and whether there are more than 126 of them is looked at last
+-- ---- numbers are checked first; whether there are more than 126 is tested at the end
 
--- no room for a number
+-- without room for a number, the check fails
 pub no_room : (octets : List ℕ) (room : ℕ) → 0 < length octets → room < 1 → checked (numbers_of room octets) ≡ Err error.Content
 no_room octets zero some less = checked_err (numbers_of 0 octets) error.Content (numbers_full octets some)
 no_room octets (suc room) some less = absurd (omega arith)
 
--- no room for numbers of one octet each
+-- without room for all of these numbers of one octet each, the check fails
 skips_full : (numbers rest : List ℕ) (room : ℕ) → All (λ n. n < 128) numbers → room < length numbers
     → checked (numbers_of room (numbers ++ rest)) ≡ Err error.Content
 skips_full [] rest room plain less = absurd (omega arith)
@@ -423,7 +425,7 @@ number_refused octets e some h (suc room) = checked_err (numbers_of (suc room) o
 
 -- ---- the loop
 
--- what the check of octets comes to that `count` numbers come before
+-- the result of the check of `octets`, after `count` numbers
 abbrev pub counted : ℕ → List ℕ → Result (Unit {0}) BerError
 counted count octets = cond (ltb 126 count) (Err error.Content) (checked (numbers_of (126 - count) octets))
 

@@ -1,5 +1,5 @@
--- Identifiers as they are written: how long they are, that they are forms by the standard, and
--- the only ones.
+-- How identifiers are written: their lengths, that they are strict encodings (`is_subidentifier`,
+-- `is_object_id`), and that there are no others (`same_subidentifier`).
 use Rattle.std.proofs.{lemmas.Grind.common_steps, lemmas.Grind.flat_map-append, lemmas.Nat.le_or_l, lemmas.Nat.le_or_r}
 use Rattle.std.proofs.Common.{◌≡◌, ℕ, ◌+◌, ◌-◌, ◌*◌, ◌/◌, ◌%◌, ◌^◌, ◌<◌, ◌≤◌, suc, List, [], ◌∷◌, ◌++◌, length, take, drop, get_or, refl, sym, ap}
 use Rattle.std.proofs.Common.{◌∙◌, arith, length-append, take_all, ◌≢◌, zero, map, subst, lit<}
@@ -48,13 +48,13 @@ subidentifier_most n = digit_most 128 128 4 n
 pub length-canon_subidentifier : (n : ℕ) → length (canon_subidentifier n) ≡ subidentifier_size n
 length-canon_subidentifier n = grind (arith, common_steps, subidentifier_parts, length-append, length-septets, size_some)
 
--- a subidentifier that goes on before its last octet
+-- a subidentifier of several octets: the octets before the last are written before it
 pub writes_subidentifier : {old mid new : List ℕ} {start middle end : ℕ} (n count : ℕ) → count ≡ subidentifier_size n
     → Writes old middle end ((n % 128) ∷ []) mid → Writes mid start middle (septets (count - 1) (n / 128)) new
     → Writes old start end (canon_subidentifier n) new
 writes_subidentifier n count e w v = writes_same (writes_then w v) (ap (λ k. septets (k - 1) (n / 128) ++ (n % 128) ∷ []) e ∙ sym (subidentifier_parts n))
 
--- subidentifiers of two octets and of three
+-- subidentifiers of two and of three octets
 pub subidentifier_two : (n : ℕ) → 128 ≤ n → n < 16384 → 2 ≡ subidentifier_size n
 unfolding subidentifier_size
 subidentifier_two n more below = sym (count_left 128 128 3 n more ∙ ap (λ k. 1 + k) (count_taken 128 (128 * 128) 2 n below))
@@ -71,7 +71,7 @@ pub two_septets : (m : ℕ) → m < 16384 → (128 + m / 128) ∷ (128 + m % 128
 unfolding septets digits
 two_septets m below = grind (arith, common_steps)
 
--- what an identifier's content is, by its first two numbers and the others
+-- the content of an identifier, by its first two numbers and the others
 pub content_parts : (name : List ℕ) → IsWire name → canon_content (object_id name) ≡ canon_subidentifier (40 * get_or name 0 0 + get_or name 1 0)
     ++ flat_map canon_subidentifier (take (length name - 2) (drop 2 name))
 unfolding canon_content
@@ -79,12 +79,12 @@ content_parts [] wire = absurd wire
 content_parts (x ∷ []) wire = absurd wire
 content_parts (x ∷ y ∷ rest) wire = grind (arith, common_steps, take_all)
 
--- the octets of the numbers that are left, and of one less
+-- the length of the numbers from index `i` on, by the length of the numbers after it
 pub length-numbers_from : (numbers : List ℕ) (i number : ℕ) → i < length numbers → number ≡ get_or numbers i 0
     → length (flat_map canon_subidentifier (drop i numbers)) ≡ subidentifier_size number + length (flat_map canon_subidentifier (drop (i + 1) numbers))
 length-numbers_from numbers i number h e = grind (arith, common_steps, length-flat_map_drop, length-canon_subidentifier)
 
--- the content of a name, by the list of its numbers
+-- the content of `name`, by the list of its numbers
 pub content_is : (numbers name : List ℕ) (first : ℕ) → IsWire name → numbers ≡ name → first ≡ 40 * get_or numbers 0 0 + get_or numbers 1 0
     → canon_content (object_id name) ≡ canon_subidentifier first ++ flat_map canon_subidentifier (take (length numbers - 2) (drop 2 numbers))
 content_is numbers name first wire same e = rw (e, same) (content_parts name wire)
@@ -96,30 +96,31 @@ length-content numbers name wire same = grind (arith, common_steps, content_is, 
 
 -- ---- numbers of one octet each
 
--- they are written as they are
+-- numbers below 128 are written as they are
 plain_then : (xs ys : List ℕ) → AllByRecursion (λ n. n < 128) xs → flat_map canon_subidentifier (xs ++ ys) ≡ xs ++ flat_map canon_subidentifier ys
 plain_then [] ys h = refl
 plain_then (x ∷ xs) ys h = grind (arith, common_steps, plain_then xs ys h.1, subidentifier_short)
 
--- the numbers from a place on are the one there, and those behind it
+-- the numbers from index `i` on are the number at `i` and those after it
 number_then : (numbers : List ℕ) (i next : ℕ) → i + 1 ≡ next → next ≤ length numbers → drop i numbers ≡ get_or numbers i 0 ∷ drop next numbers
 number_then numbers i next e h = drop_more numbers i 0 (omega (arith, e, h)) ∙ ap (λ k. get_or numbers i 0 ∷ drop k numbers) e
 
 pub eight_then : (numbers : List ℕ) (from : ℕ) → from + 8 ≤ length numbers → drop from numbers ≡ eight_from numbers from ++ drop (from + 8) numbers
 eight_then numbers from h = grind (arith, common_steps, number_then)
 
--- each of four numbers is below 128 where the four have no higher bit
+-- if the bitwise or of four numbers is below 128, so is each of them
 pub below_128 : (a b c d : ℕ) → bit_or (bit_or (bit_or a b) c) d < 128 → (a < 128) × (b < 128) × (c < 128) × (d < 128)
 below_128 a b c d low = grind (arith, common_steps, le_or_l, le_or_r)
 
--- or-ed together, numbers are no smaller than each of them: where all eight have no higher bit, none has
+-- if the bitwise or of eight numbers is below 128, so is each of them
 pub eight_low : (numbers : List ℕ) (from : ℕ)
     → bit_or (bit_or (bit_or (bit_or (get_or numbers from 0) (get_or numbers (from + 1) 0)) (get_or numbers (from + 2) 0)) (get_or numbers (from + 3) 0))
     (bit_or (bit_or (bit_or (get_or numbers (from + 4) 0) (get_or numbers (from + 5) 0)) (get_or numbers (from + 6) 0)) (get_or numbers (from + 7) 0)) < 128
     → AreShort numbers from
 eight_low numbers from h = grind (arith, common_steps, below_128, le_or_l, le_or_r)
 
--- eight of them before the last number, and the others before these
+-- if the eight numbers before the last are below 128, they are written as they are, between the
+-- others and the last
 pub nine : (numbers : List ℕ) (number : ℕ) → 9 ≤ length numbers → AreShort numbers (length numbers - 9) → number ≡ get_or numbers (length numbers - 1) 0
     → flat_map canon_subidentifier (take (length numbers - 9) numbers) ++ (eight_from numbers (length numbers - 9) ++ canon_subidentifier number)
     ≡ flat_map canon_subidentifier numbers
@@ -187,7 +188,7 @@ unfolding septets digits
 septet_octets zero n = tt
 septet_octets (suc count) n = (omega arith, septet_octets count n)
 
--- octets with the high bit set are the digits of their number
+-- octets with the high bit set are the base-128 digits of their number
 septets_are : (front : List ℕ) → Octets front → AreHigh front → front ≡ septets (length front) (number_of 128 (low_bits front))
 unfolding septets
 septets_are front h high = marked front h high ∙ ap (map (λ digit. 128 + digit)) (digits_are 128 (low_bits front) (lit< tt) (bits_below front)
@@ -201,18 +202,18 @@ septets_are front h high = marked front h high ∙ ap (map (λ digit. 128 + digi
 
 -- ---- subidentifiers
 
--- a subidentifier has octets
+-- a subidentifier has at least one octet
 pub subidentifier_some : (text : List ℕ) (n : ℕ) → IsSubidentifier text n → 0 < length text
 subidentifier_some text n is = omega (arith, ap length is.parts, length-append is.front (is.last ∷ []))
 
--- and is below the power of them
+-- a subidentifier is below the power of 128 with its number of octets
 pub subidentifier_bound : (text : List ℕ) (n : ℕ) → IsSubidentifier text n → n < 128 ^ length text
 subidentifier_bound text n is = grind (arith, common_steps, length-low_bits, below_power, bits_below)
 
 front_value : (front : List ℕ) (last : ℕ) → number_of 128 (low_bits (front ++ last ∷ [])) ≡ number_of 128 (low_bits front) * 128 + last % 128
 front_value front last = grind (arith, common_steps, map-append, number_of-push)
 
--- its octets are its digits
+-- the octets of a subidentifier are its base-128 digits
 text_is : (text : List ℕ) (n : ℕ) → Octets text → IsSubidentifier text n → text ≡ septets (length text - 1) (n / 128) ++ (n % 128) ∷ []
 text_is text n h is =
     let v : ℕ = number_of 128 (low_bits is.front) in
@@ -223,7 +224,7 @@ text_is text n h is =
     cc (septets_are is.front (front_octets is.front (is.last ∷ []) (subst Octets is.parts h))
     (recursion_from_All (λ octet. 128 ≤ octet) is.front is.goes_on))
 
--- so texts of as many octets are the same
+-- so a subidentifier has only one encoding of a given length
 pub same_subidentifier : (xs ys : List ℕ) (n : ℕ) → Octets xs → Octets ys → length xs ≡ length ys → IsSubidentifier xs n → IsSubidentifier ys n → xs ≡ ys
 same_subidentifier xs ys n h k size is are =
     text_is xs n h is ∙ ap (λ count. septets (count - 1) (n / 128) ++ (n % 128) ∷ []) size ∙ sym (text_is ys n k are)
@@ -236,10 +237,14 @@ not_padded (suc k) m last low high least e =
     let small : m / 128 ^ k < 128 = (div-lt_iff_lt-mul (one-le-pow k 128 (lit< tt))).1 (omega (arith, high, pow-suc 128 k)) in
     omega (arith, e, some, small)
 
--- the last octet has the lowest seven bits, those before it the others with the high bit; the first isn't 128, as there are no more than needed
+-- what is written of a subidentifier encodes it: the last octet has the lowest seven bits, those
+-- before it the others with the high bit set, and the first isn't 128, since there are no more
+-- octets than needed
 pub is_subidentifier : (n : ℕ) → n < 2 ^ 35 → IsSubidentifier (canon_subidentifier n) n
 unfolding subidentifier_size
-is_subidentifier n h = grind (arith, common_steps, sized, subidentifier_parts, digits_needed, All-from_recursion, high_septets, mod-lt, not_padded, front_value, low_septets, digits_value)
+is_subidentifier n h =
+    grind (arith, common_steps, sized, subidentifier_parts, digits_needed, All-from_recursion, high_septets, mod-lt, not_padded, front_value,
+    low_septets, digits_value)
 
 pub subidentifier_octets : (n : ℕ) → Octets (canon_subidentifier n)
 subidentifier_octets n = grind (arith, common_steps, subidentifier_parts, both_octets, septet_octets)
@@ -277,7 +282,7 @@ pub name_octets : (name : List ℕ) → Octets (canon_content (object_id name))
 unfolding canon_content
 name_octets name = all_octets (subidentifiers name)
 
--- a subidentifier has five octets at most
+-- subidentifiers have at most five octets each
 length-subidentifiers : (numbers : List ℕ) → length (flat_map canon_subidentifier numbers) ≤ 5 * length numbers
 length-subidentifiers [] = omega arith
 length-subidentifiers (n ∷ more) = grind (arith, common_steps, length-subidentifiers more, length-append, length-canon_subidentifier, subidentifier_most)

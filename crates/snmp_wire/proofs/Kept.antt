@@ -1,4 +1,5 @@
--- Bindings that are kept as their encodings: what is written is read again.
+-- Bindings stored as their encodings: what is written is decoded again (`read_again`,
+-- `one_binding`), and so is its name (`name_gives`, `short_name`).
 use Rattle.std.proofs.Common.{arith, ◌≡◌, ℕ, List, [], ◌∷◌, ◌++◌, Result, Ok, IsOk, refl, sym, ap, ◌∙◌, ◌<◌, ◌≤◌, length, get_or, take, drop}
 use Rattle.std.proofs.{lemmas.Grind.common_steps, lemmas.Bool.lt-ltb, lemmas.Bool.ltb-false, lemmas.List.append-nil, lemmas.List.take-append-drop}
 use Rattle.std.specs.Result.{result_unwrap_or}
@@ -20,7 +21,7 @@ encodable_value v h = tt
 pub encodable : (p : VarBind) → IsInRange (object_id p.name) → IsInRange p.value → IsEncodable p
 encodable p name value = record { name = name.0; value = encodable_value p.value value }
 
--- an element whose length has one octet
+-- `inner_at` on an element whose length has one octet
 short_inner : (tag found size : ℕ) (rest content after : List ℕ) → size < 128 → inner_at tag (found ∷ size ∷ rest) ≡ Ok (content, after)
     → (size ≤ length rest) × (take size rest ≡ content) × (drop size rest ≡ after)
 unfolding inner_at content_at length_at
@@ -33,7 +34,8 @@ module _ (p : VarBind) (range : IsBindingInRange p) where
   pub read_again : binding_in (canon_binding p) ≡ p
   read_again =
       ap (λ octets. binding_in octets) (sym (append-nil (canon_binding p)))
-      ∙ ap (λ (read : Result (VarBind × List ℕ) BerError). (result_unwrap_or read (record { name = []; value = null_value }, [])).0) (binding_again p (canon_binding p) [] spells)
+      ∙ ap (λ (read : Result (VarBind × List ℕ) BerError). (result_unwrap_or read (record { name = []; value = null_value }, [])).0)
+      (binding_again p (canon_binding p) [] spells)
 
   pub is_kept : (octets : List ℕ) → octets ≡ canon_binding p → IsKept octets
   is_kept octets e = grind (arith, common_steps, read_again)
@@ -47,7 +49,7 @@ module _ (p : VarBind) (range : IsBindingInRange p) where
   pub one_binding : (octets : List ℕ) → octets ≡ canon_binding p → bindings_in octets ≡ p ∷ []
   one_binding octets e = ap bindings_in e ∙ ap (λ (read : Result (List VarBind) BerError). result_unwrap_or read []) all_again
 
-  -- its content, and that of its name
+  -- the content of the binding, and the content of its name
   outer : (octets : List ℕ) → octets ≡ canon_binding p → inner_at 0x30 octets ≡ Ok (spells.name ++ spells.value, [])
   outer octets e = ap (inner_at 0x30) (e ∙ sym (append-nil (canon_binding p)))
       ∙ inner_again 0x30 (spells.name ++ spells.value) (canon_binding p) [] spells.element
@@ -58,7 +60,7 @@ module _ (p : VarBind) (range : IsBindingInRange p) where
   is_name : identifier_of spells.is_name.content ≡ Ok p.name
   is_name = identifier_again spells.is_name.content p.name spells.is_name.is_content
 
-  -- so the content is read, then the name in it, and no fault is met
+  -- the name inside the content of the binding is decoded without a fault
   abbrev InContent : List ℕ × List ℕ → Type 0
   InContent content = Gives (λ name. identifier_of name.0 ≡ Ok p.name) (λ fault. ⊥) (inner_at 0x06 content.0)
 
@@ -66,7 +68,7 @@ module _ (p : VarBind) (range : IsBindingInRange p) where
   name_gives octets e = rw (outer octets e) (a_value (spells.name ++ spells.value, [])
       (rw inner (a_value (spells.is_name.content, spells.value) is_name)))
 
-  -- the name behind the first four octets, where both lengths have one octet
+  -- if both lengths have one octet, the name follows the first four octets
   pub short_name : (octets : List ℕ) → octets ≡ canon_binding p → 4 ≤ length octets → get_or octets 1 0 < 128 → get_or octets 3 0 < 128
       → (get_or octets 3 0 ≤ length (drop 4 octets)) × (identifier_of (take (get_or octets 3 0) (drop 4 octets)) ≡ Ok p.name)
   short_name octets e long small short =

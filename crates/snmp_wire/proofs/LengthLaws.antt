@@ -1,5 +1,6 @@
--- Lemmas on lengths and elements, for proofs of values and messages: what is read as one is one, what
--- is read as none isn't, and what is one is read.
+-- Lengths and elements, for proofs about values and messages: what is decoded as one is one, what
+-- isn't has a fault (`length_gives`, `content_gives`, ..), and each is decoded (`inner_again`,
+-- ..).
 use Rattle.std.proofs.lemmas.Grind.{common_steps}
 use Rattle.std.proofs.Common.{◌≡◌, ◌≢◌, ℕ, ◌+◌, ◌-◌, ◌<◌, ◌≤◌, false, eqb, ltb, ◌&&◌, List, [], ◌∷◌, ◌++◌, length, take, drop, replicate, Ok, refl}
 use Rattle.std.proofs.Common.{sym, ap, subst, append_assoc, arith, ◌⊎◌, inl, inr}
@@ -19,7 +20,7 @@ zeros n = replicate n 0
 pub some_octets : (octets : List ℕ) → 0 < length octets → octets ≢ []
 some_octets octets lt e = let none : length octets ≡ 0 = ap length e in omega arith
 
--- so do the front octets of an element
+-- a proper prefix of an element ends early
 ends_early : {octets : List ℕ} (tag : ℕ) (lead content missing : List ℕ) → 0 < length missing → IsLength lead (length content)
     → octets ++ missing ≡ tag ∷ lead ++ content → EndsEarly octets
 ends_early tag lead content missing some is_length parts = record {
@@ -30,7 +31,7 @@ ends_early tag lead content missing some is_length parts = record {
   whole = record { length_octets = lead; is_length = is_length; parts = parts };
 }
 
--- a first octet of 129 to 132, and as many digits
+-- a first octet of 129 to 132 and as many digits are a length in the long form
 long_form : (first : ℕ) (digits : List ℕ) → 128 < first → first < 133 → length digits ≡ first - 128 → IsLength (first ∷ digits) (unsigned digits)
 long_form first digits low high size = inr (record {
   digits = digits;
@@ -40,7 +41,7 @@ long_form first digits low high size = inr (record {
   parts = ap (λ (n : ℕ). n ∷ digits) (omega arith);
 })
 
--- the length is there, and not the whole of the content
+-- an element ends early if its length is complete and its content isn't
 content_short : (tag : ℕ) (lead after : List ℕ) (n : ℕ)
     → IsLength lead n → length after < n → EndsEarly (tag ∷ lead ++ after)
 content_short tag lead after n is_length short =
@@ -50,7 +51,7 @@ content_short tag lead after n is_length short =
     ends_early tag lead (after ++ missing) missing (omega (arith, size)) (subst (IsLength lead) whole is_length)
     (ap (λ (o : List ℕ). tag ∷ o) (append_assoc lead after missing))
 
--- not even the length is there
+-- an element ends early if its length isn't complete
 length_short : (tag first : ℕ) (rest : List ℕ)
     → 128 < first → first < 133 → length rest < first - 128 → EndsEarly (tag ∷ first ∷ rest)
 length_short tag first rest low high short =
@@ -74,11 +75,11 @@ no_octets = ends_early 0 (0 ∷ []) [] (0 ∷ 0 ∷ []) (omega arith) no_length 
 
 -- ---- lengths
 
--- a length in some form, and what follows
+-- `octets` begin with a form of the length `x.0`, and `x.1` follows it
 abbrev pub TakesLength : List ℕ → ℕ × List ℕ → Type 0
 TakesLength octets x = (lead : List ℕ) × IsLength lead x.0 × (octets ≡ lead ++ x.1)
 
--- an element that can't be read: it is cut, or its length is forbidden
+-- why an element can't be decoded: it is cut off, or its length has a forbidden form
 abbrev pub IsBadElement : BerError → List ℕ → BerError → Type 0
 IsBadElement cut octets e =
     ((cut ≡ e) × EndsEarly octets) ⊎ ((error.Length ≡ e) × HasForbiddenLength octets)
@@ -135,7 +136,7 @@ length_again cut lead n rest (inr s) = grind (arith, common_steps, long_length_a
 
 -- ---- elements
 
--- what is read after a tag is the content of an element, or there is none
+-- what is decoded after a tag is the content of an element, or the element is bad
 pub content_gives : (cut : BerError) (tag : ℕ) (octets : List ℕ)
     → Gives (λ x. BeginsWith tag x.0 (tag ∷ octets) x.1) (IsBadElement cut (tag ∷ octets))
     (content_at cut octets)
@@ -154,7 +155,7 @@ content_gives cut tag octets = gives_then _ (length_gives cut tag octets) (λ x 
     let parts : tag ∷ octets ≡ (tag ∷ t.0 ++ content) ++ drop n after = cc (take-append-drop n after, append_assoc t.0 content (drop n after)) in
     a_value (content, drop n after) (record { element = tag ∷ t.0 ++ content; is_element = is_element; parts = parts })))
 
--- a content after its length is read
+-- a content after its length is decoded
 pub content_again : (cut : BerError) (lead content rest : List ℕ) → IsLength lead (length content)
     → content_at cut (lead ++ (content ++ rest)) ≡ Ok (content, rest)
 unfolding content_at
@@ -163,13 +164,13 @@ content_again cut lead content rest h =
     le-ltb _ _ (omega (arith, length-append content rest)) in
     rw (length_again cut lead (length content) (content ++ rest) h, room, take_at content rest _ refl, drop_at content rest _ refl) refl
 
--- no element of a tag: none at all, or one of another
+-- why there is no inner element with this tag: there is none at all, or one with another tag
 abbrev pub IsNoInner : ℕ → List ℕ → BerError → Type 0
 IsNoInner tag octets e =
     IsBadElement error.Length octets e
     ⊎ ((error.Tag ≡ e) × (found : ℕ) × (after : List ℕ) × (octets ≡ found ∷ after) × (found ≢ tag))
 
--- what is read as an inner element of a tag is one, or there is none
+-- what is decoded as an inner element with a tag is one, or there is none
 pub inner_gives : (tag : ℕ) (octets : List ℕ)
     → Gives (λ x. BeginsWith tag x.0 octets x.1) (IsNoInner tag octets) (inner_at tag octets)
 unfolding inner_at
@@ -183,13 +184,13 @@ regrouped : (tag : ℕ) (content element rest : List ℕ) (h : IsElement tag con
     → element ++ rest ≡ tag ∷ (h.length_octets ++ (content ++ rest))
 regrouped tag content element rest h = grind (arith, common_steps, append_assoc)
 
--- an element of a tag is read as one
+-- an inner element with a tag is decoded
 pub inner_again : (tag : ℕ) (content element rest : List ℕ)
     → IsElement tag content element → inner_at tag (element ++ rest) ≡ Ok (content, rest)
 unfolding inner_at
 inner_again tag content element rest h = grind (arith, common_steps, regrouped, eq-eqb, content_again)
 
--- what is read as an element of any tag is one, or there is none
+-- what is decoded as an element with any tag is one, or the element is bad
 pub element_gives : (octets : List ℕ)
     → Gives (λ x. BeginsWith x.0 x.1 octets x.2) (IsBadElement error.Length octets)
     (element_at octets)
@@ -198,13 +199,13 @@ element_gives [] = a_fault error.Length (inl (refl, no_octets))
 element_gives (tag ∷ octets) = gives_then _ (content_gives error.Length tag octets)
     (λ c begins. a_value (tag, c.0, c.1) begins)
 
--- an element is read, with its tag
+-- an element is decoded, with its tag
 pub element_again : (tag : ℕ) (content element rest : List ℕ)
     → IsElement tag content element → element_at (element ++ rest) ≡ Ok (tag, content, rest)
 unfolding element_at
 element_again tag content element rest h = grind (arith, common_steps, regrouped, content_again)
 
--- an element has octets of its own
+-- what follows an element is shorter than the octets that begin with it
 pub element_shrinks : {tag : ℕ} {octets content rest : List ℕ}
     → BeginsWith tag content octets rest → length rest < length octets
 element_shrinks {tag} {octets} {content} {rest} begins = grind (arith, common_steps, length-append)

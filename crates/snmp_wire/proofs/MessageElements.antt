@@ -1,6 +1,6 @@
--- Elements in a row, of values or around other elements: the form of bindings, PDUs and messages.
--- How such a row is spelt and written, and that no spelling of it is shorter, is said and proved
--- once.
+-- Sequences of elements, each of which is a value or contains further elements: the structure of
+-- bindings, PDUs and messages. That what is written of them encodes them (`strict_canon`), and
+-- that no strict encoding is shorter (`message_least`), is proved once for all of these.
 use Rattle.std.proofs.{lemmas.Grind.common_steps, lemmas.List.append-nil, Math.Nat.pow-le-pow_right, Math.Seq.take-append_seam}
 use Rattle.std.proofs.Common.{◌≡◌, ℕ, ◌^◌, ◌<◌, List, [], ◌++◌, length, refl, sym, subst, ◌≤◌, ◌∷◌, ap, ◌∙◌, append_assoc, lit<, arith, length-append}
 use Rattle.std.proofs.Common.{inl, inr, take}
@@ -25,7 +25,7 @@ pub data Elements : Type 0 where
   value_then : Datum → Elements → Elements
   element_then : ℕ → Elements → Elements → Elements
 
--- the octets encode these elements in turn
+-- `octets` encode these elements in turn
 abbrev pub SpellsAll : Form → Elements → List ℕ → Type 0
 SpellsAll form no_elements octets = octets ≡ []
 SpellsAll form (value_then value more) octets =
@@ -34,13 +34,13 @@ SpellsAll form (element_then tag within more) octets =
     (first : List ℕ) × (rest : List ℕ) × (octets ≡ first ++ rest) × (content : List ℕ) × IsElement tag content first
     × SpellsAll form within content × SpellsAll form more rest
 
--- the shortest encoding
+-- the encoding that is written of these elements
 abbrev pub canon_all : Elements → List ℕ
 canon_all no_elements = []
 canon_all (value_then value more) = canon_value value ++ canon_all more
 canon_all (element_then tag within more) = canon_element tag (canon_all within) ++ canon_all more
 
--- what has an encoding
+-- the elements are within their ranges
 abbrev pub AreInRange : Elements → Type 0
 AreInRange no_elements = Unit {0}
 AreInRange (value_then value more) = IsInRange value × AreInRange more
@@ -51,7 +51,7 @@ AreOfType no_elements = Unit {0}
 AreOfType (value_then value more) = IsOfType value × AreOfType more
 AreOfType (element_then tag within more) = AreOfType within × AreOfType more
 
--- what is spelt by the standard is read
+-- what is encoded strictly is accepted
 unsigned_is_read : {width : ℕ} {content : List ℕ} {n : ℕ} → IsUnsigned strict width content n → IsUnsigned lenient width content n
 unsigned_is_read is = record { some = is.some; few = is.few; value = is.value; allowed = tt }
 
@@ -68,20 +68,24 @@ value_is_read value text is = record { content = is.content; is_content = conten
 pub are_read : (all : Elements) (octets : List ℕ) → SpellsAll strict all octets → SpellsAll lenient all octets
 are_read no_elements octets is = is
 are_read (value_then value more) octets (first, rest, parts, this, others) = grind (arith, common_steps, are_read more rest others, value_is_read)
-are_read (element_then tag within more) octets (first, rest, parts, content, element, inner, others) = grind (arith, common_steps, are_read within content inner, are_read more rest others)
+are_read (element_then tag within more) octets (first, rest, parts, content, element, inner, others) =
+    grind (arith, common_steps, are_read within content inner, are_read more rest others)
 
--- what is written is spelt by the standard
+-- what is written is a strict encoding
 pub are_strict : (all : Elements) → AreInRange all → SpellsAll strict all (canon_all all)
 are_strict no_elements range = refl
 are_strict (value_then value more) (this, others) = grind (arith, common_steps, are_strict more others, spells_value)
-are_strict (element_then tag within more) (small, short, inner, others) = grind (arith, common_steps, are_strict within inner, are_strict more others, is_element)
+are_strict (element_then tag within more) (small, short, inner, others) =
+    grind (arith, common_steps, are_strict within inner, are_strict more others, is_element)
 
 pub are_octets : (all : Elements) → AreInRange all → Octets (canon_all all)
 are_octets no_elements range = tt
 are_octets (value_then value more) (this, others) = grind (arith, common_steps, are_octets more others, both_octets, value_octets)
-are_octets (element_then tag within more) (small, short, inner, others) = grind (arith, common_steps, are_octets within inner, are_octets more others, both_octets, element_octets)
+are_octets (element_then tag within more) (small, short, inner, others) =
+    grind (arith, common_steps, are_octets within inner, are_octets more others, both_octets, element_octets)
 
--- no spelling by the standard is shorter, and one that is no longer is the written one
+-- no strict encoding is shorter than the one that is written, and none of the same length is
+-- another
 pub are_least : (all : Elements) (octets : List ℕ) → Octets octets → SpellsAll strict all octets → IsNoShorter (canon_all all) octets
 are_least no_elements octets h is = same_text is
 are_least (value_then value more) octets h (first, rest, parts, this, others) =
@@ -95,7 +99,7 @@ are_least (element_then tag within more) octets h (first, rest, parts, content, 
     (both_texts (element_least whole element (are_least within content (content_octets whole element) inner))
     (are_least more rest (back_octets first rest both) others))
 
--- ---- their elements
+-- ---- the elements of bindings, PDUs and messages
 
 abbrev pub binding_then : VarBind → Elements → Elements
 binding_then binding more = element_then sequence_tag (value_then (object_id binding.name) (value_then binding.value no_elements)) more
@@ -117,9 +121,9 @@ elements_in_message message =
 abbrev pub elements_of : Message → Elements
 elements_of message = element_then sequence_tag (elements_in_message message) no_elements
 
--- ---- spellings
+-- ---- encodings
 
--- the last of a row
+-- the last element of a sequence
 last_is : (octets last end : List ℕ) → octets ≡ last ++ end → end ≡ [] → octets ≡ last
 last_is octets last end parts none = parts ∙ ap (λ (o : List ℕ). last ++ o) none ∙ append-nil last
 
@@ -133,7 +137,7 @@ module _ (form : Form) where
   bindings_in_row [] octets is = is
   bindings_in_row (binding ∷ more) octets (first, rest, parts, this, others) = grind (arith, common_steps, bindings_in_row more rest others, binding_in_row)
 
-  -- an element alone
+  -- a single element
   alone : (tag : ℕ) (within : Elements) {content octets : List ℕ} → IsElement tag content octets → SpellsAll form within content
       → SpellsAll form (element_then tag within no_elements) octets
   alone tag within {content} {octets} element inner = (octets, [], sym (append-nil octets), content, element, inner, refl)
@@ -166,7 +170,8 @@ module _ (form : Form) where
   bindings_of_row : (bindings : List VarBind) (octets : List ℕ) → SpellsAll form (elements_of_bindings bindings) octets
       → SpellsBindings form bindings octets
   bindings_of_row [] octets is = is
-  bindings_of_row (binding ∷ more) octets (first, rest, parts, content, element, inner, others) = grind (arith, common_steps, bindings_of_row more rest others, binding_of_row)
+  bindings_of_row (binding ∷ more) octets (first, rest, parts, content, element, inner, others) =
+      grind (arith, common_steps, bindings_of_row more rest others, binding_of_row)
 
   pdu_of_row : (message : Message) (content octets : List ℕ) → IsElement (kind_tag message.kind) content octets
       → SpellsAll form (elements_in_pdu message) content → SpellsPdu form message octets
@@ -230,11 +235,12 @@ bindings_in_range : (bindings : List VarBind) → AllByRecursion IsBindingInRang
 bindings_in_range [] range = tt
 bindings_in_range (binding ∷ more) (this, others) = grind (arith, common_steps, bindings_in_range more others, length-append, value_short)
 
--- the bindings have at most 4,000,000,000 octets and each other field few, so each content is shorter than 2 ^ 32
+-- each content is shorter than 2 ^ 32: the bindings take at most 4,000,000,000 octets, and the
+-- other fields few
 in_range : (message : Message) → IsMessageInRange message → AreInRange (elements_of message)
 in_range message range = grind (arith, common_steps, bindings_are, length-append, element_most, value_short, bindings_in_range, kind_fits)
 
--- ---- what is written is spelt
+-- ---- what is written encodes the message
 
 pub spells_binding : (binding : VarBind) → IsBindingInRange binding → SpellsBinding lenient binding (canon_binding binding)
 spells_binding binding range =
@@ -245,14 +251,15 @@ spells_binding binding range =
 pub strict_is_read : (message : Message) (octets : List ℕ) → Strict message octets → Spells message octets
 strict_is_read message octets is = of_row lenient message octets is.are_octets (are_read (elements_of message) octets (in_row strict message octets is))
 
--- the encoding is a spelling by the standard
+-- the encoding that is written of a message in range is strict
 pub strict_canon : (message : Message) → IsMessageInRange message → Strict message (canon message)
 strict_canon message range =
     let all : Elements = elements_of message in
     subst (Strict message) (sym (message_is message))
     (of_row strict message (canon_all all) (by_octets (canon_all all) (are_octets all (in_range message range))) (are_strict all (in_range message range)))
 
--- none by the standard is shorter, and one that is no longer is the one that is written
+-- no strict encoding of a message is shorter than the one that is written, and none of the same
+-- length is another
 pub message_least : (message : Message) (octets : List ℕ) → Strict message octets → IsNoShorter (canon message) octets
 message_least message octets is = subst (λ (made : List ℕ). IsNoShorter made octets) (sym (message_is message))
     (are_least (elements_of message) octets (octets_by octets is.are_octets) (in_row strict message octets is))
@@ -324,7 +331,7 @@ pub only_shortest : (message : Message) (text other : List ℕ) → IsMessageInR
     → text ≡ other
 only_shortest message text other range is too = shortest_is_written message text range is ∙ sym (shortest_is_written message other range too)
 
--- so is the front of what a writer left
+-- if what was written is at the start of `out`, it is a shortest encoding
 pub front_is_shortest : (law : OneShortestEncoding) (message : Message) (n : ℕ) (out rest : List ℕ) → n ≡ length (canon message)
     → out ≡ canon message ++ rest → IsMessageInRange message → IsShortestEncoding (take n out) message
 front_is_shortest law message n out rest size e range = grind (arith, common_steps, take-append_seam)
@@ -333,7 +340,7 @@ pub shortest_size : (law : OneShortestEncoding) (message : Message) (size : ℕ)
     → IsMessageInRange message → IsShortestEncoding octets message → size ≡ length octets
 shortest_size law message size e octets range is = e ∙ sym (ap length (law.one message octets (canon message) range is (law.written message range)))
 
--- so are a head and the bindings behind it
+-- a head followed by the encodings of its bindings is a shortest encoding
 pub sealed_is_shortest : (law : OneShortestEncoding) (message : Message) (bindings : List VarBind) (total : ℕ) (octets : List ℕ)
     → octets ≡ canon_head message total ++ canon_bindings bindings → total ≡ length (canon_bindings bindings)
     → IsMessageInRange (record message { bindings = bindings }) → IsShortestEncoding octets (record message { bindings = bindings })

@@ -1,4 +1,5 @@
--- Reading bindings one after the other, and messages: what is spelt as one is read.
+-- Decoding of bindings, one after the other, and of messages: octets that encode them are decoded
+-- to them (`bindings_again`, `message_again`).
 use Rattle.std.proofs.{lemmas.Grind.common_steps, lemmas.Result.err_from_is_err_and}
 use Rattle.std.proofs.Common.{◌≡◌, ℕ, zero, suc, ◌<◌, ◌≤◌, List, [], ◌∷◌, length, Result, Ok, Err, IsOk, refl, sym, ap, ◌∙◌, arith, ℤ, ◌++◌}
 use Rattle.std.proofs.Common.{append_assoc, ◌+◌, ◌-◌, get_or, take, drop, inl}
@@ -18,7 +19,7 @@ use Rattle.snmp_wire.specs.declared.kind.Kind.TheVariants as kind
 use Rattle.snmp_wire.specs.Spelling.{SpellsBinding, SpellsBindings, kind_tag, SpellsPdu, Spells}
 use Rattle.snmp_wire.proofs.{IdentifierReading.identifier_again, IdentifierReading.four_then, ValueLaws.integer_again, ValueLaws.value_again}
 
--- a binding has octets of its own
+-- what follows a binding is shorter than the octets that begin with it
 fields_less : (octets : List ℕ) → Gives (λ x. length x.1 < length octets) (λ e. Unit {0}) (fields_at octets)
 unfolding fields_at
 fields_less octets =
@@ -34,11 +35,11 @@ binding_less octets =
 pub fields_shrink : (octets : List ℕ) (x : Fields × List ℕ) → fields_at octets ≡ Ok x → length x.1 < length octets
 fields_shrink octets x e = given x (fields_less octets) e
 
--- the bindings behind a first one
+-- the first binding, and the bindings after it
 abbrev pub with_rest : (List ℕ → Result (List VarBind) BerError) → VarBind × List ℕ → Result (List VarBind) BerError
 with_rest read first = read first.1 >>= λ more. Ok (first.0 ∷ more)
 
--- more fuel than octets changes nothing
+-- any fuel that is at least the number of octets gives the same bindings
 same_fuel : (n m : ℕ) (octets : List ℕ) → length octets ≤ n → length octets ≤ m → bindings_within n octets ≡ bindings_within m octets
 unfolding bindings_within
 same_fuel n m [] p q = refl
@@ -95,13 +96,13 @@ pub begins_ok : (octets : List ℕ) → IsOk (bindings_of octets) → 0 < length
 unfolding binding_at
 begins_ok octets ok some = grind (arith, common_steps, ok_value, bind_ok, bindings_step, is_ok_at)
 
--- what stands at the front is the first binding
+-- `octets` begin with the binding of `fields`, and the octets `after` it encode the other bindings
 pub record BeginsWithBinding (octets : List ℕ) (fields : Fields) (after : List ℕ) : Type 0 where
   pub is_binding : IsOk (binding_of fields)
   pub others : IsOk (bindings_of after)
   pub all : (binding : VarBind) → binding_of fields ≡ Ok binding → bindings_in octets ≡ binding ∷ bindings_in after
 
--- one step of the reading: where the whole list is read, so are its first binding and the others
+-- one step of the iterator: if the whole list is decoded, so are its first binding and the others
 pub stands : (octets : List ℕ) (fields : Fields) (after : List ℕ) → IsOk (bindings_of octets) → 0 < length octets → fields_at octets ≡ Ok (fields, after)
     → BeginsWithBinding octets fields after
 unfolding binding_at
@@ -110,7 +111,7 @@ stands octets fields after ok some h = grind (arith, common_steps, ok_value, bin
 pub bindings_in_end : (octets : List ℕ) → length octets ≡ 0 → bindings_in octets ≡ []
 bindings_in_end octets none = ap (λ (r : Result (List VarBind) BerError). result_unwrap_or r []) (bindings_end octets none)
 
--- the parts of a binding
+-- the name and the value of a binding can be decoded
 pub record AreParts (fields : Fields) : Type 0 where
   pub name : IsOk (identifier_of fields.name)
   pub value : IsOk (typed_value fields.tag fields.content)
@@ -128,11 +129,11 @@ pub binding_made : (fields : Fields) (name : List ℕ) (value : Datum) → ident
 unfolding binding_of
 binding_made fields name value e f = rw (e, f) refl
 
--- the name of a binding that is read so
+-- the name of a decoded binding is the identifier that its name field encodes
 pub name_of : (fields : Fields) (binding : VarBind) (name : List ℕ) → binding_of fields ≡ Ok binding → identifier_of fields.name ≡ Ok name → name ≡ binding.name
 name_of fields binding name e f = ok_is name binding.name (sym f ∙ (parts_are fields binding e).0)
 
--- the binding of fields that are one's
+-- `binding_with` is the binding, if the fields are those of a binding
 pub with_fields : (fields : Fields) → IsOk (binding_of fields) → binding_of fields ≡ Ok (binding_with fields)
 with_fields fields ok = grind (arith, common_steps, ok_value)
 
@@ -216,7 +217,7 @@ message_again octets message h =
 
 -- ---- laws
 
--- no spelling is the front of another
+-- octets encode at most one message, and no encoding is a proper prefix of another
 pub one_message : (message other : Message) (octets spelling rest more : List ℕ) → Spells message octets → Spells other spelling
     → octets ++ rest ≡ spelling ++ more → (message ≡ other) × (octets ≡ spelling)
 one_message message other octets spelling rest more h k e =
@@ -227,7 +228,7 @@ one_message message other octets spelling rest more h k e =
     let same : octets ≡ spelling = append_cancel_right octets spelling more (ap (λ (o : List ℕ). octets ++ o) (sym rests) ∙ e) in
     (ok_is message other (sym (message_again octets message h) ∙ ap message_of same ∙ message_again spelling other k), same)
 
--- ---- a binding whose lengths have an octet each
+-- ---- a binding whose lengths have one octet each
 
 short_element : (tag : ℕ) (content : List ℕ) → length content < 128 → IsElement tag content (tag ∷ length content ∷ content)
 short_element tag content small = record { length_octets = length content ∷ []; is_length = inl (record { small = small; one = refl }); parts = refl }
@@ -254,7 +255,7 @@ two_then [] long = absurd (omega arith)
 two_then (a ∷ []) long = absurd (omega arith)
 two_then (a ∷ b ∷ rest) long = refl
 
--- as the code cuts it
+-- the fields of such a binding, as `short_fields_at` splits the octets
 pub short_fields : (octets elements name value behind content rest : List ℕ) (size n v : ℕ) → elements ≡ drop 4 octets → name ≡ take n elements
     → value ≡ drop n elements → behind ≡ drop 2 value → content ≡ take v behind → rest ≡ drop v behind
     → 4 ≤ length octets → get_or octets 0 0 ≡ 0x30 → get_or octets 2 0 ≡ 0x06 → size ≡ get_or octets 1 0 → n ≡ get_or octets 3 0

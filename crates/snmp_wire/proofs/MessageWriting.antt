@@ -1,4 +1,4 @@
--- Messages: the parts before the bindings, how long they are, and how they are written.
+-- The lengths of the parts of a message before its bindings, and how they are written.
 use Rattle.std.proofs.{lemmas.Grind.common_steps, lemmas.Int.to_z-of_z, Math.Nat.add_assoc}
 use Rattle.std.proofs.Common.{◌≡◌, ℕ, ◌+◌, ◌-◌, ◌≤◌, List, ◌++◌, length, sym, ap, ◌∙◌, arith, append_assoc, length-append}
 use Rattle.snmp_wire.specs.Canon.{canon, canon_bindings, canon_fields, canon_front, canon_head, canon_opening}
@@ -29,7 +29,7 @@ pub length-canon_head : (message : Message) (total : ℕ) → length (canon_head
 unfolding canon_head
 length-canon_head message total = length-append (canon_header sequence_tag (length (canon_front message total) + total)) (canon_front message total)
 
--- the sizes of the parts of a head are that of the head
+-- the lengths of the parts of a head add up to the length of the head
 pub sizes_head : (message : Message) (total version community id a b list pdu header : ℕ)
     → version ≡ length (canon_value (integer_value message.version)) → community ≡ length (canon_value (octet_string message.community))
     → id ≡ length (canon_value (integer_value message.id)) → a ≡ length (canon_value (integer_value message.a))
@@ -42,7 +42,7 @@ sizes_head message total version community id a b list pdu header v c i x y l p 
 
 pub ruleset head_sizes = (common_steps, sizes_head, to_z-of_z)
 
--- what stands behind the tag of the PDU is written
+-- what follows the tag and the length of the PDU is written
 pub writes_fields : {old o1 o2 o3 o4 : List ℕ} {list b a id end : ℕ} (message : Message) (total : ℕ) → Writes old list end (canon_header sequence_tag total) o1
     → Writes o1 b list (canon_value (integer_value message.b)) o2 → Writes o2 a b (canon_value (integer_value message.a)) o3
     → Writes o3 id a (canon_value (integer_value message.id)) o4
@@ -50,12 +50,12 @@ pub writes_fields : {old o1 o2 o3 o4 : List ℕ} {list b a id end : ℕ} (messag
 unfolding canon_fields
 writes_fields message total w1 w2 w3 w4 = writes_same (writes_then (writes_then (writes_then w1 w2) w3) w4) (simp append_assoc)
 
--- how many octets they are, with the bindings
+-- the length of the content of the PDU, with its bindings
 pub pdu_content : {old new : List ℕ} {id end : ℕ} (message : Message) (total : ℕ)
     → Writes old id end (canon_fields message ++ canon_header sequence_tag total) new → end - id + total ≡ pdu_size message total
 pdu_content message total w = omega (arith, w.begins, length-append (canon_fields message) (canon_header sequence_tag total))
 
--- the front of the message is written
+-- the part of the head after its first length is written
 pub writes_front : {old o1 o2 o3 o4 : List ℕ} {version community pdu id end : ℕ} (message : Message) (total tag : ℕ) → tag ≡ kind_tag message.kind
     → Writes old id end (canon_fields message ++ canon_header sequence_tag total) o1 → Writes o1 pdu id (canon_header tag (end - id + total)) o2
     → Writes o2 community pdu (canon_value (octet_string message.community)) o3
@@ -66,7 +66,7 @@ writes_front {old} {o1} {o2} {o3} {o4} {version} {community} {pdu} {id} {end} me
     let size : end - id + total ≡ pdu_size message total = pdu_content message total w1 in
     writes_same (writes_then (writes_then (writes_then w1 w2) w3) w4) (rw (e, size) (simp append_assoc))
 
--- and the message's own header before it
+-- the header of the message is written before it
 pub writes_head : {old mid new : List ℕ} {start version end : ℕ} (message : Message) (total : ℕ) → Writes old version end (canon_front message total) mid
     → Writes mid start version (canon_header sequence_tag (end - version + total)) new → Writes old start end (canon_head message total) new
 unfolding canon_head
@@ -74,7 +74,7 @@ writes_head {old} {mid} {new} {start} {version} {end} message total w v =
     let size : end - version ≡ length (canon_front message total) = omega (arith, w.begins) in
     writes_same (writes_then w v) (ap (λ n. canon_header sequence_tag (n + total) ++ canon_front message total) size)
 
--- Each part has room before those that are written.
+-- Each part has room before those that are already written.
 
 pub list_fits : (message : Message) (total end : ℕ) → length (canon_head message total) ≤ end
     → length (canon_fields message) + length (canon_header sequence_tag total) ≤ end
@@ -110,7 +110,7 @@ pub sizes_message : (message : Message) (head total : ℕ) → total ≡ length 
     → head + total ≡ length (canon message)
 sizes_message message head total t h = grind (arith, common_steps, length-canon)
 
--- a head before its bindings
+-- a head is written before its bindings
 pub writes_message : {old mid new : List ℕ} {start head size : ℕ} (message : Message) (total : ℕ) → total ≡ length (canon_bindings message.bindings)
     → Writes old head size (canon_bindings message.bindings) mid → Writes mid start head (canon_head message total) new
     → Writes old start size (canon message) new
@@ -120,7 +120,7 @@ writes_message message total e w v = writes_same (writes_then w v) (ap (λ n. ca
 longer_header : (sizes : ElementSizes) (tag n k : ℕ) → n ≤ k → length (canon_header tag n) ≤ length (canon_header tag k)
 longer_header sizes tag n k h = omega (arith, length-canon_header tag n, length-canon_header tag k, sizes.lengths_rise n k h)
 
--- before more octets of bindings a head is no shorter
+-- a head before more octets of bindings is no shorter
 pub longer_head : (sizes : ElementSizes) (m : Message) (n k : ℕ) → n ≤ k → length (canon_head m n) ≤ length (canon_head m k)
 longer_head sizes m n k h = grind (arith, common_steps, longer_header, length-canon_front, length-canon_head)
 

@@ -1,5 +1,6 @@
--- Contents stand for identifiers, and for their order: where subidentifiers end, which of two is
--- the greater, and what the first octets that differ tell of two names.
+-- The contents of identifiers and their order: where subidentifiers end, which of two is greater,
+-- and what the first octets that differ say of two names. For `encoded_names` (`encoded`) and the
+-- comparisons of `src/name.rt` (`below_decided`, `ends_decide`, `octets_decide`).
 use Rattle.std.proofs.{lemmas.Grind.common_steps, lemmas.Grind.flat_map-append, Math.Nat.mul-le-mul_right, Math.Nat.pow-le-pow_right}
 use Rattle.std.proofs.{Math.Seq.get_or-append_seam, Math.Seq.take-append_seam, lemmas.Nat.mul-add-lt, lemmas.Bool.cases_lt, lemmas.Bool.cases_order}
 use Rattle.std.proofs.{lemmas.Bool.lt-ltb, lemmas.Bool.le-ltb, lemmas.List.Elements.recursion_from_All, lemmas.List.Elements.All-from_get_or}
@@ -24,7 +25,7 @@ use Rattle.snmp_wire.proofs.IdentifierReading.{identifier_again, identifier_take
 
 -- ---- where a subidentifier ends
 
--- how far behind the first octet the last octet of its subidentifier stands
+-- how many octets after the first one the last octet of its subidentifier is
 abbrev pub reach : List ℕ → ℕ
 reach [] = 0
 reach (octet ∷ rest) = cond (ltb octet 128) 0 (suc (reach rest))
@@ -34,13 +35,13 @@ reach_front : (front : List ℕ) (last : ℕ) (rest : List ℕ) → AllByRecursi
 reach_front [] last rest high low = rw (lt-ltb last 128 low) refl
 reach_front (octet ∷ front) last rest high low = rw (le-ltb octet 128 high.0) (ap suc (reach_front front last rest high.1 low))
 
--- so it tells how long a subidentifier is, whatever follows
+-- `reach` determines the length of a subidentifier, whatever follows it
 length_is : (text rest : List ℕ) (n : ℕ) → IsSubidentifier text n → length text ≡ suc (reach (text ++ rest))
 length_is text rest n is =
     let far = reach_front is.front is.last rest (recursion_from_All (λ octet. 128 ≤ octet) is.front is.goes_on) is.ends in
     rw is.parts (omega (arith, far, length_push is.front is.last))
 
--- octets that go on as far as these leave the rest to those behind
+-- if a subidentifier doesn't end within `front`, its end is found in the octets after it
 reach_behind : (front rest : List ℕ) → length front ≤ reach (front ++ rest) → reach (front ++ rest) ≡ length front + reach rest
 reach_behind [] rest h = omega arith
 reach_behind (octet ∷ front) rest h = elim (cases_lt octet 128) [
@@ -48,14 +49,14 @@ reach_behind (octet ∷ front) rest h = elim (cases_lt octet 128) [
   | inr high ↦ rw (le-ltb octet 128 high) (omega (arith, reach_behind front rest (omega (arith, rw (le-ltb octet 128 high) at h))))
 ]
 
--- so it tells from a place within a subidentifier how long that is
+-- `reach` determines the length of a subidentifier from any octet within it
 text_length : (front more text rest : List ℕ) (n : ℕ) → IsSubidentifier text n → front ++ more ≡ text ++ rest → length front < length text
     → length text ≡ suc (length front + reach more)
 text_length front more text rest n is parts low =
     let whole : length text ≡ suc (reach (front ++ more)) = length_is text rest n is ∙ ap (λ (t : List ℕ). suc (reach t)) (sym parts) in
     omega (arith, whole, reach_behind front more (omega (arith, whole, low)))
 
--- the octets from a place on, of which there are some
+-- the octets from index `at` on, of which there is at least one
 abbrev pub octets_from : List ℕ → ℕ → List ℕ
 octets_from content at = get_or content at 0 ∷ drop (at + 1) content
 
@@ -74,11 +75,11 @@ reach_to (suc count) content at end place e =
     let more = reach_to count content (at + 1) end (omega (arith, place)) here in
     rw (le-ltb (get_or content at 0) 128 high, drop_more content (at + 1) 0 (omega (arith, place, e.within))) (ap suc more)
 
--- a subidentifier ends at one place
+-- a subidentifier ends at one index
 pub end_is : (content : List ℕ) (at end : ℕ) → EndsAt content at end → end ≡ at + reach (octets_from content at)
 end_is content at end e = omega (arith, e.behind, reach_to (end - at) content at end (omega (arith, e.behind)) e)
 
--- octets have one subidentifier at their front
+-- octets begin with at most one subidentifier
 one_front : (text rest other more : List ℕ) (n m : ℕ) → IsSubidentifier text n → IsSubidentifier other m → text ++ rest ≡ other ++ more
     → (text ≡ other) × (n ≡ m) × (rest ≡ more)
 one_front text rest other more n m is are e =
@@ -86,7 +87,8 @@ one_front text rest other more n m is are e =
     let same : text ≡ other = cc (take-append_seam text rest, take-append_seam other more) in
     (same, (cc), append_cancel_left text rest more (cc))
 
--- octets that begin with others as long, or longer, begin with these
+-- if a string is a prefix of the octets and `front` is a prefix at least as long, the string is a
+-- prefix of `front`
 inside : (text rest front more : List ℕ) → text ++ rest ≡ front ++ more → length text ≤ length front
     → (back : List ℕ) × (front ≡ text ++ back) × (rest ≡ back ++ more)
 inside [] rest front more e short = (front, refl, e)
@@ -101,7 +103,8 @@ inside (x ∷ text) rest (y ∷ front) more e short =
 pub nothing_alike : (content other : List ℕ) → IsAlike content other 0
 nothing_alike content other = record { short = omega arith; other_short = omega arith; same = λ k low. absurd (omega (arith, low)) }
 
--- more, of some that begin among those that are alike or right behind them
+-- the common octets extend to `end` if those from `from` on, which begin among the common octets
+-- or directly after them, are the same too
 pub more_alike : {octets others : List ℕ} {count : ℕ} (from more end : ℕ) → IsAlike octets others count → from ≤ count → from + more ≡ end
     → end ≤ length octets → end ≤ length others → ((k : ℕ) → k < more → get_or octets (from + k) 0 ≡ get_or others (from + k) 0)
     → IsAlike octets others end
@@ -123,28 +126,32 @@ same_front content other at h = ext_get_or 0 (take at content) (take at other)
     (λ k low. let below : k < at = omega (arith, low, length-take-le at content h.short) in
     get_or-take at content k 0 below ∙ h.same k below ∙ sym (get_or-take at other k 0 below))
 
--- ---- which of two is the greater
+-- ---- which of two numbers is greater
 
--- of as many digits the number with the greater at the first difference
+-- of two numbers with as many digits, the one with the greater digit at the first difference is
+-- greater
 digits_rise : (base : ℕ) (front after behind : List ℕ) (c d : ℕ) → c < d → length after ≡ length behind → AreDigits base after
     → number_of base (front ++ c ∷ after) < number_of base (front ++ d ∷ behind)
 digits_rise base [] after behind c d less size small =
     let bound = mul-add-lt c (base ^ length after) (number_of base after) d less (below_power base after small) in
     omega (arith, bound, ap (λ k. d * base ^ k) size)
-digits_rise base (z ∷ front) after behind c d less size small = grind (arith, common_steps, digits_rise base front after behind c d less size small, length-append)
+digits_rise base (z ∷ front) after behind c d less size small =
+    grind (arith, common_steps, digits_rise base front after behind c d less size small, length-append)
 
--- one of several octets has a first digit
+-- the least value of a subidentifier of several octets
 least_of_several : (text : List ℕ) (n : ℕ) → Octets text → IsSubidentifier text n → 1 < length text → 128 ^ (length text - 1) ≤ n
 least_of_several [] n all is several = absurd (omega arith)
 least_of_several (octet ∷ rest) n all is several =
     let size = length_is (octet ∷ rest) [] n is in
     let high : 128 ≤ octet = ⊎_elim (λ low. absurd (omega (arith, several, rw (lt-ltb octet 128 low) at size))) (λ high. high) (cases_lt octet 128) in
-    let digit : 1 ≤ octet % 128 = ⊎_elim (λ zero_digit. absurd (is.minimal (omega (arith, zero_digit, high, all.0)))) (λ some. some) (cases_lt (octet % 128) 1) in
+    let digit : 1 ≤ octet % 128 =
+    ⊎_elim (λ zero_digit. absurd (is.minimal (omega (arith, zero_digit, high, all.0)))) (λ some. some) (cases_lt (octet % 128) 1) in
     let power : 1 * 128 ^ length (low_bits rest) ≤ octet % 128 * 128 ^ length (low_bits rest) = mul-le-mul_right (128 ^ length (low_bits rest)) digit in
     let places : length (low_bits rest) ≡ length (octet ∷ rest) - 1 = omega (arith, length-low_bits rest) in
     omega (arith, power, ap (λ k. 128 ^ k) places, is.value)
 
--- of two octets behind which as many follow both go on, or neither does
+-- if two octets are followed by as many octets of their subidentifiers, both or neither of them
+-- have the high bit, so the smaller octet has the smaller digit
 digit_rises : (x y : ℕ) (xs ys : List ℕ) → reach (x ∷ xs) ≡ reach (y ∷ ys) → x < 256 → y < 256 → x < y → x % 128 < y % 128
 digit_rises x y xs ys e small other_small less = elim (cases_lt x 128) [
   | inl low ↦ elim (cases_lt y 128) [
@@ -184,7 +191,7 @@ first_is_smaller text other n m all others is are (inr (size, inr p)) = parts_ri
     (subst (λ (t : List ℕ). IsSubidentifier t m) p.that are)
     (omega (arith, size, simp length-append at (ap length p.this), simp length-append at (ap length p.that))) p.is_smaller
 
--- a number has one text
+-- a subidentifier has only one encoding
 one_text : (text other : List ℕ) (n : ℕ) → Octets text → Octets other → IsSubidentifier text n → IsSubidentifier other n → text ≡ other
 one_text text other n h k is are = elim (cases_order (length text) (length other)) [
   | inl size ↦ same_subidentifier text other n h k size is are
@@ -192,7 +199,7 @@ one_text text other n h k is are = elim (cases_order (length text) (length other
   | inr (inr more) ↦ absurd (omega (arith, first_is_smaller other text n n k h are is (inl more)))
 ]
 
--- subidentifiers have one content
+-- a list of subidentifiers has only one content
 pub one_content_of : (ns content other : List ℕ) → Octets content → Octets other → AreSubidentifiers content ns → AreSubidentifiers other ns → content ≡ other
 one_content_of [] content other h k are others = are ∙ sym others
 one_content_of (n ∷ ns) content other h k (text, rest, parts, is, are) (text2, rest2, parts2, is2, are2) =
@@ -208,7 +215,7 @@ canonical content name h is = grind (arith, common_steps, one_content_of, name_o
 
 -- ---- the order of identifiers
 
--- what the identifiers' own law states
+-- the law `order` of identifiers
 pub record OrderLaw : Type 0 where
   pub less : (o p : List ℕ) → (slice_cmp nat_cmp o p ≡ Less) ↔ Precedes o p
   pub equal : (o p : List ℕ) → (slice_cmp nat_cmp o p ≡ Equal) ↔ (o ≡ p)
@@ -233,13 +240,13 @@ names_rise law o p wire other h = (law.less (subidentifiers o) (subidentifiers p
 pub names_fall : OrderLaw → (o p : List ℕ) → IsWire o → IsWire p → Precedes (subidentifiers o) (subidentifiers p) → Precedes o p
 names_fall law o p wire other h = (law.less o p).0 (same_order o p wire other ∙ (law.less (subidentifiers o) (subidentifiers p)).1 h)
 
--- what follows a name follows its subidentifiers
+-- the subidentifiers of a longer name are those of its prefix, and then its further numbers
 follows : (p rest : List ℕ) → IsWire p → subidentifiers (p ++ rest) ≡ subidentifiers p ++ rest
 follows [] rest wire = absurd wire
 follows (x ∷ []) rest wire = absurd wire
 follows (x ∷ y ∷ more) rest wire = refl
 
--- and the other way
+-- if the subidentifiers of `o` begin with those of `p`, then `o` begins with `p`
 followed : (o p rest : List ℕ) → IsWire o → IsWire p → subidentifiers o ≡ subidentifiers p ++ rest → o ≡ p ++ rest
 followed [] p rest wire other e = absurd wire
 followed (x ∷ []) p rest wire other e = absurd wire
@@ -249,12 +256,12 @@ followed (x ∷ y ∷ more) (z ∷ w ∷ others) rest wire other e = grind (arit
 
 -- ---- contents of subidentifiers
 
--- the content of some numbers has octets
+-- only an empty list of numbers has empty content
 none_of_none : (rest : List ℕ) → flat_map canon_subidentifier rest ≡ [] → rest ≡ []
 none_of_none [] e = refl
 none_of_none (n ∷ more) e = absurd (omega (arith, simp (length-append, length-canon_subidentifier) at (ap length e), size_some n))
 
--- what goes on behind a content has its subidentifiers first
+-- if a content continues another, so do its subidentifiers
 goes_on : (ns ms content rest : List ℕ) → AreSubidentifiers content ns → AreSubidentifiers (content ++ rest) ms
     → (more : List ℕ) × (ms ≡ ns ++ more) × AreSubidentifiers rest more
 goes_on [] ms content rest are others = (ms, refl, subst (λ (t : List ℕ). AreSubidentifiers (t ++ rest) ms) are others)
@@ -273,7 +280,7 @@ content_ends (n ∷ ns) content (text, octet ∷ rest, parts, is, are) some =
     let e = content_ends ns (octet ∷ rest) are (omega arith) in
     (text ++ e.0, e.1, e.2, parts ∙ ap (λ (t : List ℕ). text ++ t) e.3 ∙ sym (append_assoc text e.0 (e.1 ∷ [])))
 
--- so an octet that goes on isn't the last
+-- so an octet with its high bit set isn't the last octet of a content
 pub more_octets : (content : List ℕ) (at : ℕ) → IsOk (identifier_of content) → at < length content → 128 ≤ get_or content at 0
     → at + 1 < length content
 more_octets content at ok within high =
@@ -290,11 +297,13 @@ more_octets content at ok within high =
 
 -- ---- the first octets that differ
 
--- of the subidentifiers that the first octets belong to the one ends first, or both at once and the one has the smaller octet
+-- the subidentifier at the start of `octets` ends before the one at the start of `others`, or both
+-- end together and its first octet is smaller
 abbrev pub EndsFirst : List ℕ → List ℕ → Type 0
 EndsFirst octets others = (reach octets < reach others) ⊎ ((reach octets ≡ reach others) × (get_or octets 0 0 < get_or others 0 0))
 
--- within one subidentifier of each
+-- if the first octets that differ are within a subidentifier of each content, and the one of
+-- `text` ends first, `text` comes first
 text_first : (front xs ys text rest other more : List ℕ) (n m : ℕ) → IsSubidentifier text n → IsSubidentifier other m → front ++ xs ≡ text ++ rest
     → front ++ ys ≡ other ++ more → length front < length text → length front < length other → EndsFirst xs ys → ComesFirst text other
 text_first front xs ys text rest other more n m is are parts others low other_low first =
@@ -315,7 +324,8 @@ text_first front xs ys text rest other more n m is are parts others low other_lo
         let smaller : x < y = omega (arith, less, ap (λ (t : List ℕ). get_or t 0 0) g, ap (λ (t : List ℕ). get_or t 0 0) h) in
         record { front = front; smaller = x; larger = y; after = tail; behind = back; this = e; that = f; is_smaller = smaller }
 
--- behind octets that are the same
+-- if two contents differ after a common prefix, and the first one ends first there, its
+-- subidentifiers are the smaller ones
 first_differs : (ns ms front xs ys : List ℕ) → Octets (front ++ xs) → Octets (front ++ ys) → AreSubidentifiers (front ++ xs) ns
     → AreSubidentifiers (front ++ ys) ms → 0 < length xs → 0 < length ys → EndsFirst xs ys → slice_cmp nat_cmp ns ms ≡ Less
 first_differs [] ms front xs ys h k are others some some2 first = absurd (omega (arith, ap length are, length-append front xs, some))
@@ -351,18 +361,18 @@ one_name content o p is are = ok_is o p (sym (identifier_again content o is) ∙
 pub one_content : (content other o : List ℕ) → AreOctets content → AreOctets other → IsObjectId content o → IsObjectId other o → content ≡ other
 one_content content other o h k is are = one_content_of (subidentifiers o) content other (octets_by content h) (octets_by other k) is.parts are.parts
 
--- a content that is read is a name's
+-- a content that can be decoded is the content of a name
 pub is_name : (content : List ℕ) → IsOk (identifier_of content) → IsObjectId content (identifier_in content)
 is_name content ok =
     let read = ok_value (identifier_of content) ok in
     let name : identifier_in content ≡ read.0 = ap (λ (r : Result (List ℕ) BerError). result_unwrap_or r []) read.1 in
     subst (λ (o : List ℕ). IsObjectId content o) (sym name) (identifier_takes content read.0 read.1)
 
--- and of that name alone
+-- and it is the content of no other name
 pub identifier_is : (content name : List ℕ) → IsObjectId content name → identifier_in content ≡ name
 identifier_is content name is = ap (λ (r : Result (List ℕ) BerError). result_unwrap_or r []) (identifier_again content name is)
 
--- so it is of octets that are the content
+-- the same for octets that equal the content
 pub content_octets : (content octets name : List ℕ) → octets ≡ content → AreOctets content → IsObjectId content name
     → IsContentOctets octets × (identifier_in octets ≡ name)
 content_octets content octets name same h is = grind (arith, common_steps, is_ok_at, identifier_again, identifier_is)
@@ -370,7 +380,8 @@ content_octets content octets name same h is = grind (arith, common_steps, is_ok
 pub content_short : (name : List ℕ) → length name ≤ 128 → length (canon_content (object_id name)) ≤ 640
 content_short name few = omega (arith, length-name name, few)
 
--- the content is the root's, and then the subidentifiers of the numbers behind it, of which there are some
+-- the content of a name below a root is the root's content, and then the subidentifiers of the
+-- further numbers, of which there is at least one
 pub below_from_names : (content root o p : List ℕ) → AreOctets content → AreOctets root → IsObjectId content o → IsObjectId root p → IsBelow o p
     → IsBelow content root
 below_from_names content root o p h k is are (rest, some, e) =
@@ -379,7 +390,7 @@ below_from_names content root o p h k is are (rest, some, e) =
 pub below_from_contents : (content root o p : List ℕ) → IsObjectId content o → IsObjectId root p → IsBelow content root → IsBelow o p
 below_from_contents content root o p is are (rest, some, e) = grind (arith, common_steps, goes_on, followed)
 
--- of two subidentifiers the smaller comes first
+-- the smaller of two subidentifiers comes first
 smaller_is_first : OrderLaw → (text other : List ℕ) (n m : ℕ) → AreOctets text → AreOctets other → IsSubidentifier text n → IsSubidentifier other m
     → n < m → ComesFirst text other
 smaller_is_first law text other n m h k is are less =
@@ -401,12 +412,13 @@ encoded law = record {
   one_content = one_content;
   below = λ content root o p h k is are. (below_from_names content root o p h k is are, below_from_contents content root o p is are);
   names_order = λ o p wire other. (names_rise law o p wire other, names_fall law o p wire other);
-  octets_order = λ text other n m h k is are. (smaller_is_first law text other n m h k is are, first_is_smaller text other n m (octets_by text h) (octets_by other k) is are);
+  octets_order = λ text other n m h k is are. (smaller_is_first law text other n m h k is are,
+      first_is_smaller text other n m (octets_by text h) (octets_by other k) is are);
 }
 
--- ---- what the first octets that differ tell of two names
+-- ---- what the first octets that differ say of two names
 
--- two contents, the names that they are, and how many octets at their front are the same
+-- two contents, the names that they encode, and the length of their common prefix
 pub record Beside (content other o p : List ℕ) (at : ℕ) : Type 0 where
   pub octets : AreOctets content
   pub other_octets : AreOctets other
@@ -427,7 +439,7 @@ beside {content} {other} {o} {p} small other_small e f alike = record {
 turned : {content other o p : List ℕ} {at : ℕ} → Beside content other o p at → Beside other content p o at
 turned {content} {other} {o} {p} {at} b = grind (arith, common_steps, alike_back)
 
--- the names are in the order of the first octets that differ
+-- the names are ordered as the first octets that differ say
 names_differ : OrderLaw → {content other o p : List ℕ} {at : ℕ} → Beside content other o p at → at < length content → at < length other
     → EndsFirst (octets_from content at) (octets_from other at) → Precedes o p
 names_differ law {content} {other} {o} {p} {at} b low other_low first =
@@ -439,7 +451,7 @@ names_differ law {content} {other} {o} {p} {at} b low other_low first =
     (subst (λ (t : List ℕ). AreSubidentifiers t (subidentifiers o)) this b.is.parts)
     (subst (λ (t : List ℕ). AreSubidentifiers t (subidentifiers p)) that b.are.parts) (omega arith) (omega arith) first)
 
--- names compare as numbers do that decide
+-- names compare as two numbers do that determine their order
 decided : OrderLaw → (o p : List ℕ) (x y : ℕ) → (x < y → Precedes o p) → (x ≡ y → o ≡ p) → (y < x → Precedes p o)
     → nat_cmp x y ≡ slice_cmp nat_cmp o p
 decided law o p x y less same more = elim (cases_order x y) [
@@ -448,9 +460,9 @@ decided law o p x y less same more = elim (cases_order x y) [
   | inr (inr e) ↦ sym (nat_cmp_is x y Greater e) ∙ sym ((law.greater o p).1 (more e))
 ]
 
--- ---- where one of two contents is at its end
+-- ---- one of two contents ends
 
--- the longer begins with the shorter
+-- the longer content begins with the shorter
 goes_behind : (content other : List ℕ) (at : ℕ) → IsAlike content other at → at ≡ length other → length other < length content → IsBelow content other
 goes_behind content other at h e longer = (
   drop at content,
@@ -467,14 +479,16 @@ pub one_ends : OrderLaw → {content other o p : List ℕ} {at : ℕ} → Beside
 one_ends law {content} {other} {o} {p} {at} b end = decided law o p (length content) (length other)
     (λ less. inl (longer_below (turned b) (at_end (λ e. e) (λ e. omega (arith, e, less, b.alike.short))) less))
     (λ same. let e : at ≡ length content = at_end (λ e. e) (λ e. omega (arith, e, same)) in
-    let equal : content ≡ other = sym (take_all at content (omega (arith, e))) ∙ same_front content other at b.alike ∙ take_all at other (omega (arith, e, same)) in
+    let equal : content ≡ other =
+    sym (take_all at content (omega (arith, e))) ∙ same_front content other at b.alike ∙ take_all at other (omega (arith, e, same)) in
     one_name content o p b.is (subst (λ (t : List ℕ). IsObjectId t p) (sym equal) b.are))
     (λ more. inl (longer_below b (at_end (λ e. omega (arith, e, more, b.alike.other_short)) (λ e. e)) more))
   where
     at_end : {n : ℕ} → (at ≡ length content → at ≡ n) → (at ≡ length other → at ≡ n) → at ≡ n
     at_end {n} this that = ⊎_elim this that end
 
--- a name is below a root where its content is longer, and no octet of the root's differs
+-- a name is below a root if and only if its content is longer and has no octet that differs from
+-- the root's
 pub below_decided : (content root o p : List ℕ) (at : ℕ) → Beside content root o p at → length root < length content
     → (at < length content → at < length root → get_or content at 0 ≡ get_or root at 0 → ⊥) → (at ≡ length root) ↔ IsBelow o p
 below_decided content root o p at b longer differs = (
@@ -488,13 +502,14 @@ below_decided content root o p at b longer differs = (
         (λ no_less. omega (arith, no_less, b.alike.other_short))
         (cases_lt at (length root))
 
--- no shorter name is below a root
+-- no name with a content that isn't longer is below a root
 pub none_below : {content root o p : List ℕ} {at : ℕ} → Beside content root o p at → length content ≤ length root → IsBelow o p → ⊥
 none_below {content} {root} {o} {p} b short below = grind (arith, common_steps, below_longer, below_from_names)
 
--- ---- where two octets differ
+-- ---- two octets differ
 
--- a number of each decides, where the smaller one's subidentifier ends first, or at once
+-- two numbers compare as the names if the subidentifier with the smaller number ends first, or
+-- ends together with the other and has the smaller octet
 differ_decide : OrderLaw → {content other o p : List ℕ} {at : ℕ} (x y : ℕ) → Beside content other o p at → at < length content → at < length other
     → (x ≡ y → ⊥) → (x < y → EndsFirst (octets_from content at) (octets_from other at))
     → (y < x → EndsFirst (octets_from other at) (octets_from content at)) → nat_cmp x y ≡ slice_cmp nat_cmp o p
@@ -503,7 +518,7 @@ differ_decide law {content} {other} {o} {p} {at} x y b low other_low differ this
     (λ same. absurd (differ same))
     (λ more. names_differ law (turned b) other_low low (that more))
 
--- the one ends first
+-- if one subidentifier ends before the other, the indices of their ends decide
 pub ends_decide : OrderLaw → {content other o p : List ℕ} {at end last : ℕ} → Beside content other o p at → at < length content → at < length other
     → EndsAt content at end → EndsAt other at last → (end ≡ last → ⊥) → nat_cmp end last ≡ slice_cmp nat_cmp o p
 ends_decide law {content} {other} {o} {p} {at} {end} {last} b low other_low e f differ =
@@ -511,7 +526,7 @@ ends_decide law {content} {other} {o} {p} {at} {end} {last} b low other_low e f 
     let that = end_is other at last f in
     differ_decide law end last b low other_low differ (λ less. inl (omega (arith, less, this, that))) (λ more. inl (omega (arith, more, this, that)))
 
--- where either octet is the smaller, its subidentifier ends first, or at once
+-- whichever octet is smaller, its subidentifier ends first, or both end together
 abbrev pub EndsBy : List ℕ → List ℕ → ℕ → Type 0
 EndsBy content other at =
     (get_or content at 0 < get_or other at 0 → EndsFirst (octets_from content at) (octets_from other at))
@@ -528,7 +543,7 @@ both_go_on {content} {other} {at} {end} {last} e f same =
     let far : reach (octets_from content at) ≡ reach (octets_from other at) = omega (arith, same, end_is content at end e, end_is other at last f) in
     (λ less. inr (far, less), λ more. inr (sym far, more))
 
--- a last octet ends at once
+-- an octet that is the last of its subidentifier ends first if it is the smaller one
 last_first : (content other : List ℕ) (at : ℕ) → get_or content at 0 < 128 → get_or content at 0 < get_or other at 0
     → EndsFirst (octets_from content at) (octets_from other at)
 last_first content other at last less =

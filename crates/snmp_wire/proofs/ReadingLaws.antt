@@ -1,105 +1,105 @@
--- Lemmas on the steps of a reading that may fail, for proofs of values and messages.
+-- The steps of a decoding that may fail, for proofs about values and messages.
 use Rattle.std.proofs.{lemmas.Grind.common_steps, lemmas.Bool.eqb-true, lemmas.Bool.eqb-false, lemmas.List.nil_from_length}
 use Rattle.std.proofs.Common.{◌≡◌, ◌≢◌, ℕ, ◌<◌, Bool, true, false, cond, eqb, List, [], length, Result, Ok, Err, IsOk, is_ok, refl, sym, ap, subst}
 use Rattle.std.proofs.Common.{◌∙◌, arith}
 use Rattle.snmp_wire.specs.{declared.ber.error.BerError.BerError, ber.Reading.◌>>=◌, ber.Reading.checked, ber.Reading.fault_or}
 
--- a reading that returned x
+-- a decoding that returned `x`
 abbrev pub done : {A : Type 0} → A → Result A BerError
 done x = Ok x
 
--- a reading that failed
+-- a decoding that failed
 abbrev pub failed : {A : Type 0} → BerError → Result A BerError
 failed e = Err e
 
--- one reading returns one value
+-- a decoding returns at most one value
 pub ok_is : {A : Type 0} (x y : A) → done x ≡ done y → x ≡ y
 ok_is x y e = cc
 
--- and fails by one fault
+-- a decoding fails with at most one fault
 pub err_is : {A : Type 0} (d e : BerError) → failed {A = A} d ≡ failed e → d ≡ e
 err_is d e h = cc
 
--- a reading that is Ok doesn't fail
+-- a decoding that is `Ok` doesn't fail
 pub never_err : {A : Type 0} (r : Result A BerError) (e : BerError) → IsOk r → r ≡ Err e → ⊥
 never_err (Ok x) e h f = cc
 never_err (Err d) e h f = absurd cc
 
--- a reading that is Ok returned a value
+-- a decoding that is `Ok` returned a value
 pub ok_value : {A : Type 0} (r : Result A BerError) → IsOk r → (x : A) × (r ≡ Ok x)
 ok_value (Ok x) h = (x, refl)
 ok_value (Err d) h = absurd cc
 
--- a reading that returned a value is Ok
+-- a decoding that returned a value is `Ok`
 pub is_ok_at : {A : Type 0} (r : Result A BerError) (x : A) → r ≡ Ok x → IsOk r
 is_ok_at r x h = ap is_ok h
 
--- where two steps returned a value, so did the first
+-- if two steps returned a value, so did the first
 pub bind_ok : {A B : Type 0} (r : Result A BerError) (f : A → Result B BerError) (y : B)
     → (r >>= f) ≡ Ok y → (x : A) × (r ≡ Ok x) × (f x ≡ Ok y)
 bind_ok (Ok x) f y e = (x, refl, e)
 bind_ok (Err d) f y e = absurd cc
 
--- after a first step, two second steps return the same if they do so for the value of the first
+-- after a first step, two second steps return the same if they do for the value of the first
 pub bind_same : {A B : Type 0} (r : Result A BerError) (f g : A → Result B BerError)
     → ((x : A) → r ≡ Ok x → f x ≡ g x) → (r >>= f) ≡ (r >>= g)
 bind_same (Ok x) f g h = h x refl
 bind_same (Err d) f g h = refl
 
--- where a value was returned, a test that fails by false was true
+-- if a value was returned, a test whose `false` branch fails was true
 pub passed : {A : Type 0} (b : Bool) (r : Result A BerError) (d : BerError) (y : A)
     → cond b r (Err d) ≡ Ok y → (b ≡ true) × (r ≡ Ok y)
 passed true r d y e = (refl, e)
 passed false r d y e = absurd cc
 
--- where a value was returned, a test that fails by true was false
+-- if a value was returned, a test whose `true` branch fails was false
 pub refused : {A : Type 0} (b : Bool) (r : Result A BerError) (d : BerError) (y : A)
     → cond b (Err d) r ≡ Ok y → (b ≡ false) × (r ≡ Ok y)
 refused true r d y e = absurd cc
 refused false r d y e = (refl, e)
 
--- a failure is a failure whether or not the value is kept
+-- a decoding that fails also fails without its value
 pub checked_err : {A : Type 0} (r : Result A BerError) (e : BerError)
     → r ≡ Err e → checked r ≡ Err e
 checked_err r e h = rw h refl
 
--- a check that fails is of a reading that fails
+-- if a decoding without its value fails, so does the decoding
 pub err_checked : {A : Type 0} (r : Result A BerError) (e : BerError)
     → checked r ≡ Err e → r ≡ Err e
 err_checked (Ok x) e h = absurd cc
 err_checked (Err d) e h = cc
 
--- a check that passes is of a reading that returns a value
+-- if a decoding without its value is `Ok`, the decoding returned a value
 pub ok_checked : {A : Type 0} (r : Result A BerError) (u : Unit {0})
     → checked r ≡ Ok u → (x : A) × (r ≡ Ok x)
 ok_checked (Ok x) u h = (x, refl)
 ok_checked (Err d) u h = absurd cc
 
--- what is tested not to be empty has an octet
+-- octets that were found not to be empty have at least one octet
 pub some_left : (octets : List ℕ) (is_empty : Bool)
     → is_empty ≡ eqb (length octets) 0 → is_empty ≡ false → 0 < length octets
 some_left octets is_empty e none = grind (arith, common_steps, eqb-false)
 
--- what is tested to be empty has none
+-- octets that were found to be empty have none
 pub none_left : (octets : List ℕ) (is_empty : Bool)
     → is_empty ≡ eqb (length octets) 0 → is_empty ≡ true → length octets ≡ 0
 none_left octets is_empty e none = eqb-true (length octets) 0 (sym e ∙ none)
 
--- ---- what a reading gives
+-- ---- what is known of the result of a decoding
 
--- a reading returned a value for which `is` holds, or a fault for which `fails` holds
+-- a decoding returned a value that satisfies `is`, or a fault that satisfies `fails`
 pub data Gives {A : Type 0} (is : A → Type 0) (fails : BerError → Type 0) : Result A BerError → Type 0
   where
     a_value : (x : A) → is x → Gives is fails (Ok x)
     a_fault : (e : BerError) → fails e → Gives is fails (Err e)
 
--- a reading gives what is true of the value or the fault that it returned
+-- how to show `Gives`: by what is true of the value or the fault that was returned
 pub gives : {A : Type 0} {is : A → Type 0} {fails : BerError → Type 0} (r : Result A BerError)
     → ((x : A) → r ≡ Ok x → is x) → ((e : BerError) → r ≡ Err e → fails e) → Gives is fails r
 gives (Ok x) value fault = a_value x (value x refl)
 gives (Err e) value fault = a_fault e (fault e refl)
 
--- what a reading gives is true of the value or the fault that it returned
+-- if `Gives` holds and a value was returned, it satisfies `is`
 pub given : {A : Type 0} {is : A → Type 0} {fails : BerError → Type 0} {r : Result A BerError}
     (x : A) → Gives is fails r → r ≡ Ok x → is x
 given {A} {is} x (a_value y h) e = subst is (ok_is y x e) h
@@ -110,14 +110,14 @@ pub failing : {A : Type 0} {is : A → Type 0} {fails : BerError → Type 0} {r 
 failing d (a_value y h) e = absurd cc
 failing {A} {is} {fails} d (a_fault c h) e = subst fails (err_is {A = A} c d e) h
 
--- two steps give what the second gives from a value of the first
+-- two steps give what the second gives for a value of the first
 pub gives_then : {A B : Type 0} {is : A → Type 0} {also : B → Type 0} {fails : BerError → Type 0}
     {r : Result A BerError} (f : A → Result B BerError)
     → Gives is fails r → ((x : A) → is x → Gives also fails (f x)) → Gives also fails (r >>= f)
 gives_then f (a_value x h) next = next x h
 gives_then f (a_fault e h) next = a_fault e h
 
--- a test gives what either side does
+-- a choice gives what both of its branches give
 pub gives_either : {A : Type 0} {is : A → Type 0} {fails : BerError → Type 0}
     {r s : Result A BerError} (b : Bool)
     → (b ≡ true → Gives is fails r) → (b ≡ false → Gives is fails s)
@@ -125,7 +125,7 @@ pub gives_either : {A : Type 0} {is : A → Type 0} {fails : BerError → Type 0
 gives_either true first second = first refl
 gives_either false first second = second refl
 
--- a reading gives also what follows from what it gives
+-- a decoding also gives what follows from what it gives
 pub gives_so : {A : Type 0} {is so : A → Type 0} {fails also : BerError → Type 0}
     {r : Result A BerError}
     → ((x : A) → is x → so x) → ((e : BerError) → fails e → also e) → Gives is fails r
@@ -133,7 +133,7 @@ pub gives_so : {A : Type 0} {is so : A → Type 0} {fails also : BerError → Ty
 gives_so value fault (a_value x h) = a_value x (value x h)
 gives_so value fault (a_fault e h) = a_fault e (fault e h)
 
--- a value is returned where no octets are left, and a fault where some are
+-- a value is returned if no octets are left, and a fault if some are
 pub gives_end : {A : Type 0} {is : A → Type 0} {fails : BerError → Type 0} {r : Result A BerError}
     (d : BerError) (rest : List ℕ) → (rest ≡ [] → Gives is fails r) → (rest ≢ [] → fails d)
     → Gives is fails (cond (eqb (length rest) 0) r (Err d))
@@ -146,13 +146,14 @@ pub gives_all : {A : Type 0} {is : A → Type 0} {fails : BerError → Type 0} {
     → Gives (λ x. is x × (rest ≡ [])) fails (cond (eqb (length rest) 0) r (Err d))
 gives_all d rest h left = gives_end d rest (λ none. gives_so (λ x value. (value, none)) (λ e fault. fault) h) left
 
--- what a reading gives of its fault, and its value says of another, is true of `fault_or`
+-- if the fault of a decoding satisfies `fails`, and its value implies that `d` does, so does
+-- `fault_or`
 pub gives_fault : {A : Type 0} {is : A → Type 0} (fails : BerError → Type 0)
     {r : Result A BerError} (d : BerError) → Gives is fails r → ((x : A) → is x → fails d)
     → fails (fault_or r d)
 gives_fault fails d (a_value x h) other = other x h
 gives_fault fails d (a_fault e h) other = h
 
--- any reading gives a value or a fault of which nothing is said
+-- any decoding gives a value or a fault, of which nothing is said
 pub gives_any : {A : Type 0} (r : Result A BerError) → Gives (λ x. Unit {0}) (λ e. Unit {0}) r
 gives_any r = gives r (λ x e. tt) (λ d e. tt)

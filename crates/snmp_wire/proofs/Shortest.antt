@@ -1,5 +1,5 @@
--- Numbers, lengths, elements and values as they are written are forms by the standard. None is
--- shorter, and one that is no longer is the one that is written.
+-- What is written of numbers, lengths, elements and values encodes them strictly (`spells_value`).
+-- No strict encoding is shorter, and none of the same length is another (`value_least`).
 use Rattle.std.proofs.{lemmas.Grind.common_steps, lemmas.Int.ints, lemmas.Bool.cases_lt, lemmas.Bool.Decides.nat_tests, lemmas.Nat.mul-add-lt}
 use Rattle.std.proofs.Common.{◌≡◌, ℕ, ℤ, pos, negsuc, ◌+◌, ◌-◌, ◌-ℤ◌, ◌*◌, ◌/◌, ◌%◌, ◌^◌, ◌<◌, ◌≤◌, suc, List, ◌∷◌, length, get_or, sym, ap, subst}
 use Rattle.std.proofs.Common.{◌∙◌, inl, inr, ⊎_elim, lit<, arith, refl, lit≤, [], ◌++◌, length-append}
@@ -23,7 +23,7 @@ use Rattle.snmp_wire.proofs.IdentifierWriting.{is_object_id, length-name, name_o
 
 -- ---- numbers
 
--- the first octet
+-- the first octet of a number
 first_octet : (count n : ℕ) → get_or (octets (suc count) n) 0 0 ≡ n / 256 ^ count % 256
 first_octet count n = ap (λ ds. get_or ds 0 0) (digits-suc 256 count n)
 
@@ -33,7 +33,7 @@ first_below count n h = grind (arith, common_steps, div-lt_iff_lt-mul, one-le-po
 first_above : (count n : ℕ) → 128 * 256 ^ count ≤ n → n < 256 ^ suc count → 128 ≤ get_or (octets (suc count) n) 0 0
 first_above count n low high = grind (arith, common_steps, le-div_iff_mul-le, one-le-pow, div-lt_iff_lt-mul, pow-suc, first_octet)
 
--- a number of so many octets of two's complement, one less of them given
+-- the number of octets that `n` takes in two's complement, and the bound on `n` that follows
 sized_number : (n : ℕ) → n < 2 ^ 64 → (less : ℕ) × (number_size n ≡ suc less) × (n < 128 * 256 ^ less)
 unfolding number_size
 sized_number n h = let s = sized 256 128 8 n (omega arith) in (s.less, s.size, s.below)
@@ -47,7 +47,7 @@ negative content h = grind (arith, nat_tests)
 pub minus : (u n power : ℕ) → u + (n + 1) ≡ power → pos u -ℤ pos power ≡ negsuc n
 minus u n power e = omega (arith, ints)
 
--- from zero
+-- numbers from zero
 unsigned_is_strict : (n : ℕ) → n < 2 ^ 64 → (get_or (canon_number (pos n)) 0 0 < 128) × (unsigned (canon_number (pos n)) ≡ n)
 unsigned_is_strict n h =
     let s = sized_number n h in
@@ -56,7 +56,7 @@ unsigned_is_strict n h =
       sym (ap unsigned text) ∙ digits_value 256 (suc s.0) n (lit< tt) (omega (arith, s.2, pow-suc 256 s.0)),
     )
 
--- below zero
+-- negative numbers
 negative_value : (n : ℕ) → n < 2 ^ 31 → twos_complement (canon_number (negsuc n)) ≡ negsuc n
 negative_value n small =
     let s = sized_number n (omega arith) in
@@ -80,7 +80,7 @@ is_integer z fits = record {
     value (pos n) fits = let u = unsigned_is_strict n (omega (arith, fits)) in positive (canon_number (pos n)) u.0 ∙ ap pos u.1
     value (negsuc n) fits = negative_value n (omega (arith, fits))
 
--- a number of at most `width` octets, or one more where its high bit is set
+-- a number below `256 ^ width` takes at most `width` octets, or one octet more, which is zero
 pub is_unsigned_of : (width n : ℕ) → width ≤ 8 → n < 256 ^ width → IsUnsigned strict width (canon_number (pos n)) n
 is_unsigned_of width n narrow h =
     let wide : 256 ^ width ≤ 256 ^ 8 = pow-le-pow_right (lit< tt) narrow in
@@ -150,7 +150,8 @@ pub length-number : (z : ℤ) → length (canon_number z) ≤ 9
 unfolding number_size
 length-number z = omega (arith, length-canon_number z, digit_most 256 128 8 (magnitude_of z))
 
--- the content of a value in range: a form by the standard, of octets, not too long
+-- the content that is written of a value: it encodes the value strictly, consists of octets, and
+-- has at most 65535
 pub record IsGood (value : Datum) : Type 0 where
   pub is_content : IsContent strict value (canon_content value)
   pub are_octets : Octets (canon_content value)
@@ -176,7 +177,7 @@ tag_fits : (value : Datum) → value_tag value < 256
 tag_fits null_value = lit< tt
 tag_fits value = lit< tt
 
--- octets that are a strict form of something, and not too long
+-- what is written of a value in range is a strict encoding
 pub spells_value : (value : Datum) → IsInRange value → SpellsValue strict value (canon_value value)
 unfolding canon_value
 spells_value value h =
@@ -191,9 +192,10 @@ pub value_short : (value : Datum) → IsInRange value → length (canon_value va
 unfolding canon_value
 value_short value h = omega (arith, element_most (value_tag value) (canon_content value), (good value h).short)
 
--- ---- no form by the standard is shorter than the one that is written, and one that is no longer is that
+-- ---- no strict encoding is shorter than the one that is written, and none of the same length is
+-- another
 
--- the text is as long as the one that is made, or longer; where it is no longer it is the same
+-- `text` isn't shorter than `made`, and if it isn't longer either, they are the same
 pub record IsNoShorter (made text : List ℕ) : Type 0 where
   pub least : length made ≤ length text
   pub one : length text ≤ length made → text ≡ made
@@ -201,13 +203,14 @@ pub record IsNoShorter (made text : List ℕ) : Type 0 where
 pub same_text : {made text : List ℕ} → text ≡ made → IsNoShorter made text
 same_text e = record { least = omega (arith, ap length e); one = λ short. e }
 
--- so are two one after the other
+-- the same for two strings, one after the other
 pub both_texts : {a b c d : List ℕ} → IsNoShorter a c → IsNoShorter b d → IsNoShorter (a ++ b) (c ++ d)
 both_texts {a} {b} {c} {d} this that = grind (arith, common_steps, length-append)
 
 -- ---- numbers
 
--- octets of two's complement hold the number, and where it takes as many they are the ones that are written
+-- octets in two's complement bound the number, and if they are as many as it takes, they are the
+-- ones that are written
 number_is : (first : ℕ) (rest : List ℕ) (z : ℤ) → Octets (first ∷ rest) → twos_complement (first ∷ rest) ≡ z
     → (magnitude_of z < 128 * 256 ^ length rest) × (suc (length rest) ≡ number_size (magnitude_of z) → first ∷ rest ≡ canon_number z)
 number_is first rest z h e =
@@ -235,7 +238,7 @@ number_least : (content : List ℕ) (z : ℤ) → Octets content → 1 ≤ lengt
 number_least [] z h some e = absurd (omega (arith, some))
 number_least (first ∷ rest) z h some e = grind (arith, common_steps, number_is, number_small, length-canon_number)
 
--- four octets are of 32 bits
+-- an INTEGER of at most four octets fits 32 bits
 pub signed_fits : (content : List ℕ) (z : ℤ) → Octets content → IsInteger content z → SFits w32 z
 signed_fits [] z h is = absurd (omega (arith, is.some))
 signed_fits (first ∷ rest) z h is = grind (arith, common_steps, pow-le-pow_right, number_is)
@@ -304,7 +307,8 @@ element_least {tag} {content} {made} {text} h is inner =
           let few : length content ≤ length made = omega (arith, size, length-append is.length_octets content, whole, rises, lead.least, short) in
           let same : content ≡ made = inner.one few in
           let first : is.length_octets ≡ canon_length (length content) = lead.one
-          (omega (arith, size, length-append is.length_octets content, whole, ap (λ (o : List ℕ). length (canon_length (length o))) same, short, inner.least)) in
+          (omega (arith, size, length-append is.length_octets content, whole, ap (λ (o : List ℕ). length (canon_length (length o))) same, short,
+    inner.least)) in
           is.parts ∙ ap (λ (o : List ℕ). tag ∷ o ++ content) first ∙ ap (λ (o : List ℕ). tag ∷ canon_length (length o) ++ o) same;
     }
 

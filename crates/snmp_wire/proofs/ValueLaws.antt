@@ -1,5 +1,5 @@
--- What is read as a value is one, what is read as none has a tag or content at fault, and what is one
--- is read.
+-- What is decoded as a value is one, and what isn't has a fault in its tag or content
+-- (`value_gives`); each value is decoded (`value_again`).
 use Rattle.std.proofs.{lemmas.Grind.common_steps, lemmas.List.nil_from_length}
 use Rattle.std.proofs.Common.{◌≡◌, ℕ, ℤ, pos, ◌+◌, ◌≤◌, true, cond, eqb, leb, ◌⊎◌, List, [], ◌∷◌, length, Result, Ok, refl, ap, arith, inl, inr}
 use Rattle.std.proofs.lemmas.Bool.{ltb-true, lt-ltb, le-leb, leb-true, eqb-true, eq-eqb, and_parts, and_from, or_cases, or_left, or_right}
@@ -39,7 +39,7 @@ unsigned_again width (first ∷ rest) n h = rw (has_width_from width first rest 
 
 -- ---- values
 
--- a value of this tag and content
+-- `value` has this tag and content
 pub record IsRead (tag : ℕ) (content : List ℕ) (value : Datum) : Type 0 where
   pub is_tag : value_tag value ≡ tag
   pub is_content : IsContent lenient value content
@@ -47,10 +47,11 @@ pub record IsRead (tag : ℕ) (content : List ℕ) (value : Datum) : Type 0 wher
 read : (value : Datum) (content : List ℕ) → IsContent lenient value content → Gives (IsRead (value_tag value) content) (λ e. error.Content ≡ e) (Ok value)
 read value content is = a_value value (record { is_tag = refl; is_content = is })
 
-empty_gives : (made : Datum) (content : List ℕ) → IsContent lenient made [] → Gives (IsRead (value_tag made) content) (λ e. error.Content ≡ e) (empty_of made content)
+empty_gives : (made : Datum) (content : List ℕ) → IsContent lenient made []
+    → Gives (IsRead (value_tag made) content) (λ e. error.Content ≡ e) (empty_of made content)
 empty_gives made content is = grind (arith, common_steps, gives_either, a_value, nil_from_length, eqb-true, a_fault)
 
--- where the tag is a value's, a value of it is read, or else the content is at fault
+-- if the tag is the tag of a value, a value is decoded or the content is at fault
 pub known_gives : (value : Datum) (content : List ℕ)
     → Gives (IsRead (value_tag value) content) (λ e. error.Content ≡ e) (typed_value (value_tag value) content)
 unfolding typed_value
@@ -65,7 +66,7 @@ known_gives (opaque_octets text) content = read (opaque_octets content) content 
 known_gives (counter64 n) content = gives_then _ (unsigned_gives 8 content) (λ m. read (counter64 m) content)
 known_gives value content = empty_gives value content refl
 
--- the content is at fault, and the tag is a value's; or the tag is
+-- either the content is at fault and the tag is the tag of a value, or the tag is at fault
 abbrev pub IsValueFault : ℕ → BerError → Type 0
 IsValueFault tag e = ((error.Content ≡ e) × ((value : Datum) × (tag ≡ value_tag value))) ⊎ (error.Tag ≡ e)
 

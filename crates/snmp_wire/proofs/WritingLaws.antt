@@ -1,4 +1,4 @@
--- Lemmas on what writers leave, one after the other from the back to the front, for proofs of
+-- What successive writing functions do to a slice, from its end to its start. For proofs about
 -- values and messages.
 use Rattle.std.proofs.{lemmas.Grind.common_steps, lemmas.List.take-take, lemmas.List.drop_more}
 use Rattle.std.proofs.Common.{◌≡◌, ℕ, ◌+◌, ◌-◌, ◌<◌, ◌≤◌, suc, zero, List, [], ◌∷◌, ◌++◌, length, take, drop, get_or, sym, ap, ◌∙◌, arith}
@@ -6,45 +6,45 @@ use Rattle.std.proofs.Common.{append_assoc, length-append}
 use Rattle.std.specs.List.{flat_map}
 use Rattle.snmp_wire.specs.ber.Writing.{Writes}
 
--- where the front stays as it was, so does each front of it
+-- if a prefix is unchanged, so is each shorter prefix
 pub kept : (k start : ℕ) (old new : List ℕ)
     → k ≤ start → take start new ≡ take start old → take k new ≡ take k old
 kept k start old new h e =
     sym (take-take k start new h) ∙ ap (take k) e ∙ take-take k start old h
 
--- one text is written before another
+-- if `front` is written before `back`, both together are written
 pub writes_then : {old : List ℕ} {start middle end : ℕ} {front back mid new : List ℕ}
     → Writes old middle end back mid → Writes mid start middle front new
     → Writes old start end (front ++ back) new
 writes_then {old} {start} {middle} {end} {front} {back} {mid} {new} w v = grind (arith, common_steps, length-append, kept, append_assoc)
 
--- where a text is written, an equal one is
+-- if `text` is written, so is any string that equals it
 pub writes_same : {old : List ℕ} {start end : ℕ} {text new other : List ℕ}
     → Writes old start end text new → text ≡ other → Writes old start end other new
 writes_same {old} {start} {end} {text} {new} {other} w e = grind (arith, common_steps)
 
--- ---- pieces that are written one for each element of a list, the last one first
+-- ---- pieces, one for each element of a list, written from the last to the first
 
--- the pieces from a place on are the one there, and those behind it
+-- the pieces from index `i` on are the piece at `i` and the pieces after it
 pub flat_map-drop : {X : Type 0} (f : X → List ℕ) (xs : List X) (i : ℕ) (x d : X)
     → i < length xs → x ≡ get_or xs i d
     → flat_map f (drop i xs) ≡ f x ++ flat_map f (drop (i + 1) xs)
 flat_map-drop f xs i x d h e = grind (arith, common_steps, drop_more)
 
--- so are their lengths
+-- the length of the pieces from index `i` on
 pub length-flat_map_drop : {X : Type 0} (f : X → List ℕ) (xs : List X) (i : ℕ) (x d : X)
     → i < length xs → x ≡ get_or xs i d
     → length (flat_map f (drop i xs)) ≡ length (f x) + length (flat_map f (drop (i + 1) xs))
 length-flat_map_drop f xs i x d h e = grind (arith, common_steps, flat_map-drop, length-append)
 
--- the pieces from a place on are no longer than all of them
+-- the pieces from index `i` on are no longer than all pieces
 pub flat_map_rest : {X : Type 0} (f : X → List ℕ) (xs : List X) (i : ℕ)
     → length (flat_map f (drop i xs)) ≤ length (flat_map f xs)
 flat_map_rest f xs zero = omega arith
 flat_map_rest f [] (suc i) = omega arith
 flat_map_rest f (x ∷ xs) (suc i) = grind (arith, common_steps, flat_map_rest f xs i, length-append)
 
--- one piece more is written before those that are
+-- one more piece is written before the pieces that are
 pub writes_piece : {X : Type 0} {old mid new : List ℕ} {start middle end : ℕ}
     (f : X → List ℕ) (xs : List X) (i : ℕ) (x d : X)
     → 0 < i → i ≤ length xs → x ≡ get_or xs (i - 1) d
@@ -55,7 +55,7 @@ writes_piece f xs i x d some h e w v =
     writes_same (writes_then w v) (sym (flat_map-drop f xs (i - 1) x d (omega arith) e
     ∙ ap (λ k. f x ++ flat_map f (drop k xs)) next))
 
--- it has room where all pieces have
+-- if all pieces have room, the next piece to be written has
 pub piece_fits : {X : Type 0} {old mid : List ℕ} {middle end : ℕ}
     (f : X → List ℕ) (xs : List X) (i : ℕ) (x d : X)
     → 0 < i → i ≤ length xs → x ≡ get_or xs (i - 1) d
@@ -66,7 +66,7 @@ piece_fits f xs i x d some h e w room =
     let behind = ap (λ k. length (flat_map f (drop k xs))) next in
     omega (arith, length-flat_map_drop f xs (i - 1) x d (omega arith) e, behind, flat_map_rest f xs (i - 1), w.begins)
 
--- all pieces are written where none is left
+-- at index 0 all pieces are written
 pub writes_pieces : {X : Type 0} {old new : List ℕ} {start end : ℕ}
     (f : X → List ℕ) (xs : List X) (i : ℕ) → i ≤ 0
     → Writes old start end (flat_map f (drop i xs)) new

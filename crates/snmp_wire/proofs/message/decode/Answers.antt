@@ -8,7 +8,7 @@ use Rattle.snmp_wire.proofs.message.decode.Goals as goal
 are_octets : (octets : List ℕ) → ((i : ℕ) → get_or octets i 0 < 256) → AreOctets octets
 are_octets octets small k d lt = subst (λ n. n < 256) (get_or_default octets k 0 d lt) (small k)
 
--- what the reading gives is what is returned
+-- the clauses of `decode` hold of a result that agrees with `message_of`
 decoded : (octets : List ℕ) (result : Result Message BerError) → AreOctets octets → AgreesBy (λ m. m) result (message_of octets)
     → IfOk result (λ message. Spells message octets) × ((message : Message) → Spells message octets → result ≡ Ok message)
     × IfErr result (λ e. IsFault e octets)

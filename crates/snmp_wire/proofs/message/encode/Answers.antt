@@ -14,7 +14,8 @@ pub returns : goal.returns
 returns c =
     let m = parts_message c.args.parts.now in
     let size = sizes_message m c.head_size.result c.bindings_size-total.result c.bindings_size-total.ensures.value c.head_size.ensures.value in
-    let written = encoded (writes_message m c.bindings_size-total.result c.bindings_size-total.ensures.value c.put_bindings-head.ensures c.put_head.ensures) size in
+    let written =
+    encoded (writes_message m c.bindings_size-total.result c.bindings_size-total.ensures.value c.put_bindings-head.ensures c.put_head.ensures) size in
     let range = c.head_size.ensures.range (var_binds c.args.parts.now.bindings.now) c.bindings_size-total.ensures.range c.requires.total in
     let shortest = front_is_shortest c.one_shortest_encoding.ensures m _ _ _ size written range in
     record {

@@ -26,7 +26,7 @@ put_integer_element-id-requires-clause-room c =
     rw (to_z-of_z w32 c.args.parts.now.id (search rules))
     (omega (arith, b.begins, a.begins, list_fits _ _ _ c.requires.room, length-canon_fields (parts_message c.args.parts.now)))
 
--- what stands behind the tag of the PDU is written
+-- what follows the tag and the length of the PDU is written
 fields : (c : After-put_integer_element-id) → Writes c.args.out.now c.put_integer_element-id.result c.args.end
     (canon_fields (parts_message c.args.parts.now) ++ canon_header sequence_tag c.args.total) c.put_integer_element-id.new.out
 fields c = writes_fields (parts_message c.args.parts.now) c.args.total c.put_header-list.ensures

@@ -9,7 +9,7 @@ use Rattle.snmp_wire.proofs.ElementLaws.{content_number, value_content_fits, val
 use Rattle.snmp_wire.proofs.{WritingLaws.writes_same, CanonLemmas.short_number}
 use Rattle.snmp_wire.proofs.message.put_integer_element.Goals as goal
 
--- the number is the content
+-- the content of a number from 0 to 127 is the number itself
 one : (z : ℤ) → SFits w32 z → le_z (pos 0) (to_z w32 (of_z w32 z)) ≡ true → lt_z (to_z w32 (of_z w32 z)) (pos 128) ≡ true
     → nat_abs (to_z w32 (of_z w32 z)) ∷ [] ≡ canon_content (integer_value z)
 one z fits low high = short_number (to_z w32 (of_z w32 z)) low high ∙ ap canon_number (to_z-of_z w32 z fits) ∙ sym (content_number z)

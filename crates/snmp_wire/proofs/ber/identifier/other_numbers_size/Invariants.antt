@@ -3,7 +3,7 @@ use Rattle.std.specs.List.{flat_map}
 use Rattle.snmp_wire.specs.ber.Canon.{canon_subidentifier}
 use Rattle.snmp_wire.proofs.ber.identifier.other_numbers_size.Given as goal
 
--- the octets of the numbers from this one on are counted
+-- the octets of the numbers from index `left` on are counted
 abbrev pub invariant-numbers : goal.invariant-numbers
 invariant-numbers l = record {
   told : l.size ≡ length (flat_map canon_subidentifier (drop l.left l.numbers));

@@ -3,7 +3,7 @@ use Rattle.std.specs.List.{flat_map}
 use Rattle.snmp_wire.specs.{ber.Canon.canon_subidentifier, ber.Writing.Writes}
 use Rattle.snmp_wire.proofs.ber.identifier.put_other_numbers.Given as goal
 
--- the numbers from this one on are written
+-- the numbers from index `left` on are written
 abbrev pub invariant-numbers : goal.invariant-numbers
 invariant-numbers l = record {
   written : Writes l.fn.out l.start l.fn.end (flat_map canon_subidentifier (drop l.left l.numbers)) l.out;

@@ -8,7 +8,7 @@ use Rattle.snmp_wire.proofs.name.EncodedName.write.Goals as goal
 pub put_identifier-start-requires-clause-room : goal.put_identifier-start-requires-clause-room
 put_identifier-start-requires-clause-room c = content_short c.args.name.now c.as_slice-numbers.ensures.at_most_128
 
--- what lies there is read as the name
+-- what was written to the end of `out` is decoded as the name
 is_read : (c : After-put_identifier-start) → identifier_of (take (length c.put_identifier-start.new.out - c.put_identifier-start.result)
     (drop c.put_identifier-start.result c.put_identifier-start.new.out)) ≡ Ok c.args.name.now
 is_read c = grind (arith, common_steps, written_to_end, identifier_again, is_object_id)
