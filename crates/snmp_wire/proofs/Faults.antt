@@ -329,13 +329,13 @@ parts_of place here calls (value_then value more, (allowed, inner, fits), (first
   within = λ next e. absurd (none_some next (sym inner ∙ e));
   after = λ next e. (more, subst (λ (at : Option Place). FitsAt at more) e fits, others);
 }
-parts_of place here calls (element_then tag within more, (allowed, first_place, inner, fit, fits), (first, rest, parts, content, element, all, others)) = record {
+parts_of place here calls (element_then tag within more, (allowed, child, inner, fit, fits), (first, rest, parts, content, element, all, others)) = record {
   tag = tag;
   content = content;
   rest = rest;
   begins = record { element = first; is_element = element; parts = parts };
   allowed = allowed;
-  value = λ e. absurd (none_some first_place (sym e ∙ inner));
+  value = λ e. absurd (none_some child (sym e ∙ inner));
   last = none_left place more rest fits others;
   within = λ next e. (within, subst (λ (at : Option Place). FitsAt at within) (sym inner ∙ e) fit, all);
   after = λ next e. (more, subst (λ (at : Option Place). FitsAt at more) e fits, others);

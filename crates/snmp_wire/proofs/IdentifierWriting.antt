@@ -243,8 +243,20 @@ not_padded (suc k) m last low high least e =
 pub is_subidentifier : (n : ℕ) → n < 2 ^ 35 → IsSubidentifier (canon_subidentifier n) n
 unfolding subidentifier_size
 is_subidentifier n h =
-    grind (arith, common_steps, sized, subidentifier_parts, digits_needed, All-from_recursion, high_septets, mod-lt, not_padded, front_value,
-    low_septets, digits_value)
+    grind (
+      arith,
+      common_steps,
+      sized,
+      subidentifier_parts,
+      digits_needed,
+      All-from_recursion,
+      high_septets,
+      mod-lt,
+      not_padded,
+      front_value,
+      low_septets,
+      digits_value,
+    )
 
 pub subidentifier_octets : (n : ℕ) → Octets (canon_subidentifier n)
 subidentifier_octets n = grind (arith, common_steps, subidentifier_parts, both_octets, septet_octets)

@@ -412,8 +412,10 @@ encoded law = record {
   one_content = one_content;
   below = λ content root o p h k is are. (below_from_names content root o p h k is are, below_from_contents content root o p is are);
   names_order = λ o p wire other. (names_rise law o p wire other, names_fall law o p wire other);
-  octets_order = λ text other n m h k is are. (smaller_is_first law text other n m h k is are,
-      first_is_smaller text other n m (octets_by text h) (octets_by other k) is are);
+  octets_order = λ text other n m h k is are. (
+    smaller_is_first law text other n m h k is are,
+    first_is_smaller text other n m (octets_by text h) (octets_by other k) is are,
+  );
 }
 
 -- ---- what the first octets that differ say of two names

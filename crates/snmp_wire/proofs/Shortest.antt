@@ -307,8 +307,15 @@ element_least {tag} {content} {made} {text} h is inner =
           let few : length content ≤ length made = omega (arith, size, length-append is.length_octets content, whole, rises, lead.least, short) in
           let same : content ≡ made = inner.one few in
           let first : is.length_octets ≡ canon_length (length content) = lead.one
-          (omega (arith, size, length-append is.length_octets content, whole, ap (λ (o : List ℕ). length (canon_length (length o))) same, short,
-    inner.least)) in
+          (omega (
+            arith,
+            size,
+            length-append is.length_octets content,
+            whole,
+            ap (λ (o : List ℕ). length (canon_length (length o))) same,
+            short,
+            inner.least,
+          )) in
           is.parts ∙ ap (λ (o : List ℕ). tag ∷ o ++ content) first ∙ ap (λ (o : List ℕ). tag ∷ canon_length (length o) ++ o) same;
     }
 
