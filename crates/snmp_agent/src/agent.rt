@@ -1,4 +1,4 @@
-//! Requests and their replies.
+//! Requests and the replies to them.
 ghost use Rattle.std.specs.Prelude.{◌≡◌, ◌≢◌, ℕ, ◌≤◌, ◌<◌, List, [], length, take, IfOk, IfErr};
 ghost use Rattle.std.specs.Prelude.{IsSome};
 ghost use Rattle.snmp_wire.specs.declared.kind.Kind.TheVariants as kind;
@@ -29,18 +29,18 @@ const TOO_BIG: i32 = 1;
 /// The error status notWritable (RFC 3416, section 3).
 const NOT_WRITABLE: i32 = 17;
 
-/// The reply to a datagram, in the front of `out`, or why there is none (RFC 3416, sections 4.2.1,
-/// 4.2.2, 4.2.3 and 4.2.5).
+/// Writes the reply to a datagram to the start of `out`, and returns its length, or why there is
+/// no reply (RFC 3416, sections 4.2.1, 4.2.2, 4.2.3 and 4.2.5).
 ///
-/// The octets after the reply are unspecified. No memory is taken.
+/// The octets of `out` after the reply are unspecified. Allocates nothing.
 pub fn answer(
     table: &Table,
     config: &Config<'_>,
     request: &[u8],
     out: &mut [u8; MAX_DATAGRAM],
 ) -> Outcome
-    // A GetBulk gets as many of its bindings as fit; where another Response doesn't fit, tooBig
-    // comes.
+    // The Response to a GetBulk has as many of its bindings as fit. If another Response doesn't
+    // fit, the reply is the error tooBig.
     ensures reply { (n : ℕ) → result ≡ Outcome.Reply n
         → IsReply (agent_of table.now config.now) request.now (take n out.new) }
     ensures length { (n : ℕ) → result ≡ Outcome.Reply n → n ≤ config.now.max_size }
@@ -57,11 +57,11 @@ pub fn answer(
     answer_by(table, config, request, out, &mut hint)
 }
 
-/// [`answer`] for an agent that replies to one request after the other. Where the hint says where a
-/// name stands, it is found without a search. The hint keeps where the names of this request stood,
-/// and the row that was given last.
+/// Does what [`answer`] does, faster for a series of requests: a name whose position is in `hint`
+/// is found without a search. Records in `hint` the positions of this request's names, and of the
+/// last row that a GetNext or a GetBulk of one name returned.
 ///
-/// No reply depends on the hint: any may be handed in, also that of another table.
+/// The reply doesn't depend on `hint`, which may even come from another table.
 pub fn answer_near(
     table: &Table,
     config: &Config<'_>,
@@ -82,7 +82,7 @@ pub fn answer_near(
     answer_by(table, config, request, out, &mut hint.lend())
 }
 
-/// The outcome of [`answer_near`], by a hint that is lent for the request.
+/// Does what [`answer_near`] does, with a hint that is lent for the request.
 fn answer_by(
     table: &Table,
     config: &Config<'_>,
@@ -110,7 +110,7 @@ fn answer_by(
     }
 }
 
-/// The request that the octets encode, or why the agent doesn't serve it.
+/// Returns the request that `octets` encode, or why the agent doesn't serve it.
 fn accepted<'a>(community: &[u8], octets: &'a [u8]) -> Result<MessageRef<'a>, Why>
     ensures found { IfOk result (IsRequest community.now octets.now) }
     ensures refused { IfErr result (IsRefused community.now octets.now) }
@@ -133,8 +133,8 @@ fn accepted<'a>(community: &[u8], octets: &'a [u8]) -> Result<MessageRef<'a>, Wh
     }
 }
 
-/// Writes the Response to a request to the front of `out`, and returns its length. None where it
-/// would have more than `max_size` octets, even without bindings.
+/// Writes the Response to a request to the start of `out`, and returns its length. Returns `None`
+/// if it would have more than `max_size` octets even without bindings.
 fn reply(
     table: &Table,
     config: &Config<'_>,
@@ -153,7 +153,7 @@ fn reply(
     }
 }
 
-/// Writes the reply to a GetBulk, as [`reply`] does: with as many bindings as fit.
+/// Does what [`reply`] does for a GetBulk: the Response has as many bindings as fit.
 fn bulk_reply<'a>(
     table: &'a Table,
     config: &Config<'_>,
@@ -174,8 +174,8 @@ fn bulk_reply<'a>(
     sealed(&parts, bindings.total, config, out)
 }
 
-/// Writes the reply to a Get, a GetNext or a Set, as [`reply`] does: with one binding for each of
-/// the request's, or the error tooBig where they don't fit.
+/// Does what [`reply`] does for a Get, a GetNext or a Set: the Response has one binding for each
+/// of the request's, or is the error tooBig if they don't fit.
 fn paired_reply(
     table: &Table,
     config: &Config<'_>,
@@ -201,8 +201,8 @@ fn paired_reply(
         out,
         hint,
     );
-    // Where a binding had no room, `left` is 0: so the bindings count as `max_size` octets, and no
-    // head fits. Then the error tooBig comes (RFC 3416, section 4.2.1).
+    // If a binding had no room, `left` is 0. Then `total` is `max_size`, so no head fits, and the
+    // reply is the error tooBig (RFC 3416, section 4.2.1).
     let total = room - bindings.left;
     match sealed(&parts, total, config, out) {
         Some(size) => Some(size),
@@ -210,7 +210,7 @@ fn paired_reply(
     }
 }
 
-/// The parts of the whole Response to a request, without its bindings.
+/// Returns the parts of the whole Response to a request, without its bindings.
 fn whole_parts<'a>(request: &MessageRef<'a>) -> Parts<'a>
     ensures { parts_message result ≡ response request.now (whole_status request.now.kind)
         (whole_index request.now.kind request.now.bindings) [] }
@@ -221,7 +221,7 @@ fn whole_parts<'a>(request: &MessageRef<'a>) -> Parts<'a>
     }
 }
 
-/// Where a Set fails: at its first binding, if it has one.
+/// Returns the error-index of the reply to a Set: 1, its first binding, or 0 if it has none.
 fn failed_place(request: &MessageRef<'_>) -> i32
     ensures { result ≡ failed_place request.now.bindings }
 {
@@ -231,7 +231,7 @@ fn failed_place(request: &MessageRef<'_>) -> i32
     }
 }
 
-/// The parts of a Response to the request, without bindings.
+/// Returns the parts of a Response to `request`, without bindings.
 fn response<'a>(request: &MessageRef<'a>, status: i32, index: i32) -> Parts<'a>
     ensures { parts_message result ≡ response request.now status index [] }
 {
@@ -246,8 +246,9 @@ fn response<'a>(request: &MessageRef<'a>, status: i32, index: i32) -> Parts<'a>
     }
 }
 
-/// Puts the head of the message of these parts before its bindings, which are the first `total`
-/// octets of the output, and returns the message's length. None where that is above `max_size`.
+/// Completes a message whose bindings are the first `total` octets of `out`: moves them, writes
+/// the head before them, and returns the length of the message. Returns `None` if that is above
+/// `max_size`.
 fn sealed(
     parts: &Parts<'_>,
     total: usize,
@@ -259,7 +260,7 @@ fn sealed(
     ensures written { (r : Message) → parts_message parts.now ≡ record r { bindings = [] }
         → take total out.old ≡ canon_bindings r.bindings
         → IsWritten config.now.max_size r result out.new }
-    // The head takes some octets too.
+    // The head takes octets too.
     ensures room { IsSome result → total < config.now.max_size }
 {
     message_sizes();

@@ -1,7 +1,7 @@
 //! The bindings of the reply to a Get, a GetNext or a Set, one for each binding of the request.
 //!
-//! They are written to the front of the output, one after the other. Once all are there, they are
-//! moved to make room for the head.
+//! They are written to the start of the output, one after the other. Once all are written, they
+//! are moved to make room for the head.
 ghost use Rattle.std.specs.{Prelude.◌≡◌, Prelude.◌≤◌, Prelude.length, FinMap.get};
 ghost use Rattle.snmp_agent.specs.private.Answering.{AreWritable, IsWritable, add};
 ghost use Rattle.snmp_agent.specs.private.Answering.{answer_to, answers_to, fill, held};
@@ -14,7 +14,7 @@ use crate::table::{Guesses, Table};
 use snmp_oid::order;
 use snmp_wire::{Binding, BindingRef, Bindings, Kind, MAX_DATAGRAM};
 
-/// Appends the bindings of the reply to a request, until there is no room.
+/// Appends the bindings of the reply to a request, until one has no room.
 pub fn append_answers<'a>(
     table: &'a Table,
     kind: Kind,
@@ -37,8 +37,8 @@ pub fn append_answers<'a>(
     reply
 }
 
-/// Appends what the reply to a request of this kind has for one binding of it: for a Get the
-/// variable of its name, for a GetNext the one after it, and for a Set the binding itself.
+/// Appends what the reply to a request of this kind has for one binding of the request: the result
+/// of a Get or of a GetNext of its name, or for a Set the binding itself.
 fn append_answer(
     table: &Table,
     kind: Kind,
@@ -59,7 +59,7 @@ fn append_answer(
     }
 }
 
-/// Appends what a Get of a binding's name returns.
+/// Appends what a Get of the name of `asked` returns.
 fn append_get(
     table: &Table,
     asked: &BindingRef<'_>,
@@ -75,8 +75,9 @@ fn append_get(
     }
 }
 
-/// Appends the exception that a Get of a binding's name returns where no row has the name. Not
-/// inlined: its local binding, of over a thousand octets, is set to zeros as the function begins.
+/// Appends the exception that a Get of the name of `asked` returns if no row has that name.
+/// `inline(never)`: its local `Binding`, of over a thousand octets, is zeroed when the function
+/// begins; inlined, it would be zeroed for each name of a Get.
 #[inline(never)]
 #[tactic(auto, using(crate::proofs::Encodings::answer_value, crate::proofs::Each::same_get, crate::proofs::Each::is_got))]
 fn append_exception(
@@ -90,15 +91,15 @@ fn append_exception(
 {
     let mut binding = Binding::empty();
     let name = asked.name();
-    // This call states that the name has an encoding.
+    // By its contract, this call shows that the name has an encoding.
     let _content = name.content();
     name.read_into(&mut binding.name);
     binding.value = table.exception(&binding.name);
     reply.append(out, &binding)
 }
 
-/// Appends what a GetNext of a binding's name returns, and keeps the row in the hint as the last
-/// one that was given.
+/// Appends what a GetNext of the name of `asked` returns, and records the row in `hint` as the
+/// last one returned.
 pub fn append_next(
     table: &Table,
     asked: &BindingRef<'_>,
@@ -120,8 +121,9 @@ pub fn append_next(
     }
 }
 
-/// Appends a binding of a request as it came. Not inlined: its local binding, of over a thousand
-/// octets, is set to zeros as the function begins.
+/// Appends a binding of a request unchanged. `inline(never)`: its local `Binding`, of over a
+/// thousand octets, is zeroed when the function begins; inlined, it would be zeroed for each
+/// binding of any request.
 #[inline(never)]
 fn append_same(
     asked: &BindingRef<'_>,

@@ -1,7 +1,7 @@
 //! The bindings of the reply to a GetBulk (RFC 3416, section 4.2.3).
 //!
-//! They are written to the front of the output, as those of other replies are, and end before the
-//! first for which there is no room.
+//! Like those of other replies, they are written to the start of the output. They end before the
+//! first that has no room.
 ghost use Rattle.std.specs.Prelude.{◌≡◌, ◌≢◌, ◌⊎◌, ◌≤◌, [], ◌∷◌, ◌++◌, true, false, take, drop};
 ghost use Rattle.std.specs.{Prelude.map, Prelude.length, List.list_all};
 ghost use Rattle.snmp_wire.specs.Parts.{parts_message};
@@ -16,11 +16,11 @@ use crate::table::{Guesses, Table};
 use arrayvec::ArrayVec;
 use snmp_wire::{BindingRef, Bindings, MAX_DATAGRAM, MessageRef, Parts, head_size, message_sizes};
 
-/// The most names that keep their places from one round to the next.
+/// The greatest number of names whose positions are stored from one round to the next.
 const MAX_PLACES: usize = 64;
 
-/// The most octets that the bindings of a message of these parts may take if it is to have at most
-/// `max_size`, or 0 where it has more even without bindings.
+/// Returns the greatest number of octets that the bindings of a message with these parts can take
+/// if the message has at most `max_size`. Returns 0 if it has more even without bindings.
 #[tactic(auto, using(std::proofs::lemmas::Grind::common_steps))]
 pub fn room_for_bindings(parts: &Parts<'_>, max_size: usize) -> usize
     requires community { length parts.now.community.now ≤ 255 }
@@ -28,7 +28,7 @@ pub fn room_for_bindings(parts: &Parts<'_>, max_size: usize) -> usize
     ensures { IsRoom (parts_message parts.now) max_size result }
 {
     message_sizes();
-    // No head is longer than this one, so the search begins at the room or below it.
+    // No head is longer than this one, so the search begins at the result or below it.
     let longest = head_size(parts, max_size as u64) as usize;
     let mut room = max_size.saturating_sub(longest);
     'octets: while head_size(parts, room as u64 + 1) as usize + room < max_size {
@@ -57,15 +57,15 @@ pub fn append_bulk<'a>(
     append_repeaters(table, repetitions, bindings, reply, out, hint)
 }
 
-/// The number, or 0 where it is negative (RFC 3416, section 4.2.3).
+/// Returns `number`, or 0 if it is negative (RFC 3416, section 4.2.3).
 fn or_zero(number: i32) -> usize
     ensures { result ≡ or_zero number }
 {
     usize::try_from(number).unwrap_or(0)
 }
 
-/// Takes the first `count` bindings, or all where there are fewer, and appends what a GetNext of
-/// each returns, until there is no room.
+/// Takes the first `count` bindings, or all if there are fewer, and appends what a GetNext of each
+/// returns, until one has no room.
 fn append_singles<'a>(
     table: &'a Table,
     count: usize,
@@ -91,7 +91,7 @@ fn append_singles<'a>(
     reply
 }
 
-/// Appends the rounds of the bindings, at most `repetitions`.
+/// Appends the rounds of the bindings, at most `repetitions` of them.
 fn append_repeaters<'a>(
     table: &'a Table,
     repetitions: usize,
@@ -110,8 +110,8 @@ fn append_repeaters<'a>(
     }
 }
 
-/// Appends the rounds of a single binding, as a walk asks for them. Each begins where the one
-/// before ended, so nothing is searched. The hint keeps the last row.
+/// Appends the rounds of a single binding, as a walk requests them. Each round begins where the
+/// previous one ended, so nothing is searched. Records the last row in `hint`.
 fn append_column<'a>(
     table: &'a Table,
     repetitions: usize,
@@ -146,7 +146,8 @@ fn append_column<'a>(
     reply
 }
 
-/// Appends the rounds of several bindings. The first [`MAX_PLACES`] of them keep their places.
+/// Appends the rounds of several bindings. The positions of the first [`MAX_PLACES`] are stored
+/// from one round to the next.
 fn append_columns<'a>(
     table: &'a Table,
     repetitions: usize,
@@ -165,7 +166,8 @@ fn append_columns<'a>(
     append_rounds(table, repetitions, &bindings, places, others, reply, out)
 }
 
-/// Takes bindings and adds their places, until there are [`MAX_PLACES`] or no binding is left.
+/// Takes bindings and appends their positions to `places`, until there are [`MAX_PLACES`] or no
+/// binding is left.
 fn keep_places<'a>(
     table: &'a Table,
     bindings: &mut Bindings<'a>,
@@ -184,9 +186,9 @@ fn keep_places<'a>(
     }
 }
 
-/// Appends the rounds of the bindings. The first of them stand at these places: each round begins
-/// where the one before ended, and nothing is searched. The others are searched in each round; a
-/// reply has room for few of them.
+/// Appends the rounds of `bindings`. The first of them have the positions `places`: each round
+/// begins where the previous one ended, and nothing is searched. The remaining ones, `others`, are
+/// searched in each round; a reply has room for few of them.
 fn append_rounds<'a>(
     table: &'a Table,
     repetitions: usize,
@@ -211,9 +213,9 @@ fn append_rounds<'a>(
     reply
 }
 
-/// Appends what comes next at each place, and moves the places behind that. Then appends what each
-/// of the other bindings is given after `round` rounds. Also returns whether no round follows:
-/// there is no room for more, or no row was left at any place.
+/// Appends what a GetNext returns from each of `places`, and moves these on. Then appends what
+/// each of `others` gets after `round` rounds. Also returns whether no round follows: there is no
+/// room left, or no row was left at any position.
 fn append_round<'a>(
     table: &'a Table,
     round: usize,
@@ -250,7 +252,7 @@ fn append_round<'a>(
     (reply, are_over)
 }
 
-/// Whether no row is left at any place.
+/// Returns whether no row is left at any of `places`.
 fn are_at_end(places: &[Place<'_>]) -> bool
     ensures { result ≡ list_all is_over places.now }
 {

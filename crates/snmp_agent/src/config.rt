@@ -1,12 +1,12 @@
-//! How an agent is configured, and what it does with a datagram.
+//! The configuration of an agent, and what it does with a datagram.
 ghost use Rattle.std.specs.Prelude.{◌≤◌, length};
 
 /// The configuration of an agent.
 #[derive(Clone, Copy, Debug)]
 pub struct Config<'a> {
-    /// The community whose requests it serves, of at most 255 octets.
+    /// The community of the requests that the agent serves, of at most 255 octets.
     pub community: &'a [u8],
-    /// The greatest size of its messages in octets, from 1 to 65507.
+    /// The greatest length of the agent's messages, in octets: from 1 to 65507.
     pub max_size: usize,
     ghost short: { length community.now ≤ 255 },
     ghost positive: { 1 ≤ max_size },
@@ -16,28 +16,28 @@ pub struct Config<'a> {
 /// What an agent does with a datagram.
 #[derive(Clone, Copy, Debug, PartialEq, Eq)]
 pub enum Outcome {
-    /// It sends the front of the output, of this many octets.
+    /// A reply, at the start of the output buffer. Holds its length in octets.
     Reply(usize),
-    /// It sends nothing.
+    /// No reply, for this reason.
     Dropped(Why),
 }
 
-/// Why a datagram has no reply: the first that applies.
+/// Why a datagram has no reply: the first reason that applies.
 #[derive(Clone, Copy, Debug, PartialEq, Eq, thiserror::Error)]
 pub enum Why {
-    /// It is no message.
+    /// The datagram isn't an SNMP message.
     #[error("no message")]
     Undecodable,
-    /// Its version isn't 1, that of SNMPv2c.
+    /// The version isn't 1, which stands for SNMPv2c.
     #[error("another version than 2c")]
     Version,
-    /// Its community isn't the agent's.
+    /// The community isn't the agent's.
     #[error("another community")]
     Community,
-    /// It is no Get, GetNext, GetBulk or Set.
+    /// The PDU isn't a Get, a GetNext, a GetBulk or a Set.
     #[error("no request that is served")]
     Pdu,
-    /// Even the shortest reply has more octets than a message may have.
+    /// No reply fits into `max_size` octets, not even one without bindings.
     #[error("no reply fits")]
     TooLong,
 }

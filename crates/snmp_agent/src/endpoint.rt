@@ -1,4 +1,4 @@
-//! Where an agent receives datagrams and sends its replies.
+//! Endpoints: where an agent receives datagrams and sends its replies.
 ghost use Rattle.std.specs.Prelude.{◌≡◌, ◌≤◌, IfOk, IfSome, OnErr, OnOk, length};
 ghost use Rattle.snmp_io.specs.Count.{HasRisen};
 
@@ -15,34 +15,35 @@ pub trait Endpoint {
     ghost use Rattle.std.specs.Prelude.{ℕ};
     ghost use Rattle.snmp_agent.specs.Event.{Event, event_of_receive, event_of_reply};
 
-    /// Who sends a datagram, and where the reply goes.
+    /// The sender of a datagram, to whom the reply goes.
     type Peer: Copy;
 
-    /// Whether this may happen in the first state and leave the endpoint in the last one. Of a
-    /// socket nothing is known.
+    /// `happens old event new`: in state `old`, `event` can happen and leave the endpoint in state
+    /// `new`. It says nothing of a socket.
     ghost happens: { Self → Event Self.Peer → Self → Type 0 };
 
-    /// How many receives and replies failed.
+    /// The number of receives and replies that failed.
     ghost fault_count: { Self → ℕ };
 
-    /// Receives a datagram to the front of the buffer, and returns its length and who sent it, or
-    /// None where none comes in time. A buffer of 65507 octets has room for any datagram over UDP.
-    /// A fault is counted.
+    /// Receives a datagram into the start of `buffer`, and returns its length and its sender.
+    /// Returns `None` if none arrives in time. An error raises the fault count.
+    ///
+    /// A buffer of 65507 octets has room for any UDP datagram.
     fn receive(&mut self, buffer: &mut [u8]) -> Result<Option<(usize, Self::Peer)>, EndpointFault>
         ensures bound { IfOk result (λ received. IfSome received (λ r. r.0 ≤ length buffer.new)) }
-        // With room for any datagram over UDP, the one that came is there whole.
+        // If the buffer has room for any UDP datagram, it contains the whole datagram.
         ensures happens { 65507 ≤ length buffer.old
             → happens self.old (event_of_receive result buffer.new) self.new }
         ensures count { OnOk result (fault_count self.new ≡ fault_count self.old) }
         ensures fault { OnErr result (HasRisen (fault_count self.old) (fault_count self.new)) };
 
-    /// Sends a reply to this peer. A fault is counted.
+    /// Sends a reply to `peer`. An error raises the fault count.
     fn reply(&mut self, datagram: &[u8], peer: Self::Peer) -> Result<(), EndpointFault>
         ensures happens { happens self.old (event_of_reply result peer datagram.now) self.new }
         ensures count { OnOk result (fault_count self.new ≡ fault_count self.old) }
         ensures fault { OnErr result (HasRisen (fault_count self.old) (fault_count self.new)) };
 
-    /// How many receives and replies failed, up to 18446744073709551615.
+    /// Returns the number of receives and replies that failed, at most 18446744073709551615.
     fn faults(&self) -> u64
         ensures { result ≡ fault_count self.now };
 }
@@ -57,7 +58,7 @@ pub struct SocketEndpoint<'a> {
 impl<'a> SocketEndpoint<'a> {
     ghost use Rattle.snmp_io.specs.Count.{HasRisen};
 
-    /// The socket, from which nothing was received yet.
+    /// Returns the endpoint of a socket, with a fault count of 0.
     pub fn new(socket: &'a UdpSocket) -> SocketEndpoint<'a> {
         SocketEndpoint { socket, faults: 0 }
     }

@@ -1,5 +1,5 @@
-//! Laws of tables and of agents. Each is a function that does nothing; a proof that calls it knows
-//! what its contract states.
+//! Laws of tables and of agents. Each is a function that does nothing; its caller's proof may use
+//! its clauses.
 ghost use Rattle.std.specs.Prelude.{◌≡◌, ◌≢◌, ◌≤◌, ◌↔◌, ℕ, List};
 ghost use Rattle.snmp_wire.specs.Shortest.{IsShortestEncoding};
 ghost use Rattle.snmp_agent.specs.Reply.{Agent, IsReply, IsDropped};
@@ -18,7 +18,7 @@ use snmp_wire::{
     element_sizes, message_sizes, one_shortest_encoding, one_spelling, spelt_is_of_type,
 };
 
-/// Good lines state a table, which is a MIB view.
+/// Lines without a fault define a table, and it is a MIB view.
 pub fn table_of_lines()
     ensures { (names : Names) (lines : List (List ℕ)) → AreTableBy names lines
         → (view : MibView) × IsTableOf names lines view × IsMibView view }
@@ -26,26 +26,27 @@ pub fn table_of_lines()
     names();
 }
 
-/// Lines state one table at most.
+/// Lines define at most one table.
 pub fn one_table()
     ensures { (names : Names) (lines : List (List ℕ)) (v w : MibView) → IsTableOf names lines v
         → IsTableOf names lines w → v ≡ w }
 {}
 
-/// Lines that state a table have no fault: reading them fails only where memory runs out.
+/// Lines that define a table have no fault: reading them fails only if memory runs out.
 pub fn no_fault()
     ensures { (names : Names) (lines : List (List ℕ)) (view : MibView) (fault : TableError)
         → IsTableOf names lines view → IsFirstFault names lines fault → fault ≡ TableError.Memory }
 {}
 
-/// Lines have one first fault at most: the first faulty line is one, and what is wrong with it.
+/// Lines have at most one first fault, apart from a lack of memory: the first faulty line, and
+/// what is wrong with it.
 pub fn one_fault()
     ensures { (names : Names) (lines : List (List ℕ)) (fault other : TableError)
         → IsFirstFault names lines fault → IsFirstFault names lines other
         → fault ≢ TableError.Memory → other ≢ TableError.Memory → fault ≡ other }
 {}
 
-/// Lines without the mark of the second format state the same table whatever the names, and have
+/// Lines without the mark of the second format define the same table whatever the names, and have
 /// the same first fault: those of the first format.
 pub fn unmarked_table()
     ensures table { (names : Names) (lines : List (List ℕ)) (view : MibView)
@@ -55,7 +56,7 @@ pub fn unmarked_table()
         → (IsFirstFault names lines fault ↔ IsFirstFaultIn first_format lines fault) }
 {}
 
-/// Each name has just one value in a reply to a Get, one binding in a reply to a GetNext, and one
+/// A name has exactly one value in a reply to a Get, one binding in a reply to a GetNext, and one
 /// in each round of a GetBulk (RFC 3416, sections 4.2.1 to 4.2.3).
 pub fn one_answer()
     ensures get { (view : MibView) (o : List ℕ) → HasOne (IsGet view o) }
@@ -66,9 +67,10 @@ pub fn one_answer()
     order();
 }
 
-/// Changes of one row: a Get of a name that was put has its value, no row has a name that was
-/// removed, and Gets of other names are unchanged (RFC 3416, section 4.2.1). A row that is put and
-/// then removed leaves nothing; a put and a removal of two names may come in either order.
+/// Changes of one row. A Get of a name that was put returns its value, no row has a name that was
+/// removed, and Gets of other names are unchanged (RFC 3416, section 4.2.1). To put a row and then
+/// remove it is to remove its name. A put and a removal of two different names may come in either
+/// order.
 pub fn changed_rows()
     ensures put { (view : MibView) (o : List ℕ) (v : Datum)
         → IsGet (with_row view o v) o (record { name = o; value = v }) }
@@ -84,7 +86,7 @@ pub fn changed_rows()
         → without_row (with_row view o v) q ≡ with_row (without_row view q) o v }
 {}
 
-/// An agent has at most one reply to a datagram, and none to one that it drops.
+/// An agent has at most one reply to a datagram, and none to a datagram that it drops.
 pub fn one_reply()
     ensures one { (agent : Agent) (datagram a b : List ℕ) → IsReply agent datagram a
         → IsReply agent datagram b → a ≡ b }
@@ -95,9 +97,10 @@ pub fn one_reply()
     one_spelling();
 }
 
-/// A reply is the shortest encoding of its Response: a strict one, and each other strict one is
-/// longer. What a table serves is a MIB view ([`Table::is_mib_view`](crate::Table::is_mib_view)),
-/// and no configuration has messages of more than 65507 octets.
+/// A reply is the shortest encoding of its Response: it is strict, and every other strict encoding
+/// is longer. The agent must serve a MIB view, as a table is
+/// ([`Table::is_mib_view`](crate::Table::is_mib_view)), with messages of at most 65535 octets; a
+/// configuration allows at most 65507.
 pub fn shortest_reply()
     ensures shortest { (agent : Agent) (datagram octets : List ℕ) → IsMibView agent.view
         → agent.max_size ≤ 65535 → (reply : IsReply agent datagram octets)

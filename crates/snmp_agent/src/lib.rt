@@ -1,12 +1,12 @@
-//! A read-only agent: the replies to the requests of SNMPv2c, octets in and octets out (RFC 3416,
+//! A read-only agent: the replies to the requests of SNMPv2c, from octets to octets (RFC 3416,
 //! section 4.2).
 //!
-//! Built on the messages. Its table gives what each name has; its server, or a link in memory of
-//! the walk, passes the datagrams to it.
+//! Built on the messages of `snmp_wire`. A table stores the value of each name. A server, or a link
+//! in memory of `snmp_walk`, passes the datagrams to the agent.
 //!
 //! # Examples
 //!
-//! A table is read, and its agent drops what is no message:
+//! A table is read, and its agent drops a datagram that isn't a message:
 //!
 //! ```
 //! let table = Table::read(alloc, b"1.3.6.1.2.1.1.5.0|4|wes\n")?;
@@ -40,8 +40,8 @@ pub use endpoint::{Endpoint, EndpointFault};
 pub use server::{Served, serve, serve_at};
 pub use table::{Hint, NumericNames, Resolver, Table, TableError};
 
-// The program `snmp` needs none of these: the reply to a single request, the calls of a table's
-// second `impl`, and laws.
+// The program `snmp` needs none of these when it runs: the reply to a single request, what a
+// program needs that changes a table itself, and laws.
 pub use agent::answer;
 pub use laws::{
     changed_rows, no_fault, one_answer, one_fault, one_reply, one_table, shortest_reply,

@@ -1,4 +1,4 @@
-//! Where each repeating name of a GetBulk stands among the rows of a table.
+//! The position of each repeating name of a GetBulk among the rows of a table.
 ghost use Rattle.std.specs.Prelude.{◌≡◌};
 ghost use Rattle.snmp_oid.specs.Identifier.{IsWire};
 ghost use Rattle.snmp_wire.specs.Message.{end_of_mib_view};
@@ -10,20 +10,20 @@ use crate::table::{Guesses, Successors, Table};
 use snmp_wire::{Binding, EncodedBinding, EncodedName, MAX_DATAGRAM, Oid, ValueRef};
 use std::marker::Model;
 
-/// What a repeating name of a GetBulk was given in the round before.
+/// What a GetBulk returned for a repeating name in the previous round.
 #[derive(Drop)]
 pub enum Given<'a> {
-    /// No name was asked for: the default, for an array of places. Each place's name has an
-    /// encoding, so this one's is 0.0.
+    /// No name was requested: the default, for arrays of positions. The name of a position always
+    /// has an encoding, so this one's is 0.0.
     Nothing,
-    /// Nothing yet: this is the name in the request.
+    /// Nothing yet. Holds the name in the request.
     Asked(EncodedName<'a>),
-    /// A row.
+    /// This row.
     Row(&'a EncodedBinding),
 }
 
 impl Given<'_> {
-    /// Reads the name into an identifier. That it has an encoding is promised by `content`.
+    /// Reads the name into `into`. It has an encoding by the contract of `content`.
     fn read_name(&self, into: &mut Oid)
         ensures name { into.new ≡ name_of self.now }
         ensures wire { IsWire into.new }
@@ -43,10 +43,10 @@ impl Given<'_> {
     }
 }
 
-/// The place of a repeating name of a GetBulk among the rows of the table.
+/// The position of a repeating name of a GetBulk among the rows of the table.
 #[derive(Drop)]
 pub struct Place<'a> {
-    /// What the name was given last.
+    /// What was returned for the name last.
     given: Given<'a>,
     /// The rows after that.
     rows: Successors<'a>,
@@ -78,7 +78,7 @@ impl<'a> Place<'a> {
     ghost use Rattle.snmp_agent.specs.private.Answering.{add, held};
     ghost use Rattle.snmp_agent.specs.private.Standing.{is_over, next_at, passed, place_of};
 
-    /// The place of a name of a request, before any round.
+    /// Returns the position of a name of a request before the first round.
     pub fn new(table: &'a Table, name: EncodedName<'a>, hint: &mut Guesses<'_>) -> Place<'a>
         ensures { result ≡ place_of table.now 0 name.entry }
     {
@@ -89,7 +89,8 @@ impl<'a> Place<'a> {
         }
     }
 
-    /// [`Place::new`] for the name that a walk asks from, mostly that of the row given last.
+    /// Does what [`Place::new`] does for the name that a walk requests: mostly the name of the
+    /// last row returned.
     pub fn of_walk(table: &'a Table, name: EncodedName<'a>, hint: &mut Guesses<'_>) -> Place<'a>
         ensures { result ≡ place_of table.now 0 name.entry }
     {
@@ -100,7 +101,7 @@ impl<'a> Place<'a> {
         }
     }
 
-    /// The place of a name of a request after this many rounds.
+    /// Returns the position of a name of a request after `rounds` rounds.
     pub fn after_rounds(table: &'a Table, name: EncodedName<'a>, rounds: usize) -> Place<'a>
         ensures { result ≡ place_of table.now rounds name.entry }
     {
@@ -117,13 +118,13 @@ impl<'a> Place<'a> {
         }
     }
 
-    /// How many rows of the current page are left, and how many pages after it.
+    /// Returns the number of rows left on the current page, and the number of pages after it.
     #[inline]
     pub fn left(&self) -> (usize, usize) {
         self.rows.left()
     }
 
-    /// Whether no row is left, so that the name is given `EndOfMibView`.
+    /// Returns whether no row is left. The name then gets `EndOfMibView`.
     #[inline]
     pub fn is_at_end(&self) -> bool
         ensures { result ≡ is_over self.now }
@@ -131,7 +132,9 @@ impl<'a> Place<'a> {
         self.rows.is_empty()
     }
 
-    /// Appends what a GetNext returns at this place to a reply, and moves the place behind that.
+    /// Appends to `reply` the binding that a GetNext from this position returns, if it fits, and
+    /// moves to that row in any case. If no row is left, the binding has `EndOfMibView` and the
+    /// position stays.
     #[inline]
     pub fn append_next(
         &mut self,
@@ -151,8 +154,9 @@ impl<'a> Place<'a> {
     }
 }
 
-/// Appends the name of what was given last, with `EndOfMibView`, to a reply. Not inlined: its local
-/// binding, of over a thousand octets, is set to zeros as the function begins.
+/// Appends the name of what was returned last, with `EndOfMibView`. `inline(never)`: its local
+/// `Binding`, of over a thousand octets, is zeroed when the function begins; inlined, it would be
+/// zeroed for each row that is appended.
 #[inline(never)]
 pub fn append_end(
     given: &Given<'_>,

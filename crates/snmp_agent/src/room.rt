@@ -3,13 +3,13 @@ ghost use Rattle.std.specs.Prelude.{◌+◌, ◌≤◌};
 
 use snmp_wire::{Binding, EncodedBinding, MAX_DATAGRAM, ValueRef, element_sizes, encode_binding};
 
-/// The bindings of a reply that is being written, in the front of an output. After a binding for
-/// which there is no room, there is none for any other.
+/// The bindings of a reply that is being written, at the start of an output. Once a binding had no
+/// room, no other has.
 #[derive(Clone, Copy)]
 pub struct ReplyBindings {
-    /// How many octets the bindings take.
+    /// The number of octets that the bindings take.
     pub total: usize,
-    /// How many more octets there is room for.
+    /// The number of octets that further bindings may take.
     pub left: usize,
     ghost datagram: { total + left ≤ 65507 },
 }
@@ -19,7 +19,7 @@ impl ReplyBindings {
     ghost use Rattle.snmp_wire.specs.Message.{datum, var_bind};
     ghost use Rattle.snmp_agent.specs.private.Answering.{IsShortValue, IsWritable, add, put, held};
 
-    /// No bindings, with room for this many octets.
+    /// Returns an empty list of bindings, with room for `room` octets.
     #[inline]
     pub fn new(room: usize) -> ReplyBindings
         requires { room ≤ 65507 }
@@ -32,7 +32,7 @@ impl ReplyBindings {
         }
     }
 
-    /// Whether there is no room for more.
+    /// Returns whether no room is left.
     #[inline]
     pub fn is_full(self) -> bool
         ensures { IsTrue result ↔ (self.left ≡ 0) }
@@ -40,7 +40,7 @@ impl ReplyBindings {
         self.left == 0
     }
 
-    /// The same bindings, with no room for others.
+    /// Returns the same bindings, with no room for others.
     #[inline]
     pub fn full(self) -> ReplyBindings
         ensures same { result.total ≡ self.total }
@@ -52,7 +52,7 @@ impl ReplyBindings {
         }
     }
 
-    /// Writes a row after the others, by a copy of its octets.
+    /// Appends a row by copying its octets. If there is no room for it, none is left.
     #[inline]
     pub fn append_row(self, out: &mut [u8; MAX_DATAGRAM], row: &EncodedBinding) -> ReplyBindings
         ensures { held result out.new ≡ add (held self out.old) row.now }
@@ -60,7 +60,7 @@ impl ReplyBindings {
         self.append_octets(out, row.octets())
     }
 
-    /// Writes octets after the others.
+    /// Appends `octets`. If there is no room for them, none is left.
     fn append_octets(self, out: &mut [u8; MAX_DATAGRAM], octets: &[u8]) -> ReplyBindings
         ensures { held result out.new ≡ put (held self out.old) octets.now }
     {
@@ -75,7 +75,7 @@ impl ReplyBindings {
         }
     }
 
-    /// Writes a binding after the others.
+    /// Appends a binding. If there is no room for it, none is left.
     pub fn append(self, out: &mut [u8; MAX_DATAGRAM], binding: &Binding<'_>) -> ReplyBindings
         requires { IsWritable (var_bind binding.now) }
         ensures { held result out.new ≡ add (held self out.old) (var_bind binding.now) }
@@ -94,8 +94,8 @@ impl ReplyBindings {
         self.full()
     }
 
-    /// Whether a string has at most 65535 octets. Those of a table do; a Set may bring longer ones,
-    /// which fit in no reply.
+    /// Returns `false` if the value is a string of more than 65535 octets. A table has no such
+    /// string; a Set may contain one, and it fits in no reply.
     fn is_short(value: &ValueRef<'_>) -> bool
         ensures { IsTrue result ↔ IsShortValue (datum value.now) }
     {

@@ -1,4 +1,4 @@
-//! Serving a table: datagrams are received and replied to, one a turn.
+//! A server of a table: it receives datagrams and replies to them, one in each turn.
 ghost use Rattle.std.specs.Prelude.{◌≡◌, ◌+◌, List, cond};
 ghost use Rattle.snmp_agent.specs.Reply.{agent_of};
 ghost use Rattle.snmp_agent.specs.Serving.{Event, InTurn, IsTurn, AreTurns, same_turn};
@@ -11,14 +11,14 @@ use crate::table::{Hint, Table};
 use snmp_wire::MAX_DATAGRAM;
 use std::net::UdpSocket;
 
-/// How many turns of a server ended in which way.
+/// The number of turns of a server, by how they ended.
 #[derive(Clone, Copy, Debug, Default, PartialEq, Eq)]
 pub struct Served {
-    /// Turns in which a datagram came and its reply was sent.
+    /// Turns in which a datagram was received and its reply was sent.
     pub replies: u64,
-    /// Turns in which a datagram came that has no reply.
+    /// Turns in which a datagram was received that has no reply.
     pub dropped: u64,
-    /// Turns in which no datagram came in time.
+    /// Turns in which no datagram was received in time.
     pub idle: u64,
     /// Turns in which a receive or a send failed.
     pub faults: u64,
@@ -33,20 +33,21 @@ pub enum Turn {
     Failed,
 }
 
-/// Serves a table over a UDP socket (RFC 3417, section 3) for a number of turns. In each turn one
-/// datagram is received, or the socket's time-out passes, and the agent's reply goes to where the
-/// datagram came from. A turn in which a receive or a send fails counts under `faults` alone, and
-/// the next follows.
+/// Serves a table over a UDP socket (RFC 3417, section 3) for `turns` turns. In each turn one
+/// datagram is received, or the socket's time-out passes. The agent's reply goes to the address
+/// that the datagram came from. A turn in which a receive or a send fails counts only under
+/// `faults`, and the next turn follows.
 ///
-/// A socket without a time-out waits for each datagram. No memory is taken.
+/// A socket without a time-out waits for each datagram. Allocates nothing.
 pub fn serve(socket: &UdpSocket, table: &Table, config: &Config<'_>, turns: u64) -> Served
     ensures { result.replies + result.dropped + result.idle + result.faults ≡ turns }
 {
     serve_at(&mut SocketEndpoint::new(socket), table, config, turns)
 }
 
-/// [`serve`] at any endpoint, which receives the datagrams and sends the replies.
-// Not inlined: a caller with several such calls would have the two buffers of each on its stack.
+/// Does what [`serve`] does at any endpoint, which receives the datagrams and sends the replies.
+// `inline(never)`: its two buffers are on the stack. Inlined, a caller with several such calls
+// would reserve room for the buffers of each.
 #[inline(never)]
 pub fn serve_at<E: Endpoint>(
     endpoint: &mut E,
@@ -55,13 +56,13 @@ pub fn serve_at<E: Endpoint>(
     turns: u64,
 ) -> Served
     ensures adds_up { result.replies + result.dropped + result.idle + result.faults ≡ turns }
-    // The turns led from one state of the endpoint to the other: each datagram that came there,
-    // in order, got the agent's reply, sent to its peer, or is one that the agent drops, or the
-    // send of that reply failed.
+    // `events` happened at the endpoint in these turns. For each datagram that was received, the
+    // agent's reply was sent to its peer, or the send of that reply failed, or the agent drops the
+    // datagram.
     ensures turns { (events : List (Event E.Peer))
         × AreTurns (agent_of table.now config.now) turns result events
         × InTurn E.happens endpoint.old events endpoint.new }
-    // As many receives and sends failed as turns count as faults.
+    // One receive or send failed in each turn that counts as a fault.
     ensures faults { HasRisenBy result.faults (E.fault_count endpoint.old)
         (E.fault_count endpoint.new) }
 {
@@ -80,7 +81,7 @@ pub fn serve_at<E: Endpoint>(
     served
 }
 
-/// One turn: receives a datagram and sends the reply, if there is one.
+/// Serves one turn: receives a datagram, and sends the reply if there is one.
 fn serve_once<E: Endpoint>(
     endpoint: &mut E,
     table: &Table,
