@@ -1,6 +1,6 @@
-//! The table of an agent: the instances that it serves, and the text file that states them.
+//! The table of an agent: the instances that it serves. It can be read from a text file.
 //!
-//! Built on identifiers and values. The agent replies to requests from it.
+//! Built on identifiers and values. The agent computes its replies from it.
 ghost use Rattle.std.specs.Prelude.{◌↔◌, map, IsTrue};
 ghost use Rattle.snmp_agent.specs.table.Places.{HasBeginning};
 
@@ -33,10 +33,10 @@ use std::alloc::Global;
 use std::collections::BTreeSet;
 use std::marker::Model;
 
-/// What an agent serves.
+/// The instances and the object prefixes that an agent serves.
 pub struct Table {
     alloc: Global,
-    /// Replies search the rows themselves, by a hint.
+    /// The rows. Replies search these directly, with a hint.
     pub(crate) rows: Pages,
     objects: BTreeSet<Vec<u32>>,
 }
@@ -61,8 +61,8 @@ impl Model for Table {
 }
 
 impl Drop for Table {
-    // Written out, so that it is proved here alone: a derived one is proved in each crate above,
-    // with that of each type of its rows.
+    // Written out, so that it is proved only here. A derived one would be proved in each crate
+    // above, with those of the types of its rows.
     fn drop(self) {
         let Table {
             alloc: _alloc,
@@ -82,11 +82,12 @@ impl Table {
     ghost use Rattle.snmp_agent.specs.table.Stated.{IsTableIn, IsFirstFaultIn};
     ghost use Rattle.snmp_agent.specs.table.Table.{IsAnswerValue, IsGet, IsMibView};
 
-    /// Reads the table that a text states, or returns the fault of its first faulty line
-    /// (`docs/PROFILE.md`). `Memory` may come in place of any result. Names are numeric.
+    /// Reads the table that `text` defines (`docs/PROFILE.md`), with numeric names. If a line is
+    /// faulty, returns the fault of the first such line. If memory runs out, returns `Memory`
+    /// instead of any other result.
     ///
-    /// A line ends with LF, with CR LF or at the end of the text; a CR that no LF follows belongs
-    /// to its line.
+    /// A line ends with LF, with CR LF or at the end of the text. A CR that isn't followed by LF
+    /// belongs to its line.
     pub fn read(alloc: Global, text: &[u8]) -> Result<Table, TableError>
         ensures table { IfOk result (IsTableOf numeric_names (lines text.now)) }
         ensures view { IfOk result IsMibView }
@@ -95,8 +96,8 @@ impl Table {
         Table::read_with(alloc, text, &NumericNames)
     }
 
-    /// Reads the table that a text states, as [`Table::read`] does; the names of a text of the
-    /// second format, which begins with the line `#snmptab 2`, are read by `names`.
+    /// Reads the table that `text` defines, as [`Table::read`] does. If the text has the second
+    /// format, which begins with the line `#snmptab 2`, its names are read by `names`.
     pub fn read_with<R: Resolver>(
         alloc: Global,
         text: &[u8],
@@ -113,15 +114,15 @@ impl Table {
         }
     }
 
-    /// Reads the table that a text of this format states.
+    /// Reads the table that a text of this format defines.
     fn read_in<F: LineFormat>(alloc: Global, text: &[u8], format: &F) -> Result<Table, TableError>
         ensures table { IfOk result (IsTableIn (F.format format.now) (lines text.now)) }
         ensures view { IfOk result IsMibView }
         ensures fault { IfErr result (IsFirstFaultIn (F.format format.now) (lines text.now)) }
     {
         let read = match Draft::read(alloc, text, format, false) {
-            // Memory ran out while rows were gathered. An exact reading gathers none, and takes
-            // less.
+            // Memory ran out while rows were collected to be sorted. An exact reading collects
+            // none, and takes less memory.
             Err(Halt::Again) => Draft::read(alloc, text, format, true),
             read => read,
         };
@@ -137,14 +138,15 @@ impl Table {
         }
     }
 
-    /// What a table serves is a MIB view: a law, which does nothing when it runs.
+    /// A law: what a table serves is a MIB view. Does nothing when it runs.
     pub fn is_mib_view(&self)
         ensures { IsMibView self.now }
     {
         let _ = &self.rows;
     }
 
-    /// The exception that a Get gives for a name that no instance has, as [`Table::get`] says.
+    /// Returns the exception that a Get of `name` yields, which no instance has (see
+    /// [`Table::get`]).
     #[tactic(auto, using(crate::proofs::Finding::get_no_instance, crate::proofs::Finding::get_no_object))]
     pub(crate) fn exception(&self, name: &Oid) -> ValueRef<'_>
         requires { get self.now.rows name.now ≡ None }
@@ -159,7 +161,7 @@ impl Table {
         }
     }
 
-    /// The rows after a name, in order.
+    /// Returns the rows after `name`, in order.
     pub fn after(&self, name: &EncodedName<'_>) -> Successors<'_>
         ensures { AreBehind self.now name.now result }
     {
@@ -169,7 +171,7 @@ impl Table {
     }
 }
 
-// Single variables, for a program that keeps a table itself, as `snmp` does not.
+// Single variables, for a program that changes a table itself; `snmp` doesn't.
 impl Table {
     ghost use Rattle.std.specs.Prelude.{◌≡◌, IfOk, IfErr};
     ghost use Rattle.std.specs.{Option.option_map, FinMap.contains_key, FinMap.get};
@@ -179,9 +181,9 @@ impl Table {
     ghost use Rattle.snmp_agent.specs.table.Table.{IsInstanceValue, IsNextAfter, IsPutError};
     ghost use Rattle.snmp_agent.specs.table.Table.{with_row, without_row};
 
-    /// The value that a Get of the name gives: that of its instance; else `NoSuchObject` where no
-    /// object prefix equals the name or begins it, and `NoSuchInstance` where one does (RFC 3416,
-    /// section 4.2.1).
+    /// Returns the value that a Get of `name` yields: that of its instance. If there is no
+    /// instance, this is `NoSuchInstance` if an object prefix equals or begins `name`, otherwise
+    /// `NoSuchObject` (RFC 3416, section 4.2.1).
     pub fn get(&self, name: &Oid) -> ValueRef<'_>
         ensures answer { IsGet self.now name.now
             (record { name = name.now; value = datum result }) }
@@ -194,7 +196,7 @@ impl Table {
         }
     }
 
-    /// The row of this name. No row has a name without an encoding.
+    /// Returns the row of `name`, if there is one. No row has a name without an encoding.
     #[tactic(auto, using(crate::proofs::Changing::unnamed))]
     fn row_of(&self, name: &Oid) -> Option<&EncodedBinding>
         ensures { option_map (λ row. row.now.value) result ≡ get self.now.rows name.now }
@@ -211,9 +213,9 @@ impl Table {
         )
     }
 
-    /// Gives the instance of this name the value, and returns whether it had one before. All else
-    /// is unchanged; after an error the whole table is. No message changes a table: it is served
-    /// read-only.
+    /// Sets the value of the instance `name`, and returns whether the instance existed before.
+    /// Other rows are unchanged; after an error, the whole table is unchanged. No message changes
+    /// a table, since agents are read-only.
     pub fn put(&mut self, name: &Oid, value: ValueRef<'_>) -> Result<bool, PutError>
         ensures put { IfOk result (λ _. self.new ≡ with_row self.old name.now (datum value.entry)) }
         ensures replaced { IfOk result
@@ -235,9 +237,9 @@ impl Table {
         self.rows.put(self.alloc, row).map_err(|_| PutError::Memory)
     }
 
-    /// Removes the instance of this name, and returns whether there was one. All else is unchanged.
+    /// Removes the instance `name`, and returns whether it existed. Other rows are unchanged.
     ///
-    /// No memory is taken. That of a page is freed once its last row is removed.
+    /// Allocates nothing. The memory of a page is freed when its last row is removed.
     pub fn remove(&mut self, name: &Oid) -> bool
         ensures removed { self.new ≡ without_row self.old name.now }
         ensures found { result ≡ contains_key self.old.rows name.now }
@@ -250,9 +252,9 @@ impl Table {
         self.rows.remove(&EncodedName::write(name, &mut content))
     }
 
-    /// Changes a binding to what a GetNext of the name gives when it is repeated `rounds` times
-    /// more, each time from the name that it gave before, as a GetBulk repeats it (RFC 3416,
-    /// section 4.2.3).
+    /// Sets `into` to the result of the last of `rounds + 1` GetNexts. The first is of `name`, and
+    /// each other is of the name that the previous one returned, as in the rounds of a GetBulk
+    /// (RFC 3416, section 4.2.3).
     pub fn read_next_after<'a>(
         &'a self,
         name: &EncodedName<'_>,
@@ -273,7 +275,7 @@ impl Table {
     }
 }
 
-/// Whether the name equals one of the object prefixes or begins with it.
+/// Returns whether one of the object prefixes equals or begins `name`.
 fn has_beginning(objects: &BTreeSet<Vec<u32>>, name: &[u32]) -> bool
     ensures { IsTrue result ↔ HasBeginning (map
         (λ object. object.items) objects.now.keys) name.now }

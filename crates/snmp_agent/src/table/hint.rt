@@ -1,37 +1,39 @@
-//! Where names stood among the rows of a table, as guesses for later requests.
+//! Where names are among the rows of a table, as guesses for later requests.
 
 use crate::table::page::PAGE_ROWS;
 use snmp_wire::EncodedName;
 use std::fmt;
 
-/// How many pairs of names a hint keeps: one for each value of the high nine bits of a hash.
+/// The number of pairs of names that a hint stores: one pair for each value of the high nine bits
+/// of a hash.
 const PAIRS: usize = 512;
 
-// A count of a page's rows fits in the 8 bits that are kept of it.
+// The number of rows that a hint stores fits into 8 bits.
 const _: () = prove!(PAGE_ROWS < 256);
 
-/// Where names stood that an agent was asked for, as guesses for later requests: these mostly ask
-/// from the row that was given last, or for the same names again.
+/// Where the names of earlier requests are, as guesses for later ones. Later requests mostly ask
+/// from the row that was returned last, or for the same names again.
 #[derive(Clone, Copy)]
 pub struct Hint {
     last: Last,
-    /// Where names stood. The high 16 bits of a number are the place of the page, counted from 1,
-    /// or 0 for no name or a greater place; the next 8 bits are how many rows of that page have the
-    /// name or one before it; and the low 8 bits are those of the hash. The first of a pair was
-    /// kept after the second, and their hashes differ in the low 8 bits.
+    /// Where names are. The high 16 bits of a number are the index of the page plus one, or 0 if
+    /// there is no name or the index is too large. The next 8 bits are the number of rows of that
+    /// page whose names aren't greater than the name. The low 8 bits are those of the hash. The
+    /// first number of a pair was stored after the second, and their hashes differ in the low 8
+    /// bits.
     kept: [[u32; 2]; PAIRS],
 }
 
-/// The place of the row that was given last.
+/// The position of the row that was returned last.
 #[derive(Clone, Copy)]
 pub(crate) struct Last {
-    /// How many rows of its page come after it.
+    /// The number of rows after it on its page.
     rows: usize,
-    /// How many pages come after that.
+    /// The number of pages after that page.
     pages: usize,
 }
 
-// Shows the row that was given last, and no names.
+// Shows the position of the row that was returned last, and no names.
 impl fmt::Debug for Hint {
     fn fmt<W: fmt::Write>(&self, f: &mut fmt::Formatter<W>) -> fmt::Result {
         f.debug_struct("Hint")
@@ -59,7 +61,7 @@ impl Default for Last {
 
     ghost is_default = { λ _. ⊤ };
 
-    // No row: no table has as many pages.
+    // Refers to no row, since no table has as many pages.
     fn default() -> Last {
         Last {
             rows: 0,
@@ -84,23 +86,24 @@ impl Hint {
 #[derive(Drop)]
 pub(crate) struct Guesses<'h> {
     last: &'h mut Last,
-    /// The names of [`Hint`], or none where no other request follows.
+    /// The names of the [`Hint`], or none if no other request follows.
     kept: &'h mut [[u32; 2]],
 }
 
-/// A guess of where a name stands.
+/// A guess of where a name is.
 #[derive(Clone, Copy, Debug)]
 pub(crate) struct Guess {
     /// The hash of the name.
     hash: u32,
-    /// The place of its page.
+    /// The index of its page.
     pub(crate) page: usize,
-    /// How many rows of the page have the name or one before it.
+    /// The number of rows of the page whose names aren't greater than the name.
     pub(crate) row: usize,
 }
 
 impl<'h> Guesses<'h> {
-    /// A hint for a request that no other follows, so that it would only cost time to keep names.
+    /// Returns a hint for a request that no other follows. It stores no names, since that would
+    /// only cost time.
     #[inline]
     pub(crate) fn without_names(last: &'h mut Last) -> Guesses<'h> {
         Guesses {
@@ -109,21 +112,22 @@ impl<'h> Guesses<'h> {
         }
     }
 
-    /// How many rows of its page come after the row that was given last, and how many pages after
-    /// that.
+    /// Returns the number of rows after the row that was returned last, on its page, and the
+    /// number of pages after that page.
     #[inline]
     pub(crate) fn last(&self) -> (usize, usize) {
         (self.last.rows, self.last.pages)
     }
 
-    /// Keeps the row after which this many rows of its page, and this many pages, are left.
+    /// Records the position of the row that was returned last: `left` has the number of rows after
+    /// it on its page, and the number of pages after that page.
     #[inline]
     pub(crate) fn keep_last(&mut self, left: (usize, usize)) {
         self.last.rows = left.0;
         self.last.pages = left.1;
     }
 
-    /// A guess of where a name stands: nowhere, unless it is kept.
+    /// Returns a guess of where `name` is. It refers to no page if nothing is stored for the name.
     #[inline]
     pub(crate) fn guess(&self, name: &EncodedName<'_>) -> Guess {
         if self.kept.is_empty() {
@@ -144,8 +148,8 @@ impl<'h> Guesses<'h> {
         Guess::of(hash, kept)
     }
 
-    /// Keeps where a name stands: the place of its page, and how many rows of that have the name or
-    /// one before it.
+    /// Records where a name is: the index of its page, and the number of rows of that page whose
+    /// names aren't greater than the name.
     #[inline]
     pub(crate) fn keep(&mut self, guess: Guess, page: usize, row: usize) {
         let Some(pair) = self.kept.get_mut(place_of(guess.hash)) else {
@@ -160,9 +164,9 @@ impl<'h> Guesses<'h> {
         pair[0] = page << 16 | row << 8 | guess.hash % 256;
     }
 
-    /// Keeps the place of the row that was given last under its name. So walks whose requests
-    /// alternate each find their row, though another was given since. Not inlined: a single walk
-    /// doesn't come here.
+    /// Records the position of the row that was returned last under its name. So walks whose
+    /// requests alternate each find their row, although another row was returned since.
+    /// `inline(never)`: a single walk doesn't come here.
     #[inline(never)]
     pub(crate) fn keep_passed(&mut self, name: &EncodedName<'_>, page: usize, row: usize) {
         if !self.kept.is_empty() {
@@ -172,7 +176,7 @@ impl<'h> Guesses<'h> {
 }
 
 impl Guess {
-    /// The guess of a hash, by what is kept for it.
+    /// Returns the guess for a hash, from the number that is stored for it.
     #[inline]
     fn of(hash: u32, kept: u32) -> Guess {
         Guess {
@@ -183,17 +187,17 @@ impl Guess {
     }
 }
 
-/// The place of the pair of names that is kept for the high bits of a hash.
+/// Returns the index of the pair for the high bits of a hash.
 #[inline]
 fn place_of(hash: u32) -> usize {
     (hash >> 8) as usize % PAIRS
 }
 
-/// The hash of a name: a number below 131,072. It is made of the last sixteen octets, in which rows
-/// mostly differ, and of the second, third and fourth eight octets of a longer name, where the
-/// column of a row with a long index stands. If fewer than eight octets stand before the last
-/// eight, the first four and the last four of them are used, or none of fewer than four. Names with
-/// the same hash cost comparisons, and no more.
+/// Returns the hash of a name: a number below 131,072. It is computed from the last sixteen
+/// octets, in which rows mostly differ. Of a longer name, it also depends on the second, third and
+/// fourth eight octets, which contain the column of a row with a long index. If fewer than eight
+/// octets precede the last eight, their first four and last four are used, or none if there are
+/// fewer than four. Names with the same hash cost comparisons, and no more.
 #[inline]
 fn hash_of(content: &[u8]) -> u32 {
     let (front, last) = last_word(content);
@@ -202,8 +206,8 @@ fn hash_of(content: &[u8]) -> u32 {
     (mixed >> 47) as u32
 }
 
-/// The second, third and fourth eight octets as one number, as far as there are any. The first
-/// eight are the same in most names.
+/// Returns the second, third and fourth eight octets as one number, as far as there are any. The
+/// first eight are the same in most names.
 #[inline]
 fn middle_of(octets: &[u8]) -> u64 {
     let [_, _, _, _, _, _, _, _, rest @ ..] = octets else {
@@ -221,7 +225,8 @@ fn middle_of(octets: &[u8]) -> u64 {
     }
 }
 
-/// A number with another mixed in, so that its high bits depend on all bits of both.
+/// Returns `number` with `other` mixed in, so that the high bits of the result depend on all bits
+/// of both.
 #[inline]
 fn mix(number: u64, other: u64) -> u64 {
     number
@@ -229,7 +234,7 @@ fn mix(number: u64, other: u64) -> u64 {
         .wrapping_mul(0x9e37_79b9_7f4a_7c15)
 }
 
-/// The first eight octets as a number, and those after them.
+/// Returns the first eight octets as a number, and the octets after them.
 #[inline]
 fn first_word(octets: &[u8]) -> Option<(u64, &[u8])> {
     match octets {
@@ -241,8 +246,8 @@ fn first_word(octets: &[u8]) -> Option<(u64, &[u8])> {
     }
 }
 
-/// The octets before the last eight, and the last eight as a number. Fewer than eight are taken as
-/// [`few_octets`] does, with nothing before them.
+/// Returns the octets before the last eight, and the last eight as a number. If there are fewer
+/// than eight, returns no octets and the number of [`few_octets`].
 #[inline]
 fn last_word(octets: &[u8]) -> (&[u8], u64) {
     match octets {
@@ -254,7 +259,8 @@ fn last_word(octets: &[u8]) -> (&[u8], u64) {
     }
 }
 
-/// The first four octets and the last four as one number; fewer than four as 0.
+/// Returns the first four octets and the last four as one number, or 0 if there are fewer than
+/// four.
 #[inline]
 fn few_octets(octets: &[u8]) -> u64 {
     let [a, b, c, d, ..] = octets else {

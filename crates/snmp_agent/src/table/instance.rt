@@ -1,4 +1,4 @@
-//! What an instance may be called, and what it may hold.
+//! Which names and values an instance may have.
 ghost use Rattle.std.specs.Prelude.{IsTrue, ◌↔◌};
 ghost use Rattle.snmp_wire.specs.Message.{datum, object_id};
 ghost use Rattle.snmp_agent.specs.table.Table.{IsInstanceName, IsInstanceValue, IsTableString};
@@ -6,7 +6,7 @@ ghost use Rattle.snmp_agent.specs.table.Table.{IsInstanceName, IsInstanceValue, 
 use crate::table::value::LONGEST_STRING;
 use snmp_wire::{Oid, ValueRef};
 
-/// Whether an instance may have the name: three numbers at least, with an encoding.
+/// Returns whether an instance may have this name: it has at least three numbers, and an encoding.
 pub fn is_instance_name(name: &Oid) -> bool
     ensures { IsTrue result ↔ IsInstanceName name.now }
 {
@@ -14,8 +14,8 @@ pub fn is_instance_name(name: &Oid) -> bool
     numbers.len() >= 3 && name.is_wire()
 }
 
-/// Whether an instance may hold the value. A number is read, though not used, since the proof takes
-/// its range from its type there.
+/// Returns whether an instance may hold `value`. Numbers are read but not used: to read one tells
+/// the proof that it is within the range of its type.
 pub fn is_instance_value(value: &ValueRef<'_>) -> bool
     ensures { IsTrue result ↔ IsInstanceValue (datum value.now) }
 {
@@ -45,14 +45,14 @@ pub fn is_instance_value(value: &ValueRef<'_>) -> bool
     }
 }
 
-/// Whether a table may hold a string of these octets.
+/// Returns whether a table may hold a string of these octets.
 fn is_table_string(octets: &[u8]) -> bool
     ensures { IsTrue result ↔ IsTableString octets.now }
 {
     octets.len() <= LONGEST_STRING
 }
 
-/// Whether a table may hold an identifier as a value: one that has an encoding.
+/// Returns whether a table may hold `name` as a value: it has an encoding.
 fn is_table_identifier(name: &Oid) -> bool
     ensures { IsTrue result ↔ IsInstanceValue (object_id name.now) }
 {

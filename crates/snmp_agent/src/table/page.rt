@@ -1,4 +1,4 @@
-//! One page of a table's rows.
+//! One page of the rows of a table.
 ghost use Rattle.std.specs.Prelude.{◌≡◌, ◌≤◌, length, IfOk, IfErr};
 ghost use Rattle.std.specs.List.{insert};
 ghost use Rattle.snmp_agent.specs.declared.table.page.TheConstants.{PAGE_ROWS};
@@ -7,13 +7,13 @@ use crate::table::search::{Placed, find_row};
 use snmp_wire::{EncodedBinding, EncodedName};
 use std::alloc::{AllocError, Global};
 
-/// How many rows a page has at most.
+/// The greatest number of rows on a page.
 pub const PAGE_ROWS: usize = 128;
 
-/// Rows that lie together, so that a change moves no others.
+/// Rows that are stored together, so that a change moves no others.
 #[derive(Drop)]
 pub struct Page {
-    /// The rows, of which there is one at least.
+    /// The rows. There is at least one.
     pub rows: Vec<EncodedBinding>,
     ghost some: { 1 ≤ length rows.items },
     ghost most: { length rows.items ≤ PAGE_ROWS },
@@ -28,7 +28,7 @@ impl Page {
     ghost use Rattle.std.specs.List.{remove as remove_at};
     ghost use Rattle.snmp_agent.specs.table.Pages.{IsRising, entries_of, has_name};
 
-    /// A page of one row.
+    /// Returns a page of one row.
     pub fn of_row(alloc: Global, row: EncodedBinding) -> Result<Page, AllocError>
         ensures { IfOk result (λ page. page.rows.items ≡ row ∷ []) }
     {
@@ -48,8 +48,8 @@ impl Page {
         Ok(())
     }
 
-    /// Puts a row in its place among the others, or in place of the one that has its name, and
-    /// returns whether there was one.
+    /// Inserts a row in the order of names, or replaces the row that has its name. Returns whether
+    /// there was such a row.
     pub fn put(&mut self, row: EncodedBinding) -> Result<bool, AllocError>
         requires rising { IsRising self.old.rows.items }
         requires room { length self.old.rows.items < PAGE_ROWS }
@@ -73,12 +73,14 @@ impl Page {
         }
     }
 
-    /// Divides the page for a row of this name, and returns its back: half of the rows, but the
-    /// last row alone if the name comes after it, and all but the first if the name comes before
-    /// that. So rows that come in rising or falling order fill their pages.
+    /// Splits the page to make room for a row of `name`, and returns its second part. This is half
+    /// of the rows, with two exceptions: if `name` comes after all rows, it is only the last row;
+    /// if `name` comes before all rows, it is all rows but the first. So rows that arrive in
+    /// increasing or decreasing order fill their pages.
     ///
-    /// With `at_name` a back of less than half may begin where the name belongs. So columns that
-    /// are stated row by row fill their pages too: from then on no two of them share the page.
+    /// With `at_name`, a second part of less than half may begin where `name` belongs. So columns
+    /// that are listed row by row fill their pages too: from then on, no two of them share the
+    /// page.
     pub fn divide(&mut self, name: &EncodedName<'_>, at_name: bool) -> Result<Page, AllocError>
         requires { 1 < length self.old.rows.items }
         ensures parts { IfOk result (λ back. self.old.rows.items
@@ -100,7 +102,7 @@ impl Page {
         Ok(Page { rows })
     }
 
-    /// Removes the row at this place, which isn't the only one.
+    /// Removes the row at index `place`, which must not be the only one.
     pub fn remove(&mut self, place: usize)
         requires other { 1 < length self.old.rows.items }
         requires within { place < length self.old.rows.items }
@@ -116,7 +118,7 @@ impl Placed for Page {
 
     ghost up_to = { λ o page. begins_up_to o page.rows.items };
 
-    // Hot: called for each step of a search for a page.
+    // `inline(always)`: called for each step of a search for a page.
     #[inline(always)]
     fn is_up_to(&self, name: &EncodedName<'_>) -> bool
         ensures { result ≡ begins_up_to name.now self.now.rows.items }
@@ -128,7 +130,7 @@ impl Placed for Page {
     }
 }
 
-/// Inserts a row at a place.
+/// Inserts a row at index `place`.
 fn insert_row(
     rows: &mut Vec<EncodedBinding>,
     place: usize,
@@ -144,7 +146,7 @@ fn insert_row(
         rows.reserve_exact(PAGE_ROWS.saturating_sub(count))?;
     }
     rows.push(row)?;
-    // Moves the rows behind at once; `Vec::insert` moves them one by one.
+    // Moves the rows after it at once; `Vec::insert` moves them one by one.
     rows[place..].rotate_right(1);
     Ok(())
 }

@@ -22,45 +22,45 @@ use std::cmp::Ordering;
 use std::marker::Model;
 use std::mem;
 
-/// Rows by rising names, in pages of 1 to `PAGE_ROWS`, so that a change moves no more rows than a
-/// page has.
+/// Rows by increasing names, in pages of 1 to `PAGE_ROWS` rows, so that a change moves no more
+/// rows than a page has.
 #[derive(Drop)]
 pub struct Pages {
     list: Vec<Page>,
-    /// Whether rows that were put among others came in some order.
+    /// Whether the rows that were inserted among others came in some order.
     order: PutOrder,
 }
 
-/// The pages to which rows came that were put among others, by samples of 128 rows in turn. Only
+/// The pages into which rows were inserted among others, by successive samples of 128 rows. Only
 /// speed depends on it.
 #[derive(Drop)]
 struct PutOrder {
-    /// How many rows the current sample has.
+    /// The number of rows in the current sample.
     rows: u32,
-    /// The pages of these rows: a bit for each place, modulo 128.
+    /// The pages of these rows: bit `i` for the pages whose index modulo 128 is `i`.
     pages: u128,
-    /// How many of the last samples, in a row, came to many pages.
+    /// The number of samples, in a row and up to the last, whose rows came to many pages.
     scattered: u32,
 }
 
-/// A table with fewer pages than this divides a page where a name belongs, though few rows are
-/// behind that place. With more pages this would make their list long.
+/// The number of pages below which a page is split where a name belongs, even if few rows follow.
+/// With more pages, this would make the list of pages long.
 const FEW_PAGES: usize = 1024;
 
-/// The guess of a page where there is none.
+/// The index that stands for no guess of a page.
 const NO_GUESS: usize = usize::MAX;
 
-/// How many rows a sample has.
+/// The number of rows in a sample.
 const SAMPLE: u32 = 128;
 
-/// A sample whose rows come to at least this many pages is in no order. The rows of a conceptual
-/// table that is stated row by row come to one page for each column.
+/// The least number of pages to which the rows of a sample in no order come. The rows of a
+/// conceptual table that is listed row by row come to one page for each column.
 const MANY_PAGES: u32 = 68;
 
-/// After this many such samples in a row, rows are taken to come in no order.
+/// The number of such samples in a row after which rows are taken to be in no order.
 const MANY_SAMPLES: usize = 3;
 
-/// There must be one such sample for each of this many pages.
+/// The number of pages for which there must be one such sample.
 const PAGES_FOR_SAMPLE: usize = 32;
 
 impl Model for Pages {
@@ -90,7 +90,7 @@ impl Pages {
     ghost use Rattle.snmp_agent.specs.table.Places.{IsAfterAll, entry_of};
     ghost use Rattle.snmp_agent.specs.table.Pages.{StandsApart, entries_of};
 
-    /// No rows.
+    /// Returns an empty list of rows.
     pub fn new(alloc: Global) -> Pages
         ensures { entries result ≡ [] }
     {
@@ -104,8 +104,8 @@ impl Pages {
         }
     }
 
-    /// The row of this name. Nothing is searched where the hint is right; where it isn't, it keeps
-    /// where the name stands.
+    /// Returns the row of `name`, if there is one. If the hint is right, nothing is searched;
+    /// otherwise records in it where the name is.
     pub fn find_near(
         &self,
         name: &EncodedName<'_>,
@@ -128,9 +128,9 @@ impl Pages {
         row_at(rows, name, place)
     }
 
-    /// The rows after this name, for a walk, which mostly asks from the row that was given last.
-    /// Nothing is searched where the hint is right; where it isn't, it keeps where the name stands.
-    // Hot: called for each request of a walk.
+    /// Returns the rows after `name`, for a walk, which mostly asks from the row that was returned
+    /// last. If the hint is right, nothing is searched; otherwise records in it where the name is.
+    // `inline(always)`: called for each request of a walk.
     #[inline(always)]
     pub fn after_last(&self, name: &EncodedName<'_>, hint: &mut Guesses<'_>) -> Successors<'_>
         ensures { (front : List (List ℕ × Datum)) × StandsApart self.now name.now front result }
@@ -141,8 +141,9 @@ impl Pages {
         }
     }
 
-    /// The rows after this name, if its row is the one that was given last. If it isn't, the hint
-    /// keeps the place of that row under its name, since another walk may go on from there.
+    /// Returns the rows after `name` if its row is the one that was returned last. If it isn't,
+    /// records in the hint the position of that row under its name, since another walk may
+    /// continue from there.
     #[inline(always)]
     fn behind(&self, name: &EncodedName<'_>, hint: &mut Guesses<'_>) -> Option<Successors<'_>>
         ensures { IfSome result (λ rows. (front : List (List ℕ × Datum))
@@ -165,9 +166,9 @@ impl Pages {
         }
     }
 
-    /// The rows after this name. Nothing is searched where the hint's guess of its place is right;
-    /// where it isn't, the hint keeps the place. Not inlined, so that the usual path of a walk
-    /// stays short.
+    /// Returns the rows after `name`. If the hint's guess of its position is right, nothing is
+    /// searched; otherwise records the position in the hint. `inline(never)`, so that the usual
+    /// path of a walk stays short.
     #[inline(never)]
     pub fn after_near(&self, name: &EncodedName<'_>, hint: &mut Guesses<'_>) -> Successors<'_>
         ensures { (front : List (List ℕ × Datum)) × StandsApart self.now name.now front result }
@@ -192,8 +193,8 @@ impl Pages {
         Successors { rows, pages }
     }
 
-    /// Puts a row in its place among the others, or in place of the one that has its name, and
-    /// returns whether there was one.
+    /// Inserts a row in the order of names, or replaces the row that has its name. Returns whether
+    /// there was such a row.
     pub fn put(&mut self, alloc: Global, row: EncodedBinding) -> Result<bool, AllocError>
         ensures put { IfOk result (λ _. self.new ≡ insert self.old row.name row.value) }
         ensures replaced { IfOk result (λ replaced. replaced ≡ contains_key self.old row.name) }
@@ -210,22 +211,22 @@ impl Pages {
         Ok(replaced)
     }
 
-    /// Whether the last rows that were put among others came to many pages, as rows in no order do:
-    /// each step of the search for such a row waits for memory. It takes a share of all rows to
-    /// tell, since what is done about it looks at each row.
+    /// Returns whether the last rows that were inserted among others came to many pages, as rows
+    /// in no order do: each step of the search for such a row waits for memory. This takes samples
+    /// in proportion to the number of pages, since what is done about it looks at each row.
     #[inline]
     pub fn are_scattered(&self) -> bool {
         let samples = self.order.scattered as usize;
         samples >= MANY_SAMPLES && samples >= self.list.len() / PAGES_FOR_SAMPLE
     }
 
-    /// An upper bound of the number of rows.
+    /// Returns an upper bound of the number of rows.
     #[inline]
     pub fn most_rows(&self) -> usize {
         self.list.len().saturating_mul(PAGE_ROWS)
     }
 
-    /// How many rows there are.
+    /// Returns the number of rows.
     pub fn count(&self) -> usize {
         let mut count: usize = 0;
         for page in self.list.iter() {
@@ -234,8 +235,8 @@ impl Pages {
         count
     }
 
-    /// Inserts the hashes of the names of the last `count` rows, or of all where there are fewer.
-    /// Returns whether each was new.
+    /// Inserts into `hashes` the hashes of the names of the last `count` rows, or of all rows if
+    /// there are fewer. Returns `false` at the first hash that isn't new.
     pub fn insert_last(&self, count: usize, hashes: &mut Hashes) -> bool {
         let mut left = count;
         for page in self.list.iter().rev() {
@@ -252,7 +253,7 @@ impl Pages {
         true
     }
 
-    /// Whether all rows come before the name.
+    /// Returns whether all rows come before `name`.
     #[tactic(auto, using(crate::proofs::Gathering::entries_are))]
     pub fn ends_before(&self, name: &EncodedName<'_>) -> bool
         ensures { IsTrue result → IsAfterAll name.now (entries self.now) }
@@ -260,7 +261,7 @@ impl Pages {
         ends_before(self.list.as_slice(), name)
     }
 
-    /// Appends a row that comes after all others.
+    /// Appends a row, which must come after all others.
     pub fn append(&mut self, alloc: Global, row: EncodedBinding) -> Result<(), AllocError>
         requires { IsAfterAll row.name (entries self.old) }
         ensures appended { IfOk result
@@ -271,14 +272,14 @@ impl Pages {
         Ok(())
     }
 
-    /// Sorts rows, puts each in its place, and returns whether none has the name of another. Where
-    /// one has, or memory runs out, some are lost.
+    /// Sorts `rows`, inserts each in the order of names, and returns whether none has the name of
+    /// another row. If one has, or memory runs out, some rows are lost.
     pub fn put_sorted(&mut self, alloc: Global, rows: &mut Vec<Late>) -> Result<bool, AllocError>
         ensures { IfOk result (λ apart. IsTrue apart
             → IsPermutation (entries self.old ++ entries_of rows.old.items) (entries self.new)) }
     {
         sort_falling(rows);
-        // A search for each of few rows takes less than a pass over all that are there.
+        // A search for each of few rows takes less time than a pass over all rows.
         if rows.len() < self.most_rows() / 8 {
             self.put_all(alloc, rows)
         } else {
@@ -286,8 +287,8 @@ impl Pages {
         }
     }
 
-    /// Puts each of the rows in its place, from the last one on, and returns whether none has the
-    /// name of another. Where one has, or memory runs out, some are lost.
+    /// Inserts each of `rows` in the order of names, from the last one on, and returns whether
+    /// none has the name of another row. If one has, or memory runs out, some rows are lost.
     #[tactic(auto, using(crate::proofs::Gathering::last_moves))]
     pub fn put_all(&mut self, alloc: Global, rows: &mut Vec<Late>) -> Result<bool, AllocError>
         ensures { IfOk result (λ apart. IsTrue apart
@@ -301,8 +302,8 @@ impl Pages {
         Ok(true)
     }
 
-    /// [`Pages::put_all`] by one pass over all rows, also those that were there: it is faster where
-    /// many rows are put, if their names fall.
+    /// Does what [`Pages::put_all`] does, by one pass over all rows, also those that were there
+    /// before. This is faster for many rows if their names decrease.
     pub fn merge(&mut self, alloc: Global, rows: &mut Vec<Late>) -> Result<bool, AllocError>
         ensures { IfOk result (λ apart. IsTrue apart
             → IsPermutation (entries self.old ++ entries_of rows.old.items) (entries self.new)) }
@@ -316,8 +317,8 @@ impl Pages {
         self.put_all(alloc, rows)
     }
 
-    /// Puts the rows of a page, and before each of them those at the end of `others` that come
-    /// before it. Returns whether none has the name of another.
+    /// Inserts the rows of `page`, and before each of them the rows at the end of `others` that
+    /// come before it. Returns whether none has the name of another row.
     fn merge_page(
         &mut self,
         alloc: Global,
@@ -337,8 +338,8 @@ impl Pages {
         Ok(true)
     }
 
-    /// Takes rows from the end of the list while they come before the name, and puts them. Returns
-    /// whether none has the name of another.
+    /// Takes rows from the end of `rows` while they come before `name`, and inserts them. Returns
+    /// whether none has the name of another row.
     #[inline(always)]
     #[tactic(auto, using(crate::proofs::Gathering::last_moves))]
     fn put_before(
@@ -365,7 +366,7 @@ impl Pages {
         Ok(true)
     }
 
-    /// Removes the row of this name, and returns whether there was one.
+    /// Removes the row of `name`, and returns whether there was one.
     pub fn remove(&mut self, name: &EncodedName<'_>) -> bool
         ensures removed { self.new ≡ remove_key self.old name.now }
         ensures found { result ≡ contains_key self.old name.now }
@@ -385,7 +386,7 @@ impl Pages {
 }
 
 impl PutOrder {
-    /// Notes that a row was put in the page at this place.
+    /// Records that a row was inserted into the page with the index `page`.
     #[inline]
     fn note(&mut self, page: usize) {
         self.pages |= 1 << (page % 128);
@@ -402,7 +403,7 @@ impl PutOrder {
     }
 }
 
-/// The row that a guess leads to, if it has the name. No other row is looked at.
+/// Returns the row that `guess` refers to if it has the name. Looks at no other row.
 #[inline]
 fn row_guessed<'a>(
     pages: &'a [Page],
@@ -423,9 +424,9 @@ fn row_guessed<'a>(
     Some(row)
 }
 
-/// The rows after this name, if the guess of its place is right: the row before the place has the
-/// name, or the name stands between that row and the next one of the page. No other row is looked
-/// at.
+/// Returns the rows after `name` if the guess of its position is right: the row before that
+/// position has the name, or the name is between that row and the next one on the page. Looks at
+/// no other row.
 #[inline]
 fn rows_guessed<'a>(
     pages: &'a [Page],
@@ -449,8 +450,8 @@ fn rows_guessed<'a>(
     Some(Successors { rows, pages })
 }
 
-/// Whether the last row in front has the name, or the name stands between that row and the first
-/// one behind.
+/// Returns whether `front` ends with the row of `name`, or with a smaller name while `rows` begins
+/// with a greater one.
 #[inline]
 fn stands_between(name: &EncodedName<'_>, front: &[EncodedBinding], rows: &[EncodedBinding]) -> bool
     ensures { IsTrue result → StandsBetween name.now front.now rows.now }
@@ -468,8 +469,8 @@ fn stands_between(name: &EncodedName<'_>, front: &[EncodedBinding], rows: &[Enco
     }
 }
 
-/// The place of the only page that may have a row of this name: the last one that begins with it or
-/// a name before it, else the first. Nothing is searched where the guess is right.
+/// Returns the index of the only page that may have a row of `name`: the last page that is up to
+/// the name, or the first page if none is. If the guess is right, nothing is searched.
 fn page_near(pages: &[Page], name: &EncodedName<'_>, guess: usize) -> usize
     requires { ArePages pages.now }
     ensures { IsPageOf name.now pages.now result }
@@ -478,8 +479,8 @@ fn page_near(pages: &[Page], name: &EncodedName<'_>, guess: usize) -> usize
     count_between(pages, name, begun, end).saturating_sub(1)
 }
 
-/// Whether all rows come before the name.
-// Hot: called for each row of a table that is read.
+/// Returns whether all rows come before `name`.
+// `inline(always)`: called for each row of a table that is read.
 #[inline(always)]
 #[tactic(auto, using(crate::proofs::Paging::after_all, crate::proofs::Rising::less_from_test))]
 fn ends_before(pages: &[Page], name: &EncodedName<'_>) -> bool
@@ -496,8 +497,8 @@ fn ends_before(pages: &[Page], name: &EncodedName<'_>) -> bool
     }
 }
 
-/// Appends a row that comes after all others.
-// Hot: called for each row of a table that is read in order.
+/// Appends a row, which must come after all others.
+// `inline(always)`: called for each row of a table that is read in order.
 #[inline(always)]
 #[tactic(auto, using(crate::proofs::Changing::if_err, crate::proofs::Paging::same_rows, crate::proofs::Paging::appended, crate::proofs::Paging::appended_page))]
 fn append(alloc: Global, pages: &mut Vec<Page>, row: EncodedBinding) -> Result<(), AllocError>
@@ -516,7 +517,8 @@ fn append(alloc: Global, pages: &mut Vec<Page>, row: EncodedBinding) -> Result<(
     Ok(())
 }
 
-/// The place of the page where a row of this name belongs. A full page is divided first.
+/// Returns the index of the page where a row of `name` belongs. If the page is full, splits it
+/// first.
 fn page_with_room(pages: &mut Vec<Page>, name: &EncodedName<'_>) -> Result<usize, AllocError>
     requires rising { ArePages pages.old.items }
     requires some { 1 ≤ length pages.old.items }
@@ -530,7 +532,7 @@ fn page_with_room(pages: &mut Vec<Page>, name: &EncodedName<'_>) -> Result<usize
     divide(pages, place, name)
 }
 
-/// Divides the page where a row of this name belongs, and returns the place of the part where it
+/// Splits the page where a row of `name` belongs, and returns the index of the part where it
 /// belongs.
 fn divide(pages: &mut Vec<Page>, place: usize, name: &EncodedName<'_>) -> Result<usize, AllocError>
     requires rising { ArePages pages.old.items }
@@ -553,7 +555,8 @@ fn divide(pages: &mut Vec<Page>, place: usize, name: &EncodedName<'_>) -> Result
     }
 }
 
-/// Removes a row from a page. A page that has no other row is removed, which frees its memory.
+/// Removes a row from a page. If the page has no other row, removes the page, which frees its
+/// memory.
 fn remove_row(pages: &mut Vec<Page>, place: usize, row: usize)
     requires { IsRowIn pages.old.items place row }
     ensures { IsWithoutRow pages.old.items place row (entries_in pages.new.items) }
@@ -568,9 +571,9 @@ fn remove_row(pages: &mut Vec<Page>, place: usize, row: usize)
 /// The rows after a name, as repeated GetNexts return them.
 #[derive(Drop)]
 pub struct Successors<'a> {
-    /// Those in the current page.
+    /// The rows left on the current page.
     rows: &'a [EncodedBinding],
-    /// The pages after that.
+    /// The pages after that page.
     pages: &'a [Page],
 }
 
@@ -593,9 +596,9 @@ impl<'a> Successors<'a> {
     ghost use Rattle.snmp_agent.specs.table.Pages.{AreBehind};
     ghost use Rattle.snmp_agent.specs.table.Table.{MibView, IsNext};
 
-    /// Changes a binding of the name that these rows follow to what a GetNext of it gives:
-    /// the first of them, else the name itself with `EndOfMibView` (RFC 3416, section 4.2.2). The
-    /// rows after that are left.
+    /// Sets `binding`, whose name these rows follow, to the result of a GetNext of that name: the
+    /// first of the rows, or the name itself with `EndOfMibView` if there is none (RFC 3416,
+    /// section 4.2.2). The rows after it are left.
     pub fn advance(&mut self, binding: &mut Binding<'a>)
         ensures next { (view : MibView) → AreBehind view binding.old.name self.old
             → IsNext view binding.old.name (var_bind binding.new) }
@@ -609,7 +612,7 @@ impl<'a> Successors<'a> {
         }
     }
 
-    /// Takes the first row.
+    /// Removes the first row, and returns it.
     #[inline]
     pub(crate) fn next_row(&mut self) -> Option<&'a EncodedBinding>
         ensures some { IfSome result (λ row. self.old ≡ entry_of row.now ∷ self.new) }
@@ -626,13 +629,13 @@ impl<'a> Successors<'a> {
         Some(row)
     }
 
-    /// How many rows of the current page are left, and how many pages after it.
+    /// Returns the number of rows left on the current page, and the number of pages after it.
     #[inline]
     pub(crate) fn left(&self) -> (usize, usize) {
         (self.rows.len(), self.pages.len())
     }
 
-    /// Whether there are none.
+    /// Returns whether no row is left.
     #[inline]
     pub(crate) fn is_empty(&self) -> bool
         ensures { IsTrue result ↔ (self.now ≡ []) }
@@ -640,8 +643,8 @@ impl<'a> Successors<'a> {
         self.rows.is_empty() && self.pages.is_empty()
     }
 
-    /// Skips `count` rows, or all where there are fewer, and sets the name to that of the last one
-    /// skipped.
+    /// Skips `count` rows, or all if there are fewer, and sets `name` to the name of the last one
+    /// skipped, if any.
     pub fn skip(&mut self, count: usize, name: &mut Oid)
         ensures left { self.new ≡ drop count self.old }
         ensures name { name.new ≡ last_name name.old (take count self.old) }
@@ -651,7 +654,7 @@ impl<'a> Successors<'a> {
         }
     }
 
-    /// Skips `count` rows, or all where there are fewer, and returns the last one skipped.
+    /// Skips `count` rows, or all if there are fewer, and returns the last one skipped, if any.
     pub(crate) fn skip_rows(&mut self, count: usize) -> Option<&'a EncodedBinding>
         ensures left { self.new ≡ drop count self.old }
         ensures last { (o : List ℕ) → option_map_or (λ row. row.now.name) result o
@@ -690,7 +693,7 @@ impl<'a> Default for Successors<'a> {
     }
 }
 
-/// The last of the rows, or `before` where there is none.
+/// Returns the last of `rows`, or `before` if there is none.
 #[inline]
 #[tactic(auto, using(crate::proofs::Following::last_rows))]
 fn last_of<'a>(

@@ -1,4 +1,4 @@
-//! Searches by name in lists whose names rise: by halves, or from a guess of the place.
+//! Searches by name in lists with increasing names: by halves, or from a guess.
 ghost use Rattle.std.specs.Prelude.{◌≡◌, ◌<◌, ◌≤◌, Bool, List, ℕ, IfOk, IfErr, IfSome};
 ghost use Rattle.std.specs.{List.Sorted.IsPartitionedBy, Option.option_map, Ordering.nat_cmp};
 ghost use Rattle.std.specs.{Cmp.Lexicographic.slice_cmp, FinMap.find};
@@ -8,13 +8,13 @@ ghost use Rattle.snmp_agent.specs.table.Pages.{entries_of};
 
 use snmp_wire::{EncodedBinding, EncodedName};
 
-/// An element of a list whose names rise: a row, or several rows together.
+/// An element of a list with increasing names: a row, or a page of rows. An element is *up to* a
+/// name if the name of its row, or of its first row, isn't greater than that name.
 pub trait Placed {
-    /// Whether the element is up to the name: its row, or the first of its rows, has the name or
-    /// one before it.
+    /// `up_to name element`: the element is up to `name`.
     ghost up_to: { List ℕ → Self → Bool };
 
-    /// Whether the element is up to the name.
+    /// Returns whether the element is up to `name`.
     fn is_up_to(&self, name: &EncodedName<'_>) -> bool
         ensures { result ≡ up_to name.now self.now };
 }
@@ -33,8 +33,8 @@ impl Placed for EncodedBinding {
     }
 }
 
-/// How many elements are up to the name, where those before the place `from` are, and those from
-/// the place `to` on aren't.
+/// Returns how many elements are up to `name`. Those before index `from` must be, and those from
+/// index `to` on must not.
 #[inline(always)]
 pub fn count_between<T: Placed>(
     items: &[T],
@@ -59,9 +59,9 @@ pub fn count_between<T: Placed>(
     begun
 }
 
-/// Narrows a search by a guess of the last element that is up to the name. Elements before the
-/// first place returned are up to it, and those from the second on aren't: both are one place where
-/// the guess is right.
+/// Narrows a search by a guess of the index of the last element that is up to `name`. Returns two
+/// indices: the elements before the first are up to `name`, and those from the second on aren't.
+/// Both are the same index if the guess is right.
 #[inline(always)]
 pub fn near<T: Placed>(items: &[T], name: &EncodedName<'_>, guess: usize) -> (usize, usize)
     requires { IsPartitionedBy (T.up_to name.now) items.now }
@@ -79,7 +79,7 @@ pub fn near<T: Placed>(items: &[T], name: &EncodedName<'_>, guess: usize) -> (us
     }
 }
 
-/// Narrows a search between two places by the test of one element there.
+/// Narrows a search between two indices by a test of the element at `at`.
 #[inline(always)]
 fn by_test<T: Placed>(
     items: &[T],
@@ -101,19 +101,20 @@ fn by_test<T: Placed>(
     }
 }
 
-/// Returns how many rows have the name or one before it. `guess` is a guess of that, 0 for none:
+/// Returns how many rows are up to `name`. `guess` is a guess of the result, or 0 for none;
 /// nothing is searched if it is right.
 #[tactic(auto, using(crate::proofs::Partition::partitioned))]
 pub fn place_near(rows: &[EncodedBinding], name: &EncodedName<'_>, guess: usize) -> usize
     requires { IsRising rows.now }
     ensures { IsPlaceAfter name.now rows.now result }
 {
-    // The last row up to the name is one before that.
+    // The last row up to the name is at the index before that number.
     let (passed, end) = near(rows, name, guess.wrapping_sub(1));
     count_between(rows, name, passed, end)
 }
 
-/// The row of this name. `place` is how many rows have the name or one before it.
+/// Returns the row of `name`, if there is one. `place` is the number of rows that are up to
+/// `name`.
 #[inline]
 pub fn row_at<'a>(
     rows: &'a [EncodedBinding],
@@ -136,7 +137,7 @@ pub fn row_at<'a>(
     }
 }
 
-/// The place of the row of this name, or as an error the place where such a row belongs.
+/// Returns the index of the row of `name`, or as an error the index at which such a row belongs.
 pub fn find_row(rows: &[EncodedBinding], name: &EncodedName<'_>) -> Result<usize, usize>
     requires { IsRising rows.now }
     ensures found { IfOk result (HasNameAt name.now rows.now) }
