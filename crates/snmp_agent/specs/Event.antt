@@ -2,8 +2,8 @@
 use Rattle.std.specs.Prelude.{◌≡◌, ℕ, List, [], ◌∷◌, take, Option, Some, None, Result, Ok, Err}
 use Rattle.snmp_agent.specs.declared.endpoint.EndpointFault.{EndpointFault}
 
--- a datagram came from a peer, or none came in time, or a receive failed; a reply was sent to a
--- peer, or its send failed
+-- an event: a datagram came from a peer, none came in time, or a receive failed; or a reply was
+-- sent to a peer, or its send failed
 pub data Event (Peer : Type 0) : Type 0 where
   came : Peer → List ℕ → Event Peer
   silence : Event Peer
@@ -11,21 +11,21 @@ pub data Event (Peer : Type 0) : Type 0 where
   sent : Peer → List ℕ → Event Peer
   send_failed : Peer → List ℕ → Event Peer
 
--- these steps led from one state to the other, each from the state in which the one before it
+-- the steps lead from state `old` to state `new`, each from the state in which the previous one
 -- ended
 abbrev pub InTurn : {L X : Type 0} → (L → X → L → Type 0) → L → List X → L → Type 0
 InTurn {L} step old [] new = new ≡ old
 InTurn {L} step old (x ∷ more) new =
     (between : L) × step old x between × InTurn step between more new
 
--- what a receive was: a datagram that came, silence, or a fault
+-- the event of a receive: a datagram that came, silence, or a fault
 abbrev pub event_of_receive : {Peer : Type 0} → Result (Option (ℕ × Peer)) EndpointFault → List ℕ
     → Event Peer
 event_of_receive (Ok (Some (n, peer))) buffer = came peer (take n buffer)
 event_of_receive (Ok None) buffer = silence
 event_of_receive (Err _) buffer = receive_failed
 
--- what a send was: a datagram that was sent, or a fault
+-- the event of a send: a datagram that was sent, or a fault
 abbrev pub event_of_reply : {Peer : Type 0} → Result (Unit {0}) EndpointFault → Peer → List ℕ
     → Event Peer
 event_of_reply (Ok _) peer datagram = sent peer datagram

@@ -8,13 +8,13 @@ use Rattle.snmp_agent.specs.table.Table.{MibView, IsGet, IsNext, IsNextAfter}
 use Rattle.snmp_agent.specs.{declared.config.Config.Config, declared.config.Why.Why}
 use Rattle.snmp_agent.specs.declared.config.Why.TheVariants as why
 
--- an agent: what it serves, its community, and the greatest size of its messages in octets
+-- an agent: what it serves, its community, and the greatest length of its messages in octets
 pub record Agent : Type 0 where
   pub view : MibView
   pub community : List ℕ
   pub max_size : ℕ
 
--- the agent of a table with this configuration
+-- the agent that serves this view with this configuration
 abbrev pub agent_of : MibView → Config → Agent
 agent_of view config = record {
   view = view;
@@ -25,7 +25,7 @@ agent_of view config = record {
 
 -- ---- requests
 
--- the kinds of request that are served
+-- requests of this kind are served
 abbrev pub IsServed : Kind → Type 0
 IsServed kind.GetRequest = Unit {0}
 IsServed kind.GetNextRequest = Unit {0}
@@ -33,8 +33,8 @@ IsServed kind.SetRequest = Unit {0}
 IsServed kind.GetBulkRequest = Unit {0}
 IsServed _ = ⊥
 
--- the octets are the message, which is of version 1, that of SNMPv2c, of the agent's community, and
--- a request that is served
+-- `octets` encode `q`, a message of version 1, which stands for SNMPv2c, of the agent's community,
+-- and a request that is served
 pub record IsRequest (community octets : List ℕ) (q : Message) : Type 0 where
   pub spelt : Spells q octets
   pub version : q.version ≡ pos 1
@@ -43,7 +43,7 @@ pub record IsRequest (community octets : List ℕ) (q : Message) : Type 0 where
 
 -- ---- responses
 
--- the Response to a request has its version, community and request-id
+-- a Response to a request: it has the request's version, community and request-id
 abbrev pub response : Message → ℤ → ℤ → List VarBind → Message
 response q status index bindings = record {
   version = q.version;
@@ -55,14 +55,14 @@ response q status index bindings = record {
   bindings = bindings;
 }
 
--- each binding of the request is answered by the one at its place
+-- the second list has an answer to each binding of the first, in the same order
 abbrev pub AreAnswers : (VarBind → VarBind → Type 0) → List VarBind → List VarBind → Type 0
 AreAnswers IsAnswer [] [] = Unit {0}
 AreAnswers IsAnswer (asked ∷ more) (given ∷ rest) = IsAnswer asked given
     × AreAnswers IsAnswer more rest
 AreAnswers IsAnswer _ _ = ⊥
 
--- the error statuses noError, tooBig and notWritable (RFC 3416, section 3)
+-- the error-statuses noError, tooBig and notWritable (RFC 3416, section 3)
 abbrev pub no_error : ℤ
 no_error = pos 0
 
@@ -72,14 +72,15 @@ too_big = pos 1
 abbrev pub not_writable : ℤ
 not_writable = pos 17
 
--- a Set fails at its first binding, if it has one
+-- the error-index of the Response to a Set: 1, its first binding, or 0 if it has none
 abbrev pub failed_place : List VarBind → ℤ
 failed_place [] = pos 0
 failed_place (_ ∷ _) = pos 1
 
--- the Response to a request that has one binding for each of its own, whatever its size: to a Get
--- the bindings asked for (4.2.1), to a GetNext their successors (4.2.2), and to a Set, since
--- nothing can be written, its own bindings and an error (4.2.5)
+-- `r` is the whole Response to the request `q`, whatever its length. It has one binding for each
+-- binding of the request: for a Get the results of a Get (4.2.1), for a GetNext the successors
+-- (4.2.2), and for a Set the request's own bindings with an error, since nothing can be written
+-- (4.2.5).
 pub data IsWhole (view : MibView) (q r : Message) : Type 0 where
   got : (bindings : List VarBind) → q.kind ≡ kind.GetRequest
       → AreAnswers (λ asked given. IsGet view asked.name given) q.bindings bindings
@@ -90,13 +91,13 @@ pub data IsWhole (view : MibView) (q r : Message) : Type 0 where
   unwritten : q.kind ≡ kind.SetRequest
       → r ≡ response q not_writable (failed_place q.bindings) q.bindings → IsWhole view q r
 
--- the message's shortest encoding has at most `max_size` octets
+-- the shortest encoding of the message has at most `max_size` octets
 abbrev pub Fits : ℕ → Message → Type 0
 Fits max_size m = length (canon m) ≤ max_size
 
 -- ---- GetBulk (4.2.3)
 
--- a number, or 0 where it is negative
+-- the number, or 0 if it is negative
 abbrev pub or_zero : ℤ → ℕ
 or_zero (pos n) = n
 or_zero (negsuc n) = 0
@@ -106,15 +107,15 @@ abbrev pub AreEnds : List VarBind → Type 0
 AreEnds [] = Unit {0}
 AreEnds (p ∷ more) = (p.value ≡ end_of_mib_view) × AreEnds more
 
--- lists, one after the other
+-- the rounds as one list
 abbrev pub joined : List (List VarBind) → List VarBind
 joined [] = []
 joined (round ∷ more) = round ++ joined more
 
--- The rounds of the names that repeat. The round after i others has for each name, at its place,
--- what a GetNext gives when it is repeated i times more, each time from the name that it gave
--- before: the name's successor number i + 1. There are as many rounds as repetitions, or fewer
--- where all of the last round is endOfMibView; no round comes after such a one.
+-- `rounds` are the rounds of a GetBulk for the names that repeat. The round after n others has for
+-- each name the last result of n + 1 GetNexts, the first of the name and each other of the name
+-- that the previous one returned: the name's successor number n + 1. There are `repetitions`
+-- rounds, or fewer if all of the last round is endOfMibView. No round follows such a round.
 pub record AreRounds (view : MibView) (repetitions : ℕ) (names : List VarBind) (rounds : List
     (List VarBind)) : Type 0 where
   pub few : length rounds ≤ repetitions
@@ -127,8 +128,8 @@ pub record AreRounds (view : MibView) (repetitions : ℕ) (names : List VarBind)
       → (before : List (List VarBind)) × (round : List VarBind) × (rounds ≡ before ++ round ∷ [])
       × AreEnds round
 
--- All variable bindings that a GetBulk asks for, whatever their size: the successors of its first
--- names, as many as non-repeaters says or all that there are, and then max-repetitions rounds of
+-- `bindings` are all that a GetBulk asks for, whatever their length: the successors of its first
+-- names, as many as its non-repeaters or all that there are, and then max-repetitions rounds of
 -- the other names. A negative number counts as 0.
 pub record IsBulk (view : MibView) (q : Message) (bindings : List VarBind) : Type 0 where
   pub singles : List VarBind
@@ -138,7 +139,7 @@ pub record IsBulk (view : MibView) (q : Message) (bindings : List VarBind) : Typ
       (or_zero q.a) q.bindings) singles
   pub are_rounds : AreRounds view (or_zero q.b) (drop (or_zero q.a) q.bindings) rounds
 
--- the longest front of all these bindings with which the Response fits; no bindings where it fits
+-- `bindings` are the longest prefix of `all` with which the Response fits, or empty if it fits
 -- with none
 pub record IsLongestFront (max_size : ℕ) (q : Message) (all bindings : List VarBind) : Type 0 where
   pub more : List VarBind
@@ -149,9 +150,9 @@ pub record IsLongestFront (max_size : ℕ) (q : Message) (all bindings : List Va
 
 -- ---- sizes
 
--- The Response that is to be sent where messages have at most `max_size` octets: the whole one
--- where it fits, else an error without bindings (4.2.1, 4.2.2, 4.2.5); to a GetBulk as many
--- bindings, from the first on, as fit (4.2.3).
+-- `r` is the Response to send if messages have at most `max_size` octets: the whole one if it
+-- fits, otherwise an error without bindings (4.2.1, 4.2.2, 4.2.5); for a GetBulk, as many of its
+-- bindings as fit, from the first on (4.2.3).
 pub data IsResponse (view : MibView) (max_size : ℕ) (q r : Message) : Type 0 where
   whole : IsWhole view q r → Fits max_size r → IsResponse view max_size q r
   shortened : (large : Message) → IsWhole view q large → (Fits max_size large → ⊥)
@@ -162,8 +163,8 @@ pub data IsResponse (view : MibView) (max_size : ℕ) (q r : Message) : Type 0 w
 
 -- ---- replies
 
--- the octets are the agent's reply to a datagram: the shortest encoding of its Response to the
--- request in it
+-- `reply` is the agent's reply to the datagram `octets`: the shortest encoding of its Response to
+-- the request in it
 pub record IsReply (agent : Agent) (octets reply : List ℕ) : Type 0 where
   pub request : Message
   pub response : Message
@@ -172,7 +173,8 @@ pub record IsReply (agent : Agent) (octets reply : List ℕ) : Type 0 where
   pub fits : Fits agent.max_size response
   pub encoding : reply ≡ canon response
 
--- the octets are no request that the agent serves; the reasons come in this order
+-- the octets aren't a request that the agent serves, for this reason; the reasons are tested in
+-- this order
 abbrev pub IsRefused : List ℕ → List ℕ → Why → Type 0
 IsRefused community octets why.Undecodable = (q : Message) → Spells q octets → ⊥
 IsRefused community octets why.Version = (q : Message) × Spells q octets × (q.version ≢ pos 1)
@@ -182,8 +184,8 @@ IsRefused community octets why.Pdu = (q : Message) × Spells q octets × (q.vers
     × (q.community ≡ community) × (IsServed q.kind → ⊥)
 IsRefused community octets why.TooLong = ⊥
 
--- why the agent sends no reply to the octets: they are no request that it serves, or not even its
--- Response without bindings fits
+-- the agent sends no reply to the octets, for this reason: they aren't a request that it serves,
+-- or even its Response without bindings doesn't fit
 abbrev pub IsDropped : Agent → List ℕ → Why → Type 0
 IsDropped agent octets why.TooLong = (q : Message) × (r : Message)
     × IsRequest agent.community octets q × IsResponse agent.view agent.max_size q r

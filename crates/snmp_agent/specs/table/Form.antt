@@ -11,7 +11,7 @@ abbrev pub IsTag : List ℕ → Type 0
 IsTag tag = Contains (codes "2" ∷ codes "4" ∷ codes "4x" ∷ codes "6" ∷ codes "64" ∷ codes "65" ∷
     codes "66" ∷ codes "67" ∷ codes "68x" ∷ codes "70" ∷ []) tag
 
--- two bars with a known tag between them, in a line that is neither blank nor an object's
+-- the line has two bars with a known tag between them, and is neither blank nor an object's
 pub record IsRowForm (format : Format) (line name tag text : List ℕ) : Type 0 where
   pub not_blank : IsBlank line → ⊥
   pub no_object : (object : List ℕ) → line ≢ codes "object " ++ object
@@ -20,7 +20,7 @@ pub record IsRowForm (format : Format) (line name tag text : List ℕ) : Type 0 
   pub tag_ends : All (λ octet. octet ≢ bar) tag
   pub known : IsTag tag
 
--- the name of an object prefix, which has a number at least
+-- the text is the name of an object prefix, which has at least one number
 abbrev pub IsObjectText : Format → (text o : List ℕ) → Type 0
 IsObjectText format text o = IsNameIn format text o × (o ≢ [])
 
@@ -29,13 +29,13 @@ IsInstanceText format text o = IsNameIn format text o × IsInstanceName o
 
 -- ---- faults of a line by itself
 
--- none of the three forms
+-- the line has none of the three forms
 pub record IsBadLine (format : Format) (line : List ℕ) : Type 0 where
   pub not_blank : IsBlank line → ⊥
   pub no_object : (object : List ℕ) → line ≢ codes "object " ++ object
   pub no_row : (name tag text : List ℕ) → IsRowForm format line name tag text → ⊥
 
--- a name that names no object, or no instance
+-- the name on the line isn't the name of an object prefix or of an instance
 abbrev pub IsBadName : Format → List ℕ → Type 0
 IsBadName format line =
     ((text : List ℕ) × (line ≡ codes "object " ++ text)
@@ -43,7 +43,7 @@ IsBadName format line =
     ⊎ ((name : List ℕ) × (tag : List ℕ) × (text : List ℕ) × IsRowForm format line name tag text
     × ((o : List ℕ) → IsInstanceText format name o → ⊥))
 
--- a good name, and a text that states no value of the tag
+-- the name on the line is good, and its text isn't a value of the tag
 abbrev pub IsBadValue : Format → List ℕ → Type 0
 IsBadValue format line =
     (name : List ℕ) × (tag : List ℕ) × (text : List ℕ) × IsRowForm format line name tag text
@@ -52,7 +52,7 @@ IsBadValue format line =
 
 -- ---- for private functions
 
--- what a line states: nothing, an object prefix, or an instance with its value
+-- what a line contains: nothing, an object prefix, or an instance with its value
 pub data Statement : Type 0 where
   nothing : Statement
   object_prefix : List ℕ → Statement

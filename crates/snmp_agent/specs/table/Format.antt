@@ -1,5 +1,5 @@
--- The two formats of a table's text, which differ in how names are read and in where the name of a
--- row ends.
+-- The two formats of a table's text. They differ in how names are read and in what ends the name
+-- of a row.
 use Rattle.std.specs.Prelude.{◌≡◌, ◌≢◌, ◌≤◌, ℕ, List, ◌∷◌, ◌++◌, length, codes, All, Option, Some}
 use Rattle.std.specs.Prelude.{IfSome, option_map}
 use Rattle.snmp_io.specs.Quotes.{HasNoneOutside, IsClosed, IsFrontOf}
@@ -10,12 +10,12 @@ use Rattle.snmp_agent.specs.table.Exact.{IsOnly}
 abbrev pub bar : ℕ
 bar = 124
 
--- a numeric name of as many numbers as an identifier holds
+-- `text` is a numeric name of at most as many numbers as an identifier can have
 pub record IsName (text o : List ℕ) : Type 0 where
   pub named : IsNumericName text o
   pub short : length o ≤ 128
 
--- which texts are names: the numeric ones, or those of a meaning that is handed in
+-- which texts are names: the numeric ones, or those that a meaning, passed by the caller, defines
 pub data Names : Type 0 where
   numeric_names : Names
   names_by : (meaning : List ℕ → Option (List ℕ)) → Names
@@ -24,32 +24,34 @@ abbrev pub Means : Names → (text o : List ℕ) → Type 0
 Means numeric_names text o = IsName text o
 Means (names_by meaning) text o = (meaning text ≡ Some o) × IsIdentifier o
 
--- the first format has numeric names, the second those of a reader
+-- a format: the first has numeric names, the second those of a reader
 pub data Format : Type 0 where
   first_format : Format
   second_format : Names → Format
 
--- the first line is that of the second format
+-- the first line is the mark of the second format
 abbrev pub IsMarked : List (List ℕ) → Type 0
 IsMarked lines = (more : List (List ℕ)) × (lines ≡ codes "#snmptab 2" ∷ more)
 
--- lines with that mark are of the second format, by these names, and all others of the first
+-- lines with that mark have the second format, with these names, and all others have the first
 abbrev pub IsFormat : Names → (lines : List (List ℕ)) → Format → Type 0
 IsFormat names lines first_format = IsMarked lines → ⊥
 IsFormat names lines (second_format given) = IsMarked lines × (given ≡ names)
 
--- the text is a name; in the second format no bar stands outside quotes in it
+-- the text is a name of this format; in the second format it has no bar outside quotes
 abbrev pub IsNameIn : Format → (text o : List ℕ) → Type 0
 IsNameIn first_format text o = IsName text o
 IsNameIn (second_format names) text o = HasNoneOutside bar text × Means names text o
 
--- what stands before the bar that ends a row's name: the first, or the first outside quotes
+-- `name` can precede the bar that ends a row's name: the first bar, or the first bar outside
+-- quotes
 abbrev pub EndsAtBar : Format → (name : List ℕ) → Type 0
 EndsAtBar first_format name = All (λ octet. octet ≢ bar) name
 EndsAtBar (second_format names) name = IsClosed name × HasNoneOutside bar name
 
--- what a reader of names finds in a text: the name that stands before the first bar outside quotes,
--- or is the whole text, and its length; or that there is none
+-- what a reader of names finds at the start of `text`: the name and the length of the prefix
+-- before the first bar outside quotes, or of the whole text if there is no such bar; or that this
+-- isn't a name
 pub record IsFrontRead (names : Names) (text : List ℕ) (found : Option (List ℕ × ℕ)) : Type 0 where
   pub front : List ℕ
   pub place : IsFrontOf bar text front
@@ -58,6 +60,6 @@ pub record IsFrontRead (names : Names) (text : List ℕ) (found : Option (List �
 
 -- ---- for private functions
 
--- no bar ends a name
+-- no bar on the line ends a name
 abbrev pub HasNoEnd : Format → (line : List ℕ) → Type 0
 HasNoEnd format line = (name rest : List ℕ) → line ≡ name ++ bar ∷ rest → EndsAtBar format name → ⊥

@@ -1,4 +1,4 @@
--- How a table keeps its rows: in pages, by rising names over all of them.
+-- How a table stores its rows: in pages, with names that increase over all of them.
 use Rattle.std.specs.Prelude.{◌≡◌, ℕ, suc, Some, ◌≤◌, ◌<◌, T, Bool, true, is_some, List, [], ◌∷◌}
 use Rattle.std.specs.Prelude.{◌++◌, map, length, take, drop, cond}
 use Rattle.std.specs.{Ordering.nat_cmp, Ordering.is_le, Cmp.Lexicographic.slice_cmp}
@@ -21,11 +21,12 @@ entries_in (page ∷ pages) = entries_of page.rows.items ++ entries_in pages
 abbrev pub IsSorted : List (List ℕ × Datum) → Type 0
 IsSorted es = T (is_sorted (slice_cmp nat_cmp) es)
 
--- the names of the rows rise over all pages
+-- the names of the rows increase over all pages
 abbrev pub ArePages : List Page → Type 0
 ArePages pages = IsSorted (entries_in pages)
 
--- the entries of the map in two parts: those up to the name, and those after it
+-- the entries of the map `rows` in two parts: `front` has the names up to `o`, and `back` those
+-- after it
 pub record StandsApart (rows : FinMap (slice_cmp nat_cmp) Datum) (o : List ℕ) (front back : List
     (List ℕ × Datum)) : Type 0 where
   pub found : (q : List ℕ) → get rows q ≡ find (slice_cmp nat_cmp) q (front ++ back)
@@ -33,32 +34,32 @@ pub record StandsApart (rows : FinMap (slice_cmp nat_cmp) Datum) (o : List ℕ) 
   pub passed : IsBeforeNone o front
   pub ahead : IsBeforeAll o back
 
--- these are the variables of the view after the name
+-- `back` is the variables of the view after the name `o`
 abbrev pub AreBehind : MibView → List ℕ → List (List ℕ × Datum) → Type 0
 AreBehind view o back = (front : List (List ℕ × Datum)) × StandsApart view.rows o front back
 
 -- ---- for private functions
 
--- the names of the rows rise
+-- the names of the rows increase
 abbrev pub IsRising : List VarBind → Type 0
 IsRising rows = IsSorted (entries_of rows)
 
--- whether the row has the name or one before it
+-- whether the name of the row isn't greater than `o`
 abbrev pub is_up_to : List ℕ → VarBind → Bool
 is_up_to o r = is_le (slice_cmp nat_cmp r.name o)
 
--- whether the first row has, if there is one
+-- whether the name of the first row isn't greater than `o`, or there is no row
 abbrev pub begins_up_to : List ℕ → List VarBind → Bool
 begins_up_to o [] = true
 begins_up_to o (row ∷ rows) = is_up_to o row
 
--- where the rows after a name begin: those in front of the place have it or one before it
+-- the rows after the name `o` begin at index `place`: the names of those before it aren't greater
 pub record IsPlaceAfter (o : List ℕ) (rows : List VarBind) (place : ℕ) : Type 0 where
   pub bound : place ≤ length rows
   pub passed : IsBeforeNone o (entries_of (take place rows))
   pub ahead : IsBeforeAll o (entries_of (drop place rows))
 
--- the row at this place has the name
+-- the row at index `place` has the name `o`
 pub record HasNameAt (o : List ℕ) (rows : List VarBind) (place : ℕ) : Type 0 where
   pub found : VarBind
   pub at : slice_get rows place ≡ Some found
@@ -67,47 +68,48 @@ pub record HasNameAt (o : List ℕ) (rows : List VarBind) (place : ℕ) : Type 0
   pub passed : IsAfterAll o (entries_of (take place rows))
   pub ahead : IsBeforeAll o (entries_of (drop (suc place) rows))
 
--- no row has the name: those up to this place come before it, the others after it
+-- no row has the name `o`: the rows before index `place` come before it, and the others after it
 pub record BelongsAt (o : List ℕ) (rows : List VarBind) (place : ℕ) : Type 0 where
   pub bound : place ≤ length rows
   pub passed : IsAfterAll o (entries_of (take place rows))
   pub ahead : IsBeforeAll o (entries_of (drop place rows))
 
--- whether an entry has the name
+-- whether an entry has the name `o`
 abbrev pub has_name : List ℕ → List (List ℕ × Datum) → Bool
 has_name o es = is_some (find (slice_cmp nat_cmp) o es)
 
--- only the page at this place may have a row of the name
+-- only the page at index `place` can have a row of the name `o`
 pub record IsPageOf (o : List ℕ) (pages : List Page) (place : ℕ) : Type 0 where
   pub bound : place ≤ length pages
   pub within : 1 ≤ length pages → place < length pages
   pub passed : IsAfterAll o (entries_in (take place pages))
   pub ahead : IsBeforeAll o (entries_in (drop (suc place) pages))
 
--- the page at this place has more than one row
+-- the page at index `place` has more than one row
 abbrev pub IsLongPage : List Page → ℕ → Type 0
 IsLongPage pages place = (page : Page) × (slice_get pages place ≡ Some page)
     × (1 < length page.rows.items)
 
--- the page at this place is the only one that may have a row of the name, and has room for one more
+-- the page at index `place` is the only one that can have a row of the name `o`, and has room for
+-- one more row
 pub record IsPageWithRoom (o : List ℕ) (pages : List Page) (place : ℕ) : Type 0 where
   pub page_of : IsPageOf o pages place
   pub page : Page
   pub at : slice_get pages place ≡ Some page
   pub room : length page.rows.items < PAGE_ROWS
 
--- the page at this place has a row at that one
+-- the page at index `place` has a row at index `row`
 abbrev pub IsRowIn : List Page → ℕ → ℕ → Type 0
 IsRowIn pages place row = (page : Page) × (slice_get pages place ≡ Some page)
     × (row < length page.rows.items)
 
--- these are the entries without that row
+-- `es` are the entries without that row
 abbrev pub IsWithoutRow : List Page → ℕ → ℕ → List (List ℕ × Datum) → Type 0
 IsWithoutRow pages place row es = (page : Page) → slice_get pages place ≡ Some page
     → es ≡ entries_in (take place pages) ++ (entries_of (remove_at page.rows.items row)
     ++ entries_in (drop (suc place) pages))
 
--- of entries by rising names, those after the name
+-- the entries after the name `o`, of entries in the order of names
 abbrev pub entries_after : List ℕ → List (List ℕ × Datum) → List (List ℕ × Datum)
 entries_after o [] = []
 entries_after o (e ∷ es) = cond (is_le (slice_cmp nat_cmp e.0 o)) (entries_after o es) (e ∷ es)

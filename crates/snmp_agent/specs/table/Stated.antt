@@ -1,4 +1,4 @@
--- The table that lines state, and the first faulty line.
+-- The table that lines define, and the first faulty line.
 use Rattle.std.specs.Prelude.{◌≡◌, ℕ, ◌+◌, ◌↔◌, true, List, ◌∷◌, ◌++◌, length}
 use Rattle.std.specs.FinSet.{contains}
 use Rattle.snmp_wire.specs.Message.{VarBind}
@@ -9,14 +9,16 @@ use Rattle.snmp_agent.specs.table.Format.{Format, IsFormat, Names}
 use Rattle.snmp_agent.specs.table.Table.{MibView, IsRow}
 use Rattle.snmp_agent.specs.table.Text.{AreTable, HasPrefix, HasRow, IsRowLine}
 
--- the table that lines of a format state: its instances and object prefixes are those of a line
+-- `view` is the table that lines of this format define: it has the instances and object prefixes
+-- of the lines, and no others
 pub record IsTableIn (format : Format) (lines : List (List ℕ)) (view : MibView) : Type 0 where
   pub good : AreTable format lines
   pub rows : (row : VarBind) → IsRow view row ↔ HasRow format lines row
   pub objects : (object : List ℕ)
       → (contains view.objects object ≡ true) ↔ HasPrefix format lines object
 
--- the line with this number, counted from 1, comes after good lines
+-- `line` is the line with this number, counted from 1, and the lines before it, `front`, define a
+-- table
 pub record IsBehindGood (format : Format) (lines : List (List ℕ)) (number : ℕ)
     (front : List (List ℕ)) (line : List ℕ) : Type 0 where
   pub back : List (List ℕ)
@@ -24,12 +26,12 @@ pub record IsBehindGood (format : Format) (lines : List (List ℕ)) (number : �
   pub place : number ≡ length front + 1
   pub good : AreTable format front
 
--- the line states an instance whose name an earlier line states
+-- the line defines an instance whose name an earlier line has
 abbrev pub IsDouble : Format → List (List ℕ) → List ℕ → Type 0
 IsDouble format front line = (p : VarBind) × (q : VarBind) × IsRowLine format line p
     × HasRow format front q × (q.name ≡ p.name)
 
--- what is wrong with a line that comes after these
+-- what is wrong with a line that comes after the lines `front`
 abbrev pub IsWrong : Format → (front : List (List ℕ)) → (line : List ℕ) → TableError → Type 0
 IsWrong format front line (error.BadLine number) = IsBadLine format line
 IsWrong format front line (error.BadName number) = IsBadName format line
@@ -37,7 +39,7 @@ IsWrong format front line (error.BadValue number) = IsBadValue format line
 IsWrong format front line (error.Double number) = IsDouble format front line
 IsWrong format front line error.Memory = ⊥
 
--- the number of the line of a fault; 0 where memory ran out, which is of no line
+-- the number of the faulty line; 0 if memory ran out, which isn't a fault of a line
 abbrev pub number_of : TableError → ℕ
 number_of (error.BadLine number) = number
 number_of (error.BadName number) = number
@@ -45,24 +47,24 @@ number_of (error.BadValue number) = number
 number_of (error.Double number) = number
 number_of error.Memory = 0
 
--- why lines of a format state no table: what is wrong with the first line that isn't good
+-- why lines of this format don't define a table: what is wrong with the first line that isn't good
 abbrev pub IsFirstFaultIn : Format → List (List ℕ) → TableError → Type 0
 IsFirstFaultIn format lines error.Memory = Unit {0}
 IsFirstFaultIn format lines fault = (front : List (List ℕ)) × (line : List ℕ)
     × IsBehindGood format lines (number_of fault) front line × IsWrong format front line fault
 
--- ---- by the names of a reader
+-- ---- with the names that a caller passes
 
--- lines that state a table, in the format that they have
+-- the lines define a table, in the format that they have
 abbrev pub AreTableBy : Names → (lines : List (List ℕ)) → Type 0
 AreTableBy names lines = (format : Format) × IsFormat names lines format × AreTable format lines
 
--- the table that the lines state
+-- `view` is the table that the lines define
 abbrev pub IsTableOf : Names → (lines : List (List ℕ)) → MibView → Type 0
 IsTableOf names lines view =
     (format : Format) × IsFormat names lines format × IsTableIn format lines view
 
--- why the lines state no table
+-- why the lines don't define a table
 abbrev pub IsFirstFault : Names → (lines : List (List ℕ)) → TableError → Type 0
 IsFirstFault names lines error =
     (format : Format) × IsFormat names lines format × IsFirstFaultIn format lines error

@@ -1,4 +1,4 @@
--- What an agent serves, and what it gives for one name (RFC 3416, sections 4.2.1 and 4.2.2).
+-- What an agent serves, and what it returns for one name (RFC 3416, sections 4.2.1 and 4.2.2).
 use Rattle.std.specs.Prelude.{◌≡◌, ◌≢◌, ℕ, zero, suc, ◌^◌, ◌<◌, ◌≤◌, true, List, [], ◌++◌, length}
 use Rattle.std.specs.Prelude.{All, Some, None, FitsSigned}
 use Rattle.std.specs.{Int.w32, Ordering.nat_cmp, Cmp.Lexicographic.slice_cmp, FinMap.FinMap}
@@ -11,25 +11,25 @@ use Rattle.snmp_wire.specs.Message.Datum.{no_such_object, no_such_instance, end_
 use Rattle.snmp_agent.specs.declared.table.error.PutError.{PutError}
 use Rattle.snmp_agent.specs.declared.table.error.PutError.TheVariants as refusal
 
--- The variables that an agent gives access to: the value of each instance, by its name, and the
--- object prefixes, each of which begins the names of all instances of an object, whether the object
--- has instances or not.
+-- A MIB view: the variables that an agent gives access to. It has the value of each instance, by
+-- its name, and the object prefixes. An object prefix begins the names of all instances of an
+-- object, whether there are instances or not.
 pub record MibView : Type 0 where
   pub rows : FinMap (slice_cmp nat_cmp) Datum
   pub objects : FinSet (slice_cmp nat_cmp)
 
--- what the name of an instance is: an identifier of at least three numbers that has an encoding
+-- `o` can be the name of an instance: an identifier of at least three numbers that has an encoding
 pub record IsInstanceName (o : List ℕ) : Type 0 where
   pub long : 3 ≤ length o
   pub wire : IsWire o
   pub identifier : IsIdentifier o
 
--- a string of a table: at most 65535 octets
+-- a table can hold this string: it has at most 65535 octets
 abbrev pub IsTableString : List ℕ → Type 0
 IsTableString octets = (length octets ≤ 65535) × All (λ octet. octet < 256) octets
 
--- what an instance may hold: a value, and no Null or exception; strings have at most 65535 octets,
--- and identifiers an encoding
+-- an instance can hold this value: it isn't NULL or an exception, strings have at most 65535
+-- octets, and identifiers have an encoding
 abbrev pub IsInstanceValue : Datum → Type 0
 IsInstanceValue (integer_value n) = FitsSigned w32 n
 IsInstanceValue (octet_string octets) = IsTableString octets
@@ -42,32 +42,34 @@ IsInstanceValue (opaque_octets octets) = IsTableString octets
 IsInstanceValue (counter64 n) = n < 2 ^ 64
 IsInstanceValue _ = ⊥
 
--- what a reply has for a name: a value that an instance may hold, or an exception in its place
+-- a reply can have this for a name: a value that an instance can hold, or an exception in place of
+-- one
 abbrev pub IsAnswerValue : Datum → Type 0
 IsAnswerValue no_such_object = Unit {0}
 IsAnswerValue no_such_instance = Unit {0}
 IsAnswerValue end_of_mib_view = Unit {0}
 IsAnswerValue v = IsInstanceValue v
 
--- a variable of the view: an instance with its value
+-- `p` is a variable of the view: an instance with its value
 abbrev pub IsRow : MibView → VarBind → Type 0
 IsRow view p = get view.rows p.name ≡ Some p.value
 
--- what the view of an agent is
+-- an agent can serve the view: its rows have names and values of instances, and its object
+-- prefixes are identifiers of at least one number
 pub record IsMibView (view : MibView) : Type 0 where
   pub names : (p : VarBind) → IsRow view p → IsInstanceName p.name
   pub values : (p : VarBind) → IsRow view p → IsInstanceValue p.value
   pub objects : (object : List ℕ) → contains view.objects object ≡ true
       → (object ≢ []) × IsIdentifier object
 
--- an object prefix of the view equals the name or begins it
+-- an object prefix of the view equals or begins the name `o`
 abbrev pub HasObject : MibView → List ℕ → Type 0
 HasObject view o = (object : List ℕ) × (rest : List ℕ) × (contains view.objects object ≡ true)
     × (o ≡ object ++ rest)
 
--- what a Get of the name o gives (RFC 3416, section 4.2.1): the variable of that name; else
--- noSuchInstance where an object prefix of the view equals the name or begins it, and else
--- noSuchObject
+-- a Get of the name `o` returns `p` (RFC 3416, section 4.2.1): the variable of that name. If there
+-- is none, this is noSuchInstance if an object prefix of the view equals or begins the name, and
+-- otherwise noSuchObject
 pub data IsGet (view : MibView) (o : List ℕ) (p : VarBind) : Type 0 where
   variable : p.name ≡ o → IsRow view p → IsGet view o p
   unknown_object : get view.rows o ≡ None → (HasObject view o → ⊥)
@@ -75,37 +77,37 @@ pub data IsGet (view : MibView) (o : List ℕ) (p : VarBind) : Type 0 where
   unknown_instance : get view.rows o ≡ None → HasObject view o
       → p ≡ record { name = o; value = no_such_instance } → IsGet view o p
 
--- p is the lexicographic successor of the name o: a variable after it, with none between
+-- `p` is the lexicographic successor of the name `o`: a variable after it, with none between
 pub record IsSuccessor (view : MibView) (o : List ℕ) (p : VarBind) : Type 0 where
   pub row : IsRow view p
   pub behind : Precedes o p.name
   pub nearest : (q : VarBind) → IsRow view q → Precedes o q.name → Precedes q.name p.name → ⊥
 
--- what a GetNext of the name o gives (RFC 3416, section 4.2.2): its lexicographic successor; else
--- the name itself with endOfMibView
+-- a GetNext of the name `o` returns `p` (RFC 3416, section 4.2.2): its lexicographic successor, or
+-- the name itself with endOfMibView if there is none
 pub data IsNext (view : MibView) (o : List ℕ) (p : VarBind) : Type 0 where
   successor : IsSuccessor view o p → IsNext view o p
   end_of_view : ((q : VarBind) → IsRow view q → Precedes o q.name → ⊥)
       → p ≡ record { name = o; value = end_of_mib_view } → IsNext view o p
 
--- what a GetNext gives when it is repeated `rounds` times more, each time from the name that it
--- gave before
+-- `p` is the last result of `rounds + 1` GetNexts, the first of `o` and each other of the name
+-- that the previous one returned
 abbrev pub IsNextAfter : MibView → ℕ → List ℕ → VarBind → Type 0
 IsNextAfter view zero o p = IsNext view o p
 IsNextAfter view (suc rounds) o p = (q : VarBind) × IsNextAfter view rounds o q
     × IsNext view q.name p
 
--- the view with this instance, in place of the one of its name if there is one; all else is the
--- same
+-- the view with this instance, which replaces the one of its name if there is one; all other
+-- things are the same
 abbrev pub with_row : MibView → List ℕ → Datum → MibView
 with_row view o v = record { rows = insert view.rows o v; objects = view.objects }
 
--- the view without the instance of this name; all else is the same
+-- the view without the instance of this name; all other things are the same
 abbrev pub without_row : MibView → List ℕ → MibView
 without_row view o = record { rows = remove view.rows o; objects = view.objects }
 
--- why a variable isn't put, the first that applies: an instance can't have the name, or can't hold
--- the value, or memory ran out
+-- why a variable isn't put, by the first reason that applies: an instance can't have the name, or
+-- it can't hold the value, or memory ran out
 abbrev pub IsPutError : List ℕ → Datum → PutError → Type 0
 IsPutError o v refusal.BadName = IsInstanceName o → ⊥
 IsPutError o v refusal.BadValue = IsInstanceName o × (IsInstanceValue v → ⊥)

@@ -1,7 +1,7 @@
--- The text of a table, in a format of this project's own: each line is empty, a comment, the prefix
--- of an object's instances, `object OID`, or a row, `OID|TAG|VALUE`. Where the first line is
--- `#snmptab 2`, the text is of the second format. Lines end with LF, CR LF or the text, as those of
--- Rust's `str::lines` do: a CR that no LF follows belongs to its line.
+-- The text of a table, in a format of this project's own. Each line is empty, a comment, an object
+-- prefix (`object OID`), or a row (`OID|TAG|VALUE`). If the first line is `#snmptab 2`, the text
+-- has the second format. Lines end with LF, with CR LF or at the end of the text, as the lines of
+-- Rust's `str::lines` do: a CR that isn't followed by LF belongs to its line.
 use Rattle.std.specs.Prelude.{◌≡◌, ◌≢◌, ℕ, ℤ, pos, ◌^◌, ◌<◌, ◌⊎◌, true, List, [], ◌∷◌, ◌++◌, length}
 use Rattle.std.specs.Prelude.{codes, All, AllPairs, Contains, Ok, FitsSigned, neg_ℤ}
 use Rattle.std.specs.{Int.w32, Str.all_ascii_digits}
@@ -15,26 +15,26 @@ use Rattle.snmp_agent.specs.table.Table.{IsInstanceName, IsTableString}
 
 -- ---- values
 
--- one or more decimal digits, leading zeros among them or not
+-- `text` is one or more decimal digits of the number `n`, perhaps with leading zeros
 pub record IsDecimal (text : List ℕ) (n : ℕ) : Type 0 where
   pub some : text ≢ []
   pub digits : all_ascii_digits text ≡ true
   pub value : decimal_value text ≡ n
 
--- decimal digits, with a minus sign before them or not
+-- the text is decimal digits of a number, perhaps after a minus sign
 abbrev pub IsSignedDecimal : List ℕ → ℤ → Type 0
 IsSignedDecimal text z =
     ((n : ℕ) × IsDecimal text n × (z ≡ pos n)) ⊎ ((digits : List ℕ) × (n : ℕ)
     × (text ≡ codes "-" ++ digits) × IsDecimal digits n × (z ≡ neg_ℤ (pos n)))
 
--- four decimal numbers up to 255 with a dot between each two
+-- `text` is four decimal numbers of at most 255, separated by dots
 pub record IsAddressText (text octets : List ℕ) : Type 0 where
   pub dotted : IsDotted text octets
   pub four : length octets ≡ 4
   pub small : All (λ octet. octet < 256) octets
 
--- the value that a text states after a tag; the tags are those of the encoding, in decimal, and `x`
--- says that the octets are hexadecimal
+-- the value that a text represents after a tag. The tags are those of the encoding, in decimal;
+-- with an `x`, the octets are hexadecimal
 abbrev pub IsValueText : Format → (tag text : List ℕ) → Datum → Type 0
 IsValueText format tag text (integer_value z) = (tag ≡ codes "2") × IsSignedDecimal text z
     × FitsSigned w32 z
@@ -52,18 +52,18 @@ IsValueText format tag text _ = ⊥
 
 -- ---- lines
 
--- an empty line, or a comment
+-- the line is empty or a comment
 abbrev pub IsBlank : List ℕ → Type 0
 IsBlank line = (line ≡ []) ⊎ ((comment : List ℕ) × (line ≡ codes "#" ++ comment))
 
--- the line of this object prefix, which has a number at least
+-- the line contains this object prefix, which has at least one number
 abbrev pub IsPrefixLine : Format → (line object : List ℕ) → Type 0
 IsPrefixLine format line object =
     (text : List ℕ) × (line ≡ codes "object " ++ text) × IsNameIn format text object
     × (object ≢ [])
 
--- the line of this row, which is neither blank nor an object prefix's: the name of an instance, a
--- tag, and the text of a value, which may have more bars
+-- the line contains this row, and is neither blank nor an object prefix's. It has the name of an
+-- instance, a tag, and the text of a value, which may have more bars
 pub record IsRowLine (format : Format) (line : List ℕ) (row : VarBind) : Type 0 where
   pub not_blank : IsBlank line → ⊥
   pub no_object : (object : List ℕ) → line ≢ codes "object " ++ object
@@ -77,7 +77,7 @@ pub record IsRowLine (format : Format) (line : List ℕ) (row : VarBind) : Type 
   pub instance_name : IsInstanceName row.name
   pub valued : IsValueText format tag text row.value
 
--- a blank line, or that of an object prefix or of a row
+-- the line is blank, or contains an object prefix or a row
 pub data IsGoodLine (format : Format) (line : List ℕ) : Type 0 where
   a_blank : IsBlank line → IsGoodLine format line
   a_prefix : (object : List ℕ) → IsPrefixLine format line object → IsGoodLine format line
@@ -85,21 +85,21 @@ pub data IsGoodLine (format : Format) (line : List ℕ) : Type 0 where
 
 -- ---- tables
 
--- one of the lines is that of this row
+-- one of the lines contains this row
 abbrev pub HasRow : Format → List (List ℕ) → VarBind → Type 0
 HasRow format lines row = (line : List ℕ) × Contains lines line × IsRowLine format line row
 
--- one of the lines is that of this object prefix
+-- one of the lines contains this object prefix
 abbrev pub HasPrefix : Format → List (List ℕ) → List ℕ → Type 0
 HasPrefix format lines object =
     (line : List ℕ) × Contains lines line × IsPrefixLine format line object
 
--- where the two lines are rows, the rows have different names
+-- if both lines are rows, these have different names
 abbrev pub DifferInName : Format → (line later : List ℕ) → Type 0
 DifferInName format line later = (row other : VarBind) → IsRowLine format line row
     → IsRowLine format later other → row.name ≢ other.name
 
--- lines that state a table: each is good, and no two are rows of one name
+-- the lines define a table: each is good, and no two are rows of the same name
 pub record AreTable (format : Format) (lines : List (List ℕ)) : Type 0 where
   pub each : All (IsGoodLine format) lines
   pub differ : AllPairs (DifferInName format) lines

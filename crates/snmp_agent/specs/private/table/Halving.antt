@@ -1,18 +1,18 @@
--- A search by halves, or by a guess, for clauses of private functions.
+-- A search by halves, or from a guess, for clauses of private functions.
 use Rattle.std.specs.Prelude.{◌≡◌, ℕ, ◌≤◌, ◌⊎◌, Bool, true, false, List, [], ◌∷◌, ◌++◌, length}
 use Rattle.std.specs.List.{AllWithin}
 use Rattle.snmp_wire.specs.Message.{VarBind}
 use Rattle.snmp_agent.specs.table.Pages.{begins_up_to, is_up_to}
 
--- the elements before the one place pass a test, and those from the other on don't
+-- the elements before index `passed` pass the test `p`, and those from index `end` on don't
 pub record IsHalvedTo {X : Type 0} (p : X → Bool) (xs : List X) (passed end : ℕ) : Type 0 where
   pub order : passed ≤ end
   pub bound : end ≤ length xs
   pub front : AllWithin (λ x. p x ≡ true) xs 0 passed
   pub back : AllWithin (λ x. p x ≡ false) xs end (length xs)
 
--- the name stands between these rows: the last one in front has it, or has one before it and the
--- first one behind, which there is, has one after it
+-- `front` ends with the row of `o`, or with a row of a smaller name while `rows` begins with a
+-- greater name
 pub record StandsBetween (o : List ℕ) (front rows : List VarBind) : Type 0 where
   pub init : List VarBind
   pub row : VarBind
