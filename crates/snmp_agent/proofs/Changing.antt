@@ -1,4 +1,4 @@
--- One row put among others, or removed.
+-- One row that is inserted among others, or removed.
 use Rattle.std.proofs.{lemmas.Grind.common_steps, lemmas.Option.slice_get-get_or, lemmas.Option.slice_get_within}
 use Rattle.std.proofs.Common.{◌≡◌, ℕ, suc, ◌-◌, Bool, true, false, not, cond, is_some, List, [], ◌∷◌, ◌++◌, length, take, drop, Some, slice_index_or}
 use Rattle.std.proofs.Common.{None, slice_set, refl, sym, ◌∙◌, ap, subst, arith, Ordering, Less, Result, Ok, Err, IfOk, IfErr}
@@ -58,7 +58,8 @@ pub find_in : (o : List ℕ) (es back : Entries) → IsBeforeAll o back → find
 find_in o [] back h = none_after o back h
 find_in o (e ∷ es) back h = grind (arith, common_steps, find_in o es back h)
 
--- each acts on the entries between those before the name and those after it
+-- a change or a look-up of a name acts only on the entries between those before the name and those
+-- after it
 module _ (o : List ℕ) (front es back : Entries) (passed : IsAfterAll o front) (ahead : IsBeforeAll o back) where
   pub put_mid : (v : Datum) → put cmp o v (front ++ (es ++ back)) ≡ front ++ (put cmp o v es ++ back)
   put_mid v = put_past o v front (es ++ back) passed ∙ ap (λ fs. front ++ fs) (put_in o v es back ahead)
@@ -69,7 +70,7 @@ module _ (o : List ℕ) (front es back : Entries) (passed : IsAfterAll o front) 
   pub find_mid : find cmp o (front ++ (es ++ back)) ≡ find cmp o es
   find_mid = past_front o front (es ++ back) passed ∙ find_in o es back ahead
 
--- an entry put behind all others
+-- an entry inserted after all others is appended
 pub put_behind : (o : List ℕ) (v : Datum) (es : List (List ℕ × Datum)) → IsAfterAll o es → put cmp o v es ≡ es ++ (o, v) ∷ []
 put_behind o v es h = ap (put cmp o v) (sym (append-nil es)) ∙ put_past o v es [] h
 
@@ -81,12 +82,12 @@ none_behind o es h = ap is_some (sym (ap (find cmp o) (sym (append-nil es)) ∙ 
 pub halves : (rows : List VarBind) (place : ℕ) → entries_of rows ≡ entries_of (take place rows) ++ entries_of (drop place rows)
 halves rows place = ap entries_of (sym (take-append-drop place rows)) ∙ map-append entry_of (take place rows) (drop place rows)
 
--- the entries round a row
+-- the entries before, at and after a row
 pub entries_around : (rows : List VarBind) (place : ℕ) (row : VarBind) → entries_of (take place rows ++ row ∷ drop (suc place) rows)
     ≡ entries_of (take place rows) ++ entry_of row ∷ entries_of (drop (suc place) rows)
 entries_around rows place row = map-append entry_of (take place rows) (row ∷ drop (suc place) rows)
 
--- the last of the rows up to a name has it
+-- if the last of the rows up to a name has that name, it is the row of the name
 abbrev pub has_name_at : (rows : List VarBind) (place : ℕ) (o : List ℕ) (row : VarBind) → IsRising rows → IsPlaceAfter o rows place → IsLast (take place rows) row
     → row.name ≡ o → HasNameAt o rows (place - 1)
 has_name_at rows place o row rising h last name =
@@ -105,7 +106,7 @@ has_name_at rows place o row rising h last name =
 neither : (o p : List ℕ) → (cmp o p ≡ Less → ⊥) → (p ≡ o → ⊥) → cmp p o ≡ Less
 neither o p before same = grind (arith, common_steps, same_name, turned)
 
--- a name that comes before none of them, and isn't that of the last one, comes after all
+-- a name that comes before none of the rows, and isn't the name of the last one, comes after all
 after_front : (o : List ℕ) (rows : List VarBind) → IsRising rows → IsBeforeNone o (entries_of rows) → ((row : VarBind) → IsLast rows row → row.name ≡ o → ⊥)
     → IsAfterAll o (entries_of rows)
 after_front o [] rising passed other = tt
@@ -132,7 +133,7 @@ module _ (o : List ℕ) (rows : List VarBind) (place : ℕ) where
   abbrev back : Entries
   back = entries_of (drop (suc place) rows)
 
-  -- the entries round the row of the name
+  -- the entries before, at and after the row of the name
   with_it : (h : HasNameAt o rows place)
       → entries_of rows ≡ front ++ (o, h.found.value) ∷ back
   with_it h =
@@ -206,7 +207,7 @@ module _ (o : List ℕ) (es fs : Entries) (rising : IsSorted es) where
 pub tied : (o p : List ℕ) (b : Bool) → eq_by_cmp cmp o p ≡ b → b ≡ true → o ≡ p
 tied o p b is yes_it = grind (arith, common_steps, same_name)
 
--- what the test of a row's name says
+-- what the comparison of a row's name with `o` says
 module _ (o : List ℕ) {row name : List ℕ} {r : Ordering} {b : Bool} (is : name ≡ row) (compared : r ≡ cmp name o) (test : b ≡ is_eq r) where
   tie : b ≡ eq_by_cmp cmp row o
   tie = test ∙ ap is_eq (compared ∙ ap (λ (p : List ℕ). cmp p o) is)
@@ -219,7 +220,7 @@ module _ (o : List ℕ) {row name : List ℕ} {r : Ordering} {b : Bool} (is : na
       let ties : eq_by_cmp cmp row o ≡ true = ap is_eq (ap (λ (p : List ℕ). cmp p o) same ∙ tied_itself nat_list_cmp_total o) in
       let e : b ≡ eq_by_cmp cmp row o = tie in cc
 
--- a name that no entry has
+-- removing a name that no entry has changes nothing
 pub nothing_removed : (m : FinMap cmp Datum) (o : List ℕ) → None ≡ get m o → m ≡ remove m o
 nothing_removed m o none =
     same_map nat_list_cmp_total (slice_cmp-IsAntisymmetric nat_cmp-IsAntisymmetric) m (remove m o)
@@ -231,7 +232,7 @@ nothing_removed m o none =
 -- ---- views
 
 module _ (view : MibView) (good : IsMibView view) (o : List ℕ) where
-  -- a variable of the changed view is the one put, or one that was there
+  -- a variable of the changed view is the one that was put, or one that was there before
   module _ (v : Datum) (name : IsInstanceName o) (value : IsInstanceValue v) where
     put_variable : (p : VarBind) → IsRow (with_row view o v) p → IsInstanceName p.name × IsInstanceValue p.value
     put_variable p row =
@@ -254,7 +255,7 @@ module _ (view : MibView) (good : IsMibView view) (o : List ℕ) where
     objects = good.objects;
   }
 
--- a name with no encoding
+-- no row has a name without an encoding
 pub unnamed : (view : MibView) → IsMibView view → (o : List ℕ) → (IsWire o → ⊥) → None ≡ get view.rows o
 unnamed view good o never =
     elim (get view.rows o) as (λ found. get view.rows o ≡ found → None ≡ found) [
@@ -262,13 +263,13 @@ unnamed view good o never =
       | Some v ↦ λ is. absurd (never (good.names (record { name = o; value = v }) is).wire)
     ] refl
 
--- what a table keeps where a row is put, or an error leaves all as it was
+-- a table stays a MIB view if a row is put, or if an error leaves it unchanged
 pub put_either : (result : Result Bool AllocError) (old new : FinMap cmp Datum) (objects : List (List ℕ)) (o : List ℕ) (v : Datum)
     → IfOk result (λ _. new ≡ insert old o v) → IfErr result (λ _. new ≡ old) → IsInstanceName o → IsInstanceValue v → IsMibView (view_of old objects)
     → IsMibView (view_of new objects)
 put_either (Ok b) old new objects o v put_it kept name value good = rw put_it (put_good (view_of old objects) good o v name value)
 put_either (Err e) old new objects o v put_it kept name value good = rw kept good
 
--- what holds whatever the error
+-- what always holds also holds after an error
 pub if_err : {A E : Type 0} (r : Result A E) (P : Type 0) → P → IfErr r (λ _. P)
 if_err r P p = grind (arith, common_steps)

@@ -1,4 +1,5 @@
--- Each name has just one answer to a Get, and one to a GetNext.
+-- Each name has exactly one answer to a Get (`one_get`), to a GetNext (`one_next`), and to a
+-- repeated GetNext (`one_next_after`).
 use Rattle.std.proofs.{lemmas.Grind.common_steps, lemmas.List.take-append-drop, Math.Seq.take-append_seam}
 use Rattle.std.proofs.Common.{◌≡◌, ℕ, zero, suc, ◌+◌, inl, inr, Bool, true, false, List, [], map, length, take, drop, Option, Some, None, Less, Equal}
 use Rattle.std.proofs.Common.{Greater, Ordering, refl, sym, ap, subst, ◌∙◌, ⊎_elim, ◌≤◌, arith, cond, length-append, unwrap_or}
@@ -22,7 +23,8 @@ some_none v e = let no : ⊥ = cc in no
 
 -- ---- Get
 
--- a beginning of the name is an object prefix
+-- if `has_prefix` finds a prefix of the name among the object prefixes, the view has an object for
+-- the name
 prefix_found : (view : MibView) (o : List ℕ) (n : ℕ) → has_prefix view o n ≡ true → HasObject view o
 prefix_found view o zero e = ([], o, e, refl)
 prefix_found view o (suc n) e = elim (or_cases _ _ e) [
@@ -30,7 +32,7 @@ prefix_found view o (suc n) e = elim (or_cases _ _ e) [
   | inr there ↦ prefix_found view o n there
 ]
 
--- or none of its shortest ones is
+-- if `has_prefix` finds none of at most `n` numbers, no such prefix is an object prefix
 no_prefix : (view : MibView) (o : List ℕ) (n k : ℕ) → has_prefix view o n ≡ false → k ≤ n → contains view.objects (take k o) ≡ true → ⊥
 no_prefix view o zero zero e low is = false≢true (sym e ∙ is)
 no_prefix view o zero (suc k) e low is = absurd (omega (arith, low))
@@ -78,7 +80,7 @@ module _ (order : IsOrder) where
       let back = behind_name view o in
       (first_or_end o (map var_of (entries_after o (entries view.rows))), is_next order view o back.0 (entries_after o (entries view.rows)) back.1)
 
-  -- two successors have one name, as neither lies between
+  -- two successors have the same name, since neither is between the name and the other
   same_successor : (view : MibView) (o : List ℕ) (p q : VarBind) → IsSuccessor view o p → IsSuccessor view o q → p ≡ q
   same_successor view o p q h k = by_order (slice_cmp nat_cmp p.name q.name) refl
     where

@@ -1,4 +1,4 @@
--- Which bindings have an encoding, and how long it is.
+-- Which bindings have an encoding, and how long they are.
 use Rattle.std.proofs.{lemmas.Grind.common_steps}
 use Rattle.std.proofs.Common.{ℕ, ◌<◌, List, [], ◌∷◌, length, ⊎_elim, arith, length-append}
 use Rattle.snmp_wire.specs.Message.{Datum, VarBind, Message}
@@ -7,7 +7,7 @@ use Rattle.snmp_wire.specs.Canon.{IsEncodable, IsEncodableValue, canon_binding, 
 use Rattle.snmp_agent.specs.table.Table.{IsAnswerValue}
 use Rattle.snmp_agent.specs.private.Answering.{HasEncoding, IsWritable, AreWritable, IsShortValue}
 
--- ---- what is read
+-- ---- what is decoded
 
 read_value : (value : Datum) (content : List ℕ) → IsContent lenient value content → HasEncoding value
 read_value value content h = grind (arith, common_steps)
@@ -16,7 +16,7 @@ read_bindings : (bindings : List VarBind) (octets : List ℕ) → SpellsBindings
 read_bindings [] octets h = tt
 read_bindings (binding ∷ more) octets h = grind (arith, common_steps, read_bindings more h.1 h.4, read_value)
 
--- the bindings of a message that was read have encodings
+-- the bindings of a decoded message have encodings
 pub read_message : (q : Message) (octets : List ℕ) → Spells q octets → AreWritable q.bindings
 read_message q octets h = read_bindings q.bindings h.is_pdu.bindings h.is_pdu.are_bindings
 
@@ -50,7 +50,7 @@ long_content : (value : Datum) → (IsShortValue value → ⊥) → 65535 < leng
 unfolding canon_content
 long_content value long = grind (arith, common_steps, ⊎_elim)
 
--- a binding with a longer string than any datagram has
+-- a binding with a longer string than a reply can have is longer than any datagram
 pub long_binding : ElementSizes → (binding : VarBind) → (IsShortValue binding.value → ⊥) → 65535 < length (canon_binding binding)
 long_binding sizes binding long =
     omega (arith, long_content binding.value long, longer_value sizes binding.value, longer_binding sizes binding)

@@ -1,4 +1,4 @@
--- Finding the row of a name.
+-- The look-up of a row and of an object prefix by name.
 use Rattle.std.proofs.Common.{◌≡◌, ℕ, zero, suc, ◌+◌, ◌<◌, List, [], ◌∷◌, map, length, take, Some, None, refl, sym, ◌∙◌, ap, subst, arith}
 use Rattle.std.proofs.Common.{◌||◌, true, false, Vec, Global, length-append}
 use Rattle.std.specs.{Ordering.nat_cmp, Ordering.is_eq, Ordering.eq_by_cmp, Cmp.Lexicographic.slice_cmp, Cmp.Lexicographic.nat_list_cmp_total}
@@ -31,13 +31,13 @@ get_no_object view objects o same nothing never = unknown_object nothing (λ h. 
 
 -- ---- object prefixes
 
--- a query finds an identifier among the keys where it stands among their numbers
+-- a look-up finds an identifier among the keys if it is among their numbers
 pub list_any-items : (o : List ℕ) (keys : List (Vec ℕ Global))
     → list_any (λ key. is_eq (slice_cmp nat_cmp o key.items)) keys ≡ list_any (eq_by_cmp (slice_cmp nat_cmp) o) (map (λ key. key.items) keys)
 list_any-items o [] = refl
 list_any-items o (key ∷ keys) = ap (λ b. is_eq (slice_cmp nat_cmp o key.items) || b) (list_any-items o keys)
 
--- a beginning that is none of the first ones
+-- if no prefix of the name is an object prefix, none equals or begins the name
 pub no_beginning : (objects : List (List ℕ)) (o : List ℕ) → ((k : ℕ) → k < length o + 1
     → list_any (eq_by_cmp (slice_cmp nat_cmp) (take k o)) objects ≡ false) → HasBeginning objects o → ⊥
 no_beginning objects o never h =

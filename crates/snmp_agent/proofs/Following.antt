@@ -1,4 +1,4 @@
--- What comes next in a list of entries whose names rise.
+-- What follows a name in a list of entries with increasing names: the results of GetNexts.
 use Rattle.std.proofs.{lemmas.Grind.common_steps, lemmas.List.Elements.Contains-append_cases, lemmas.List.Elements.Contains-append_right}
 use Rattle.std.proofs.Common.{◌≡◌, ◌↔◌, ℕ, zero, suc, inl, inr, T, List, [], ◌∷◌, ◌++◌, map, Some, true, false, cond, refl, sym, ◌∙◌, ap, subst}
 use Rattle.std.proofs.Common.{append_assoc, Less, ◌+◌, ◌≤◌, length, take, drop, arith, ◌-◌}
@@ -16,7 +16,7 @@ use Rattle.snmp_agent.proofs.Lists.{of_each}
 use Rattle.snmp_agent.proofs.Rising.{not_before_itself, not_both, before_from, before_later, is_behind, not_behind, second_of_both, before_no_earlier}
 use Rattle.snmp_agent.proofs.Rising.{find-listed, listed_from_find}
 
--- the order of names is the standard's
+-- the order of names is the standard's order
 abbrev pub IsOrder : Type 0
 IsOrder = (o p : List ℕ) → (slice_cmp nat_cmp o p ≡ Less) ↔ Precedes o p
 
@@ -27,7 +27,7 @@ listed : (view : MibView) (o : List ℕ) (front back : Entries) → StandsApart 
     → Contains (front ++ back) (q.name, q.value)
 listed view o front back apart q row = listed_from_find q.name q.value (front ++ back) (sym (apart.found q.name) ∙ row)
 
--- past an entry
+-- the two parts of the rows after one entry was passed
 past : (view : MibView) (o : List ℕ) (front back : Entries) (p : List ℕ × Datum) → StandsApart view.rows o front (p ∷ back)
     → StandsApart view.rows p.0 (front ++ p ∷ []) back
 past view o front back p apart =
@@ -39,13 +39,14 @@ past view o front back p apart =
       ahead = before_later front back p apart.rising;
     }
 
--- asked first from o, and then `rounds` times more from what that gave
+-- a GetNext of `o`, and then `rounds + 1` GetNexts from its result, are `rounds + 2` GetNexts from
+-- `o`
 next_from : (view : MibView) (rounds : ℕ) (o : List ℕ) (p q : VarBind) → IsNext view o p → IsNextAfter view rounds p.name q → IsNextAfter view (suc rounds) o q
 next_from view zero o p q first more = (p, first, more)
 next_from view (suc rounds) o p q first more = (more.0, next_from view rounds o p more.0 first more.1, more.2)
 
 module _ (order : IsOrder) where
-  -- a row after the name is among the later ones
+  -- a row after the name is among the later entries
   later_listed : (view : MibView) (o : List ℕ) (front back : Entries) → StandsApart view.rows o front back → (q : VarBind) → IsRow view q → Precedes o q.name
       → Contains back (q.name, q.value)
   later_listed view o front back apart q row behind =
@@ -75,7 +76,8 @@ module _ (order : IsOrder) where
         nearest_in p back q (before_later front back p apart.rising) (later_listed view o front (p ∷ back) apart q row behind);
   }
 
-  -- what is asked from the last name of some entries that follow comes that many rounds later
+  -- a GetNext of the name of the last of `rounds` entries after `o` returns what `rounds + 1`
+  -- GetNexts from `o` do
   pub asked_past : (view : MibView) (rounds : ℕ) (o : List ℕ) (front back : List (List ℕ × Datum)) → StandsApart view.rows o front back → (q : VarBind)
       → IsNext view (last_name o (take rounds back)) q → IsNextAfter view rounds o q
   asked_past view zero o front back apart q next = next
@@ -90,9 +92,9 @@ module _ (order : IsOrder) where
       next_from view rounds o (var_of p) q (is_next view o front (p ∷ back) apart)
       (asked_past view rounds p.0 (front ++ p ∷ []) back (past view o front back p apart) q next)
 
--- ---- rows behind a name
+-- ---- rows after a name
 
--- where entries part at a name
+-- entries with increasing names consist of those up to a name and those after it
 parting : (o : List ℕ) (es : Entries) → T (is_sorted (slice_cmp nat_cmp) es)
     → (front : Entries) × (es ≡ front ++ entries_after o es) × IsBeforeNone o front × IsBeforeAll o (entries_after o es)
 parting o [] rising = ([], refl, tt, tt)
@@ -105,7 +107,7 @@ parting o (e ∷ es) rising =
       | false ↦ λ begins. ([], refl, tt, before_from o e es rising begins)
     ] refl
 
--- the variables after it are behind it
+-- `entries_after` are the variables after the name
 pub behind_name : (view : MibView) (o : List ℕ) → AreBehind view o (entries_after o (entries view.rows))
 behind_name view o =
     let parts = parting o (entries view.rows) (entries_sorted view.rows) in (
@@ -123,7 +125,7 @@ after_both o [] [] passed ahead = refl
 after_both o [] (e ∷ back) passed ahead = grind (arith, common_steps, not_behind)
 after_both o (e ∷ front) back passed ahead = grind (arith, common_steps, after_both o front back passed.1 ahead, is_behind)
 
--- and no others are
+-- no other list is the variables after the name
 pub all_behind : (view : MibView) (o : List ℕ) (back : List (List ℕ × Datum)) → AreBehind view o back → back ≡ entries_after o (entries view.rows)
 all_behind view o back h =
     let es = h.0 ++ back in
@@ -131,7 +133,7 @@ all_behind view o back h =
     (λ q. h.1.found q ∙ sym (get-from_sorted (slice_cmp nat_cmp) es q h.1.rising)) in
     sym (ap (entries_after o) (ap entries same ∙ entries-from_sorted (slice_cmp nat_cmp) es h.1.rising) ∙ after_both o h.0 back h.1.passed h.1.ahead)
 
--- the first of them is a variable
+-- the first of these entries is a variable
 pub first_row : (view : MibView) (o : List ℕ) (e : List ℕ × Datum) (es : List (List ℕ × Datum)) → AreBehind view o (e ∷ es) → IsRow view (var_of e)
 first_row view o e es h = h.1.found e.0 ∙ find-listed e (h.0 ++ e ∷ es) h.1.rising (Contains-append_right h.0 (e ∷ es) e (0, omega arith, refl))
 
@@ -153,7 +155,7 @@ last_name-last o (first ∷ second ∷ rows) row zero whole at = let no : ⊥ = 
 last_name-last o (first ∷ second ∷ rows) row (suc last) whole at =
     last_name-last first.name (second ∷ rows) row last (omega (arith, whole)) at
 
--- ---- some rows skipped
+-- ---- rows that are skipped
 
 pub drop_rows : (rows : List VarBind) (more : List (List ℕ × Datum)) (n : ℕ) → length rows ≤ n → drop (n - length rows) more ≡ drop n (entries_of rows ++ more)
 drop_rows [] more n few = ap (λ (k : ℕ). drop k more) (omega arith)

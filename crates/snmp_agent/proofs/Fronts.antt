@@ -1,4 +1,5 @@
--- What the bindings of a reply hold.
+-- The bindings of a reply while they are written: a prefix of all that were appended
+-- (`all_front`).
 use Rattle.std.proofs.{lemmas.Grind.common_steps, lemmas.Grind.flat_map-append, lemmas.List.append-nil, lemmas.Bool.Decides.nat_tests, lemmas.Bool.cases_lt}
 use Rattle.std.proofs.Common.{◌≡◌, ◌≢◌, ℕ, ◌+◌, ◌-◌, ◌≤◌, ◌<◌, List, [], ◌∷◌, ◌++◌, length, refl, ⊎_elim, sym, ap, ◌∙◌, arith, length-append}
 use Rattle.std.proofs.Common.{append_assoc, ◌⊎◌, take}
@@ -6,23 +7,23 @@ use Rattle.snmp_wire.specs.{Message.VarBind, Canon.canon_binding, Canon.canon_bi
 use Rattle.snmp_agent.specs.declared.room.ReplyBindings.{ReplyBindings}
 use Rattle.snmp_agent.specs.private.Answering.{Held, add, fill, held}
 
--- no binding is encoded by nothing
+-- a binding takes at least one octet
 pub some_octets : (p : VarBind) → 0 < length (canon_binding p)
 unfolding canon_binding canon_element canon_header
 some_octets p = omega arith
 
--- a binding that has room
+-- a binding that has room is appended
 added : (h : Held) (p : VarBind) → length (canon_binding p) ≤ h.left
     → add h p ≡ record { octets = h.octets ++ canon_binding p; left = h.left - length (canon_binding p) }
 unfolding add
 added h p fits = grind (arith, nat_tests)
 
--- and one that has none
+-- after a binding that has no room, no room is left
 refused : (h : Held) (p : VarBind) → h.left < length (canon_binding p) → add h p ≡ record { octets = h.octets; left = 0 }
 unfolding add
 refused h p large = grind (arith, nat_tests)
 
--- what is held with one more binding
+-- the reply after one more binding
 pub held_more : (h : Held) (p : VarBind) (octets : List ℕ) (left : ℕ) → octets ≡ h.octets ++ canon_binding p → left + length (canon_binding p) ≡ h.left
     → record { octets = octets; left = left } ≡ add h p
 held_more h p octets left more size = grind (arith, common_steps, added)
@@ -38,19 +39,20 @@ fill_both h (p ∷ a) b = fill_both (add h p) a b
 add_full : (h : Held) (p : VarBind) → h.left ≡ 0 → add h p ≡ h
 add_full h p full = refused h p (omega (arith, some_octets p)) ∙ (λ i. record { octets = h.octets; left = sym full i })
 
--- where no room is left, nothing more is added
+-- if no room is left, nothing is appended
 pub fill_full : (h : Held) (more : List VarBind) → h.left ≡ 0 → fill h more ≡ h
 fill_full h [] full = refl
 fill_full h (p ∷ more) full = ap (λ (g : Held). fill g more) (add_full h p full) ∙ fill_full h more full
 
--- ---- fronts
+-- ---- prefixes
 
--- the first of these bindings has no room after so many octets
+-- the first of the bindings has no room after `total` octets
 abbrev pub HasNoRoom : ℕ → ℕ → List VarBind → Type 0
 HasNoRoom room total [] = Unit {0}
 HasNoRoom room total (p ∷ more) = room < total + length (canon_binding p)
 
--- a front of these bindings is held: all of them, unless the next had no room and so none is left
+-- a prefix of the bindings was written: all of them, unless the next one had no room, and then no
+-- room is left
 pub record HoldsFront (room : ℕ) (start : List ℕ) (all : List VarBind) (end : Held) : Type 0 where
   pub added : List VarBind
   pub more : List VarBind
@@ -98,20 +100,21 @@ front_of room h (p ∷ more) is = ⊎_elim
     }))
     (cases_lt h.left (length (canon_binding p)))
 
--- of all that was added to no bindings, a front is held
+-- if bindings are appended to an empty reply, a prefix of them is written
 pub all_front : (room : ℕ) (all : List VarBind) (fresh reply : ReplyBindings) (out new : List ℕ) → fresh.total ≡ 0 → fresh.left ≡ room
     → held reply new ≡ fill (held fresh out) all → HoldsFront room [] all (held reply new)
 all_front room all fresh reply out new empty left same = grind (arith, common_steps, front_of)
 
--- ---- whether a message with them keeps to its limit
+-- ---- whether a message with these bindings stays within its limit
 
--- how many octets there are with one more binding, and others behind it
+-- the length of bindings, by those before and after one of them
 pub longer_by : (front rest : List VarBind) (p : VarBind)
     → length (canon_bindings (front ++ p ∷ rest)) ≡ length (canon_bindings front) + (length (canon_binding p) + length (canon_bindings rest))
 unfolding canon_bindings
 longer_by front rest p = grind (arith, common_steps, flat_map-append, length-append)
 
--- of bindings that had room for as many octets as the limit allows, all are there, or they pass it and no room is left
+-- if bindings had as much room as the limit allows, all of them were written, or they are longer
+-- than the limit and no room is left
 pub all_or_full : (limit : ℕ) (reply : ReplyBindings) (out : List ℕ) (given : List VarBind) → length (take reply.total out) ≡ reply.total
     → HoldsFront limit [] given (held reply out)
     → (take (limit - reply.left) out ≡ canon_bindings given) ⊎ ((reply.left ≡ 0) × (limit < length (canon_bindings given)))

@@ -1,4 +1,5 @@
--- Rows that are put in their places together are those that were there and those that came.
+-- The rows of a table after others were inserted are a permutation of those that were there and
+-- those that were inserted.
 use Rattle.std.proofs.Common.{arith, ◌≡◌, ℕ, Bool, true, false, List, [], ◌∷◌, ◌++◌, sym, ◌∙◌, ap, append_assoc, append-nil, is_some}
 use Rattle.std.proofs.lemmas.Grind.{common_steps}
 use Rattle.std.specs.{List.Sorted.IsPermutation, List.Contains, Ordering.nat_cmp, Cmp.Lexicographic.slice_cmp, Cmp.Lexicographic.nat_list_cmp_total}
@@ -19,18 +20,18 @@ Entries = List (List ℕ × Datum)
 abbrev Rows : Type 0
 Rows = FinMap (slice_cmp nat_cmp) Datum
 
--- the entries of a map that was made of them
+-- the entries of a map that was made from sorted entries are these
 pub entries_are : (es : Entries) (m : Rows) → IsSorted es → from_sorted {R = slice_cmp nat_cmp} es ≡ m
     → entries m ≡ es
 entries_are es m rising is = ap entries (sym is) ∙ entries-from_sorted (slice_cmp nat_cmp) es rising
 
 -- ---- lists in another order
 
--- one of the last goes to the end of the first
+-- an entry among the last ones moves to the end of the first ones
 to_first : (xs ys zs : Entries) (e : List ℕ × Datum) → IsPermutation (xs ++ (ys ++ e ∷ zs)) ((xs ++ e ∷ []) ++ (ys ++ zs))
 to_first xs ys zs e = grind (arith, common_steps, append_assoc, IsPermutation-append_right, IsPermutation-middle)
 
--- what is moved in front may be moved on
+-- entries at the start may be exchanged for a permutation of them
 regathered : (total a b c d zs : Entries) → IsPermutation total (a ++ (b ++ zs)) → IsPermutation (a ++ b) (c ++ d) → IsPermutation total (c ++ (d ++ zs))
 regathered total a b c d zs h moved =
     rw (← append_assoc c d zs) (IsPermutation-trans total ((a ++ b) ++ zs) ((c ++ d) ++ zs)
@@ -45,7 +46,7 @@ row_moves m n row had put has hasnt =
     let absent = none_of (find (slice_cmp nat_cmp) row.name (entries m)) (ap is_some (sym (get-entries m row.name)) ∙ sym has ∙ hasnt) in
     rw (put, entries-insert nat_list_cmp_total m row.name row.value) (put_moves row.name row.value (entries m) absent)
 
--- one of those that are left
+-- one of the remaining rows is inserted
 taken : (total : Entries) (m n : Rows) (xs ys : Entries) (row : VarBind) (had : Bool)
     → IsPermutation total (entries m ++ (xs ++ entry_of row ∷ ys))
     → n ≡ insert m row.name row.value → had ≡ contains_key m row.name → had ≡ false
@@ -54,7 +55,7 @@ taken total m n xs ys row had h put has hasnt =
     IsPermutation-trans _ _ _ h (IsPermutation-trans _ _ _ (to_first (entries m) xs ys (entry_of row))
     (IsPermutation-append_left (xs ++ ys) _ _ (row_moves m n row had put has hasnt)))
 
--- the last of them
+-- the last of the remaining rows is inserted
 pub last_moves : (total : Entries) (m n : Rows) (rows rest : List VarBind) (row : VarBind) (had : Bool)
     → IsPermutation total (entries m ++ entries_of rows) → rows ≡ rest ++ row ∷ []
     → n ≡ insert m row.name row.value → had ≡ contains_key m row.name → had ≡ false
@@ -63,7 +64,7 @@ last_moves total m n rows rest row had h parts put has hasnt =
     rw (append-nil (entries_of rest)) at (taken total m n (entries_of rest) [] row had
     (rw (parts, rows-append rest (row ∷ [])) at h) put has hasnt)
 
--- the first row of a page, behind others
+-- the first row of a page is inserted, after other rows
 pub page_row_moves : (total : Entries) (l m n : Rows) (others left : List VarBind) (row : VarBind)
     (rest : List VarBind) (had : Bool)
     → IsPermutation total (entries l ++ (entries_of others ++ entries_of (row ∷ rest)))
@@ -95,7 +96,7 @@ pub merge_ends : (total new : Entries) (m : Rows) (others : List VarBind) (pages
     → IsPermutation (entries m ++ entries_of others) new → IsPermutation total new
 merge_ends total new m others pages h none put = grind (arith, common_steps, IsPermutation-trans, append-nil)
 
--- rows that were gathered, put in any order
+-- collected rows are inserted in any order
 pub sorted_moves : (m : Rows) (new : Entries) (late put : List VarBind) → IsPermutation late put
     → IsPermutation (entries m ++ entries_of put) new
     → IsPermutation (entries m ++ entries_of late) new
@@ -103,15 +104,15 @@ sorted_moves m new late put sorted moved =
     IsPermutation-trans _ _ _ (IsPermutation-append_right (entries m) (entries_of late)
     (entries_of put) (IsPermutation-map entry_of late put sorted)) moved
 
--- none of them is left
+-- no collected row is left
 pub settled_moves : (m n : Rows) (late taken kept : List VarBind) → taken ≡ late
     → IsPermutation (entries m ++ entries_of taken) (entries n) → kept ≡ []
     → IsPermutation (entries m ++ entries_of late) (entries n ++ entries_of kept)
 settled_moves m n late taken kept same moved none = rw (← same, none, append-nil (entries n)) moved
 
--- ---- a row that a draft is given, behind the rows gathered or among them
+-- ---- a row that is added to a draft: inserted, appended or collected
 
--- put in its place
+-- the row is inserted
 pub placed_moves : (old m n : Rows) (gathered late : List VarBind) (row : VarBind) (had : Bool)
     → IsPermutation (entries old ++ entries_of gathered) (entries m ++ entries_of late) → late ≡ []
     → n ≡ insert m row.name row.value → had ≡ contains_key m row.name → had ≡ false
@@ -121,7 +122,7 @@ placed_moves old m n gathered late row had h none put has hasnt =
     rw (none, append-nil (entries n)) (IsPermutation-trans _ _ _ (IsPermutation-append_left (entry_of row ∷ []) _ _
     (rw (none, append-nil (entries m)) at h)) (row_moves m n row had put has hasnt))
 
--- appended to the rows in their places
+-- the row is appended to the rows that are in order
 pub appended_moves : (ms ns late : Entries) (row : VarBind) → ns ≡ ms ++ entry_of row ∷ []
     → IsPermutation ((ms ++ late) ++ entry_of row ∷ []) (ns ++ late)
 appended_moves ms ns late row appended =
@@ -129,7 +130,7 @@ appended_moves ms ns late row appended =
     rw (appended, append_assoc ms late (e ∷ []), append_assoc ms (e ∷ []) late)
     (IsPermutation-append_right ms (late ++ e ∷ []) (e ∷ late) (IsPermutation-to_front late e))
 
--- a row has the name of one that is there
+-- the row has the name of another
 pub had_one : (es : Entries) (m : Rows) (late : List VarBind) (o : List ℕ) (had : Bool)
     → IsPermutation es (entries m ++ entries_of late) → late ≡ [] → had ≡ contains_key m o → had ≡ true
     → AreDistinct es × (v : Datum) × Contains es (o, v)

@@ -1,10 +1,10 @@
--- A search by halves.
+-- The steps of a search by halves.
 use Rattle.std.proofs.{lemmas.Grind.common_steps, lemmas.List.get_or_default}
 use Rattle.std.proofs.Common.{◌≡◌, ℕ, ◌+◌, ◌≤◌, ◌<◌, Bool, true, false, List, length, slice_index_or, refl, sym, ap, ◌∙◌, arith}
 use Rattle.std.specs.List.Sorted.{IsPartitionedBy}
 use Rattle.snmp_agent.specs.private.table.Halving.{IsHalvedTo}
 
--- an element passes, and so do those before it
+-- an element passes the test, and so do those before it
 pub passes : {X : Type 0} (p : X → Bool) (xs : List X) (passed end at : ℕ) (x : X) → IsPartitionedBy p xs → IsHalvedTo p xs passed end → at < end
     → x ≡ slice_index_or xs at x → p x ≡ true → IsHalvedTo p xs (at + 1) end
 passes p xs passed end at x parted h low here found = record {
@@ -17,7 +17,7 @@ passes p xs passed end at x parted h low here found = record {
   back = h.back;
 }
 
--- an element doesn't pass, and so don't those behind it
+-- an element doesn't pass the test, and neither do those after it
 pub fails : {X : Type 0} (p : X → Bool) (xs : List X) (passed end at : ℕ) (x : X) → IsPartitionedBy p xs → IsHalvedTo p xs passed end → at < end
     → passed ≤ at → x ≡ slice_index_or xs at x → p x ≡ false → IsHalvedTo p xs passed at
 fails {X} p xs passed end at x parted h low behind here found = record {
@@ -34,6 +34,6 @@ fails {X} p xs passed end at x parted h low behind here found = record {
         let false_there : p (slice_index_or xs at d) ≡ false = ap p (get_or_default xs at d x (omega (arith, low, h.bound)) ∙ sym here) ∙ found in
         absurd (cc)
 
--- nothing is left between the places
+-- no element is left between the two indices
 pub met : {X : Type 0} (p : X → Bool) (xs : List X) (passed end : ℕ) → IsHalvedTo p xs passed end → end ≤ passed → IsHalvedTo p xs passed passed
 met p xs passed end h none = grind (arith, common_steps)

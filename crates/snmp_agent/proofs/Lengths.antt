@@ -1,4 +1,4 @@
--- How long messages are: with more octets of bindings a message is longer.
+-- The lengths of messages: with more octets of bindings, a message is longer.
 use Rattle.std.proofs.{lemmas.Grind.common_steps, Common.ℕ, Common.◌≢◌, Common.◌+◌, Common.◌≤◌, Common.◌<◌, Common.length, Common.arith}
 use Rattle.snmp_wire.specs.{Canon.canon_head, Canon.canon_header, Message.Message, Sizes.MessageSizes}
 use Rattle.snmp_agent.specs.private.Answering.{whole_size, IsRoom}
@@ -7,12 +7,12 @@ use Rattle.snmp_agent.specs.private.Answering.{whole_size, IsRoom}
 pub longer : MessageSizes → (m : Message) (n k : ℕ) → n ≤ k → whole_size m n ≤ whole_size m k
 longer sizes m n k h = omega (arith, h, sizes.heads_rise m n k h)
 
--- and its head has some octets
+-- a head has at least one octet
 pub some_head : (m : Message) (total : ℕ) → 0 < length (canon_head m total)
 unfolding canon_head canon_header
 some_head m total = omega arith
 
--- with bindings that keep to the room a message keeps to the limit, and with more it passes it
+-- with bindings within the room a message stays within the limit, and with longer ones it doesn't
 
 pub within : MessageSizes → (m : Message) (limit room n : ℕ) → IsRoom m limit room → n ≢ 0 → n ≤ room → whole_size m n ≤ limit
 within sizes m limit room n h some low = omega (arith, h.fits (λ none. some (omega (arith, none, low))), longer sizes m n room low)

@@ -1,4 +1,4 @@
--- Facts about lists.
+-- Lists: prefixes, elements at an index, and last elements.
 use Rattle.std.proofs.lemmas.Grind.{common_steps}
 use Rattle.std.proofs.Common.{◌≡◌, ℕ, zero, suc, ◌-◌, ◌≤◌, ◌<◌, List, [], ◌∷◌, ◌++◌, length, take, drop, get_or, map, Some, arith, refl, sym, ap}
 use Rattle.std.proofs.Common.{subst, ◌∙◌, ◌+◌}
@@ -18,19 +18,19 @@ module _ {X : Type 0} (P : X → Type 0) where
   all_back [] ys h = h
   all_back (x ∷ xs) ys h = all_back xs ys h.1
 
-  -- what holds of all holds of each
+  -- what holds of all elements holds of each
   pub of_each : (xs : List X) (x : X) → AllByRecursion P xs → Contains xs x → P x
   of_each [] x h at = absurd (omega (arith, at.1))
   of_each (y ∷ xs) x h (zero, low, at) = subst P at h.0
   of_each (y ∷ xs) x h (suc k, low, at) = of_each xs x h.1 (k, omega (arith, low), at)
 
 module _ {X : Type 0} where
-  -- fronts of one length
+  -- prefixes with the same length are the same
   pub same_front : (xs ys more rest : List X) → xs ++ more ≡ ys ++ rest → length xs ≡ length ys → xs ≡ ys
   same_front xs ys more rest e long =
       sym (take_at xs more (length xs) refl) ∙ ap (take (length xs)) e ∙ take_at ys rest (length xs) (sym long)
 
-  -- what stands behind a front stands in a longer front too
+  -- of two prefixes of a list, the longer one contains the element that follows the shorter one
   pub inside : (front : List X) (x : X) (back other rest : List X) → front ++ x ∷ back ≡ other ++ rest → length front < length other
       → (more : List X) × (other ≡ front ++ x ∷ more)
   inside front x back [] rest e low = absurd (omega (arith, low))
@@ -38,13 +38,13 @@ module _ {X : Type 0} where
   inside (z ∷ front) x back (y ∷ other) rest e low =
       let later = inside front x back other rest (cc) (omega (arith, low)) in (later.0, cc (later.1))
 
-  -- a list round one of its elements
+  -- a list is the elements before index `place`, the one at it, and those after it
   pub around : (xs : List X) (place : ℕ) (x : X) → slice_get xs place ≡ Some x → xs ≡ take place xs ++ x ∷ drop (suc place) xs
   around [] place x at = cc
   around (first ∷ xs) zero x at = let same : first ≡ x = cc in ap (λ y. y ∷ xs) same
   around (first ∷ xs) (suc place) x at = ap (λ ys. first ∷ ys) (around xs place x at)
 
-  -- what stands in its front
+  -- an element of a prefix is at the same index of the list
   pub in_front : (xs : List X) (place k : ℕ) (x : X) → slice_get (take place xs) k ≡ Some x → slice_get xs k ≡ Some x
   in_front [] zero k x at = at
   in_front [] (suc place) k x at = at
@@ -52,7 +52,7 @@ module _ {X : Type 0} where
   in_front (first ∷ xs) (suc place) zero x at = at
   in_front (first ∷ xs) (suc place) (suc k) x at = in_front xs place k x at
 
-  -- what stands at its end
+  -- `x` is the last element of the list
   abbrev pub IsLast : List X → X → Type 0
   IsLast xs x = slice_get xs (length xs - 1) ≡ Some x
 
@@ -60,14 +60,14 @@ module _ {X : Type 0} where
   last_of xs x some at =
       around xs (length xs - 1) x at ∙ ap (λ rest. take (length xs - 1) xs ++ x ∷ rest) (drop_all (suc (length xs - 1)) xs (omega (arith, some)))
 
-  -- the last one of the front
+  -- the last element of a prefix of `n` elements is at index `n - 1`
   pub last_in_front : (xs : List X) (n : ℕ) (x : X) → n ≤ length xs → IsLast (take n xs) x → slice_get xs (n - 1) ≡ Some x
   last_in_front xs n x within last = grind (arith, common_steps, in_front, length-take-le)
 
   pub nothing_left : (xs : List X) → length xs ≡ 0 → xs ≡ []
   nothing_left xs h = grind (arith, common_steps)
 
-  -- where the elements before a place were changed, the one at the place still stands there
+  -- if the elements before index `i` were changed, the one at `i` is still the same
   pub still_there : (f : X → X) (xs ys : List X) (i : ℕ) (x : X) → i < length xs → ys ≡ map f (take i xs) ++ drop i xs → x ≡ get_or ys i x
       → drop i xs ≡ x ∷ drop (i + 1) xs
   still_there f xs ys i x low changed at = grind (arith, common_steps, drop_more, length-map, length-take-le, get_or_at)

@@ -1,4 +1,4 @@
--- Lines have one first fault at most.
+-- Lines have at most one first fault.
 use Rattle.std.proofs.{lemmas.Grind.common_steps, lemmas.List.append_cancel_left}
 use Rattle.std.proofs.Common.{arith, ◌≡◌, ◌≢◌, inl, inr, ℕ, List, ◌∷◌, ◌++◌, refl, sym, ◌∙◌, ap, length, ◌<◌}
 use Rattle.snmp_agent.specs.{declared.table.error.TableError.TableError, table.Text.IsGoodLine, table.Text.a_row, table.Format.Format}
@@ -27,7 +27,7 @@ module _ (format : Format) (line : List ℕ) where
     stated : IsDouble format front line → IsGoodLine format line
     stated double = a_row double.0 double.2
 
-    -- one thing at most is wrong with a line
+    -- at most one thing is wrong with a line
     one_wrong : (fault other : TableError) → number_of fault ≡ number_of other
         → IsWrong format front line fault → IsWrong format front line other → fault ≡ other
     one_wrong (error.BadLine n) (error.BadLine m) e h k = ap error.BadLine e
@@ -38,9 +38,9 @@ module _ (format : Format) (line : List ℕ) where
     one_wrong _ error.Memory e h k = absurd k
     one_wrong _ _ e h k = absurd (search (formed_name, formed_value, named_value, good_line, good_name, good_value, stated))
 
--- ---- which line it is
+-- ---- which line is faulty
 
--- what a fault says of lines, unless memory ran out
+-- what a fault says of lines, if it isn't a lack of memory
 abbrev IsFaulty : Format → List (List ℕ) → TableError → Type 0
 IsFaulty format lines fault = (front : List (List ℕ)) × (line : List ℕ)
     × IsBehindGood format lines (number_of fault) front line × IsWrong format front line fault
@@ -55,7 +55,7 @@ first : (format : Format) (lines : List (List ℕ)) (fault : TableError)
 first format lines fault h = grind (arith, common_steps)
 
 module _ (format : Format) (lines : List (List ℕ)) where
-  -- a faulty line isn't one of the good lines before another
+  -- a faulty line isn't one of the good lines before another faulty line
   not_before : (fault other : TableError) (h : IsFaulty format lines fault) (k : IsFaulty format lines other)
       → fault ≢ error.Memory → length h.0 < length k.0 → ⊥
   not_before fault other h k known low =

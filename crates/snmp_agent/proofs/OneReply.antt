@@ -1,4 +1,5 @@
--- An agent has at most one reply to a datagram, and none to one that it drops.
+-- An agent has at most one reply to a datagram (`one_reply`), and none to one that it drops
+-- (`no_reply`).
 use Rattle.std.proofs.lemmas.Grind.{common_steps}
 use Rattle.std.proofs.Common.{◌≡◌, ℕ, pos, ◌≤◌, List, [], ◌∷◌, ◌++◌, length, take, drop, refl, sym, ap, subst, ◌∙◌}
 use Rattle.std.proofs.Common.{append_assoc, append-nil, arith, length-append}
@@ -17,7 +18,8 @@ OneSpelling = (m n : Message) (b c rest more : List ℕ) → Spells m b → Spel
 
 -- ---- answers
 
--- the laws of a table: of each name it has one answer
+-- each name has exactly one answer: to a Get, to a GetNext, and to a repeated GetNext (the law
+-- `one_answer`)
 abbrev pub HasGets : Type 0
 HasGets = (view : MibView) (o : List ℕ) → HasOne (IsGet view o)
 
@@ -38,9 +40,9 @@ same_answers R one [] [] _ h k = absurd k
 same_answers R one (a ∷ more) (p ∷ ps) [] h k = absurd k
 same_answers R one _ _ other h k = absurd h
 
--- ---- fronts
+-- ---- longest prefixes
 
--- a longest front is no longer than another
+-- a longest prefix is no longer than another
 no_longer : (max_size : ℕ) (q : Message) (all a b : List VarBind) → IsLongestFront max_size q all a → IsLongestFront max_size q all b → length a ≤ length b
 no_longer max_size q all a b h k = grind (arith, common_steps)
 
@@ -51,7 +53,7 @@ one_front max_size q all a b h k =
 -- ---- rounds
 
 module _ (nexts : HasNextsAfter) (view : MibView) (repetitions : ℕ) (names : List VarBind) where
-  -- no round comes after all of a GetBulk
+  -- no round follows all rounds of a GetBulk
   no_more : (rounds more : List (List VarBind)) (round : List VarBind) → AreRounds view repetitions names rounds
       → AreRounds view repetitions names (rounds ++ round ∷ more) → ⊥
   no_more rounds more round h k =
@@ -59,7 +61,7 @@ module _ (nexts : HasNextsAfter) (view : MibView) (repetitions : ℕ) (names : L
       let none : round ∷ more ≡ [] = k.last end.0 (round ∷ more) end.1
       (ap (λ rs. rs ++ round ∷ more) end.2 ∙ append_assoc end.0 (end.1 ∷ []) (round ∷ more)) end.3 in cc
 
-  -- rounds that begin alike go on alike
+  -- rounds that begin in the same way continue in the same way
   same_rounds : (before a b : List (List VarBind)) → AreRounds view repetitions names (before ++ a)
       → AreRounds view repetitions names (before ++ b) → a ≡ b
   same_rounds before [] [] h k = refl
@@ -139,7 +141,7 @@ module _ (gets : HasGets) (nexts : HasNexts) (later_nexts : HasNextsAfter) (spel
       let same : h.request ≡ p = same_request datagram h.request p h.is_request.spelt asked.spelt in
       large (rw (← responses agent h.request p h.response r same h.is_response answered) h.fits)
 
--- ---- so that one is sent
+-- ---- a request that has a reply gets it
 
 pub is_replied : (size : ℕ) (out octets : List ℕ) → size ≡ length (take size out) → take size out ≡ octets
     → (Reply size ≡ Reply (length octets)) × (take (length octets) out ≡ octets)

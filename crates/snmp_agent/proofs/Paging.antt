@@ -1,4 +1,4 @@
--- Pages of rows: what a change of one of them does to all rows, and where it is divided.
+-- Pages of rows: how a change of one page changes the list of all rows, and how a page is split.
 use Rattle.std.proofs.{lemmas.Grind.common_steps, lemmas.List.Edits.length-remove}
 use Rattle.std.proofs.Common.{◌≡◌, ℕ, suc, ◌+◌, ◌-◌, ◌≤◌, ◌<◌, false, List, [], ◌∷◌, ◌++◌, length, take, drop, None, Some, slice_set, slice_index_or}
 use Rattle.std.proofs.Common.{refl, sym, ◌∙◌, ap, subst, inl, inr, arith, append_assoc, length-append, add-one, true, is_some, Less}
@@ -21,24 +21,24 @@ use Rattle.snmp_agent.proofs.Rising.{after_last, after_none, after_up_to, before
 abbrev Entries : Type 0
 Entries = List (List ℕ × Datum)
 
--- ---- one of the pages
+-- ---- one page among the others
 
 module _ (pages : List Page) (place : ℕ) where
-  -- a page with these rows in its place
+  -- the rows of all pages if one page is replaced
   spliced : (new : Page) (es : Entries) → place < length pages → entries_of new.rows.items ≡ es
       → entries_in (slice_set pages place new) ≡ front pages place ++ (es ++ back pages place)
   spliced new es low same = set-parts pages place new low ∙ ap (λ (fs : Entries). front pages place ++ (fs ++ back pages place)) same
 
-  -- the page that is read at the place
+  -- the page read at an index is the page at that index
   pub page_read : (page found : Page) → slice_get pages place ≡ Some page → found ≡ slice_index_or pages place found → found ≡ page
   page_read page found at read = read ∙ get_or_from_slice_get pages place page found at
 
-  -- a page with the same rows
+  -- replacing a page by one with the same rows changes nothing
   pub same_rows : (found new : Page) → place < length pages → found ≡ slice_index_or pages place found → new.rows.items ≡ found.rows.items
       → entries_in (slice_set pages place new) ≡ entries_in pages
   same_rows found new low read same = grind (arith, common_steps, spliced, parts, slice_get_read)
 
-  -- without a row of the page
+  -- the rows of all pages without one row of a page
   pub without_row_of : (page found new : Page) (row : ℕ) → slice_get pages place ≡ Some page → found ≡ slice_index_or pages place found
       → new.rows.items ≡ remove_at found.rows.items row
       → entries_in (slice_set pages place new) ≡ front pages place ++ (entries_of (remove_at page.rows.items row) ++ back pages place)
@@ -46,14 +46,14 @@ module _ (pages : List Page) (place : ℕ) where
       spliced new _ (slice_get_within pages place page at)
       (ap entries_of (removed ∙ ap (λ (p : Page). remove_at p.rows.items row) (page_read page found at read)))
 
-  -- without a page of one row
+  -- the rows of all pages without a page of one row
   pub without_page : (page : Page) (row : ℕ) → row < length page.rows.items → length page.rows.items ≤ 1
       → entries_in (remove_at pages place) ≡ front pages place ++ (entries_of (remove_at page.rows.items row) ++ back pages place)
   without_page page row low one =
       pages-append (take place pages) (drop (suc place) pages) ∙ ap (λ (rows : List VarBind). front pages place ++ (entries_of rows ++ back pages place))
       (sym (nothing_left (remove_at page.rows.items row) (omega (arith, length-remove page.rows.items row low))))
 
-  -- a page of rising pages rises
+  -- the names on each page increase
   pub page_rising : (page : Page) → slice_get pages place ≡ Some page → ArePages pages → IsRising page.rows.items
   page_rising page at rising =
       rising_first (entries_of page.rows.items) (back pages place)
@@ -63,7 +63,7 @@ pub get_in : (o : List ℕ) (pages : List Page) → ArePages pages
     → get (from_sorted {R = slice_cmp nat_cmp} (entries_in pages)) o ≡ find (slice_cmp nat_cmp) o (entries_in pages)
 get_in o pages rising = get-from_sorted (slice_cmp nat_cmp) (entries_in pages) o rising
 
--- the rows stand apart at a name
+-- the rows of all pages in two parts: those up to a name, and those after it
 pub stands_apart : (o : List ℕ) (pages : List Page) (early late : List (List ℕ × Datum)) → ArePages pages → entries_in pages ≡ early ++ late
     → IsBeforeNone o early → IsBeforeAll o late → StandsApart (from_sorted (entries_in pages)) o early late
 stands_apart o pages early late rising whole passed ahead = grind (arith, common_steps, get_in)
@@ -85,7 +85,7 @@ module _ (pages : List Page) (place : ℕ) (o : List ℕ) (h : IsPageOf o pages 
   pub get_in_page : ArePages pages → get (from_sorted {R = slice_cmp nat_cmp} (entries_in pages)) o ≡ find (slice_cmp nat_cmp) o (entries_of page.rows.items)
   get_in_page rising = get_in o pages rising ∙ find_in_page
 
-  -- the rows up to a place of the page, and those behind it
+  -- the rows up to an index of a page, and those after it
   pub apart_in_page : ArePages pages → (n : ℕ) → IsPlaceAfter o page.rows.items n → StandsApart (from_sorted (entries_in pages)) o
       (front pages place ++ entries_of (take n page.rows.items)) (entries_of (drop n page.rows.items) ++ back pages place)
   apart_in_page rising n there =
@@ -96,7 +96,7 @@ module _ (pages : List Page) (place : ℕ) (o : List ℕ) (h : IsPageOf o pages 
       (all_both _ (front pages place) (entries_of (take n page.rows.items)) (after_none o (front pages place) h.passed) there.passed)
       (all_both _ (entries_of (drop n page.rows.items)) (back pages place) there.ahead h.ahead)
 
--- ---- a page among others
+-- ---- a page between others
 
 seam_drop : (xs ys : List Page) (y : Page) → drop (suc (length xs)) (xs ++ y ∷ ys) ≡ ys
 seam_drop [] ys y = refl
@@ -120,9 +120,9 @@ page_between o xs ys page place there passed ahead room = subst (λ (k : ℕ). I
   room = room;
 }
 
--- ---- two pages in place of one
+-- ---- two pages that replace one
 
--- the list of pages then
+-- the list of pages after page `place` was replaced by two pages
 abbrev pub divided : List Page → ℕ → Page → Page → List Page
 divided pages place first second = insert_at (slice_set pages place first) (place + 1) second
 
@@ -173,9 +173,9 @@ pub get_none : (o : List ℕ) (pages : List Page) (place : ℕ) → ArePages pag
     → get (from_sorted {R = slice_cmp nat_cmp} (entries_in pages)) o ≡ None
 get_none o pages place rising h past = get_in o pages rising ∙ ap (find (slice_cmp nat_cmp) o) (no_pages o pages place h past)
 
--- ---- a row behind all others
+-- ---- a row after all others
 
--- a name after the last row is after all of them
+-- a name that comes after the last row comes after all rows
 pub after_all : (o : List ℕ) (pages : List Page) (page : Page) (row : VarBind) → ArePages pages → 0 < length pages → IsLast pages page
     → IsLast page.rows.items row → slice_cmp nat_cmp row.name o ≡ Less → IsAfterAll o (entries_in pages)
 after_all o pages page row rising some last last_row less =
@@ -188,7 +188,7 @@ after_all o pages page row rising some last last_row less =
     ∙ rw rows (simp (append_assoc, append-nil)) in
     subst (IsAfterAll o) (sym whole) (after_last o early (entry_of row) (subst IsSorted whole rising) less)
 
--- a row appended to the last page
+-- a row is appended to the last page
 pub appended : (pages : List Page) (place : ℕ) (found new : Page) (row : VarBind) → length pages ≡ place + 1 → found ≡ slice_index_or pages place found
     → new.rows.items ≡ found.rows.items ++ row ∷ [] → entries_in (slice_set pages place new) ≡ entries_in pages ++ entry_of row ∷ []
 appended pages place found new row long read same =
@@ -197,14 +197,15 @@ appended pages place found new row long read same =
     spliced pages place new _ low (ap entries_of same ∙ rows-append found.rows.items (row ∷ []))
     ∙ rw (parts pages place found (slice_get_read pages (length pages) place found refl low read), none) (simp (append_assoc, append-nil))
 
--- a page of one row appended
+-- a page of one row is appended
 pub appended_page : (old new : List Page) (page : Page) (row : VarBind) → new ≡ old ++ page ∷ [] → page.rows.items ≡ row ∷ []
     → entries_in new ≡ entries_in old ++ entry_of row ∷ []
 appended_page old new page row pushed rows = grind (arith, common_steps, pages-append)
 
--- ---- the rows behind one
+-- ---- the rows after one
 
--- the rows of a page behind a place, and the pages behind it, are those behind a name that stands there
+-- if a name is between the rows before and after an index of a page, the rows of the page from
+-- that index on and the pages after it are the rows after the name
 pub apart_between : (o : List ℕ) (pages : List Page) (place : ℕ) (page : Page) (k : ℕ) → ArePages pages → slice_get pages place ≡ Some page
     → StandsBetween o (take k page.rows.items) (drop k page.rows.items)
     → (early : List (List ℕ × Datum))
@@ -225,7 +226,8 @@ apart_between o pages place page k rising at stands =
           (all_both _ early (e ∷ []) (after_none o early (after_up_to o early late e sorted stands.up_to)) (not_behind o e.0 stands.up_to, tt)) ahead,
     )
 
--- what stands behind the row that is the last of the first k of its page, the last of the first n pages
+-- if the k-th row of the n-th page has the name, the rows of the page after it and the pages after
+-- that are the rows after the name
 pub apart_behind : (o : List ℕ) (pages : List Page) (n : ℕ) (page : Page) (k : ℕ) (row : VarBind) → ArePages pages → n ≤ length pages
     → 0 < length (take n pages) → IsLast (take n pages) page → 0 < length (take k page.rows.items) → IsLast (take k page.rows.items) row → row.name ≡ o
     → (early : List (List ℕ × Datum))
@@ -250,7 +252,7 @@ found_in_page pages place page k row rising at row_at =
     (rw (parts pages place page at) (Contains-append_right (front pages place) (rows ++ back pages place) (entry_of row)
     (Contains-append_left rows (back pages place) (entry_of row) (listed_at page.rows.items k row row_at))))
 
--- ---- a row put into its page
+-- ---- a row that is inserted into its page
 
 module _ (o : List ℕ) (pages : List Page) (place : ℕ) (w : IsPageWithRoom o pages place) (found : Page) (read : found ≡ slice_index_or pages place found) where
   is_page : found ≡ w.page

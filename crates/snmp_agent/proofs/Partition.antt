@@ -1,4 +1,4 @@
--- Where the rows behind a name begin.
+-- The index at which the rows after a name begin, on a page and among the pages (`page_before`).
 use Rattle.std.proofs.lemmas.Grind.{common_steps}
 use Rattle.std.proofs.Common.{◌≡◌, ℕ, zero, suc, ◌-◌, ◌≤◌, ◌<◌, true, false, List, [], ◌∷◌, ◌++◌, ◌∙◌, length, take, drop, slice_index_or, slice_set}
 use Rattle.std.proofs.Common.{refl, ap, subst, arith, append_assoc, Some, Less}
@@ -62,7 +62,7 @@ pub pages-append : (xs ys : List Page) → entries_in (xs ++ ys) ≡ entries_in 
 pages-append [] ys = refl
 pages-append (page ∷ xs) ys = grind (arith, common_steps, pages-append xs ys, append_assoc)
 
--- the rows before a page, those of it and those behind it
+-- the rows before a page, on it and after it
 module _ (pages : List Page) (place : ℕ) where
   abbrev pub front : List (List ℕ × Datum)
   front = entries_in (take place pages)
@@ -78,7 +78,7 @@ module _ (pages : List Page) (place : ℕ) where
 
 -- ---- pages
 
--- the name comes after what stands in front of rows that begin up to it
+-- if the first of `rows` isn't greater than the name, the name comes after all rows before it
 pub rows_passed : (o : List ℕ) (early : List (List ℕ × Datum)) (rows : List VarBind) (late : List (List ℕ × Datum)) → 1 ≤ length rows
     → IsSorted (early ++ (entries_of rows ++ late)) → begins_up_to o rows ≡ true → IsAfterAll o early
 rows_passed o early rows late some rising begins = grind (arith, common_steps, after_up_to)
@@ -102,7 +102,8 @@ pages_partitioned o (page ∷ pages) rising (suc i) zero d order low h = absurd 
 pages_partitioned o (page ∷ pages) rising (suc i) (suc j) d order low h =
     pages_partitioned o pages (rising_rest (entries_of page.rows.items) (entries_in pages) rising) i j d (omega (arith, order)) (omega (arith, low)) h
 
--- it comes before rows whose first it comes before, and before all behind them
+-- if the name comes before the first of `rows`, it comes before all of them and all rows after
+-- them
 pub rows_ahead : (o : List ℕ) (rows : List VarBind) (more : List (List ℕ × Datum)) → IsSorted (entries_of rows ++ more) → begins_up_to o rows ≡ false
     → IsBeforeAll o (entries_of rows ++ more)
 rows_ahead o rows more rising begins = grind (arith, common_steps, before_from)
@@ -116,7 +117,8 @@ pages_ahead o (page ∷ pages) (suc n) rising h =
     pages_ahead o pages n (rising_rest (entries_of page.rows.items) (entries_in pages) rising)
     (λ k d from below. h (suc k) d (omega (arith, from)) (omega (arith, below)))
 
--- the page before the first that begins behind the name
+-- the page before the first one that begins after the name is the only one that can have a row of
+-- the name
 pub page_before : (o : List ℕ) (pages : List Page) (n : ℕ) → ArePages pages → IsHalvedTo (λ page. begins_up_to o page.rows.items) pages n n
     → IsPageOf o pages (n - 1)
 page_before o pages zero rising h = record {

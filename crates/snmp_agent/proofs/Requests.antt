@@ -1,4 +1,4 @@
--- Requests and their Responses.
+-- Requests and the Responses to them.
 use Rattle.std.proofs.{lemmas.Grind.common_steps, lemmas.Int.to_z-of_z}
 use Rattle.std.specs.Cmp.Lexicographic.{pointwise, same_text, other_text}
 use mir.Syntax.{w32}
@@ -13,17 +13,17 @@ use Rattle.snmp_agent.specs.Reply.{IsServed, AreAnswers, IsWhole, got, got_next,
 use Rattle.snmp_agent.specs.private.Answering.{IsWritten, answer_to, answers_to, whole_size, whole_status, whole_index}
 use Rattle.snmp_agent.proofs.{Each.is_got, Following.IsOrder, Standing.given_there}
 
--- the head of a message doesn't look at its bindings
+-- the head of a message doesn't depend on its bindings
 same_head : (m : Message) (total : ℕ) → canon_head (record m { bindings = [] }) total ≡ canon_head m total
 unfolding canon_head canon_front canon_opening canon_fields
 same_head m total = refl
 
--- each binding has the answer that is computed
+-- `f` computes an answer to each binding
 each : (R : VarBind → VarBind → Type 0) (f : VarBind → VarBind) → ((asked : VarBind) → R asked (f asked)) → (asked : List VarBind) → AreAnswers R asked (map f asked)
 each R f one [] = tt
 each R f one (p ∷ asked) = (one p, each R f one asked)
 
--- the bindings of a Set are its own answers
+-- the answers to the bindings of a Set are these bindings
 own : (view : MibView) (asked : List VarBind) → answers_to view kind.SetRequest asked ≡ asked
 own view [] = refl
 own view (p ∷ asked) = ap (λ ps. p ∷ ps) (own view asked)
@@ -40,21 +40,22 @@ by_kind order view q kind.SetRequest e h other = unwritten e (ap (λ bs. respons
 by_kind order view q kind.GetBulkRequest e h other = absurd (other refl)
 by_kind order view q _ e h other = absurd h
 
--- the Response to a request that has one binding for each of its own, whatever its size
+-- the whole Response to a request is the one that is computed
 pub whole_response : IsOrder → (view : MibView) (q : Message) → IsServed q.kind → (q.kind ≡ kind.GetBulkRequest → ⊥)
     → IsWhole view q (response q (whole_status q.kind) (whole_index q.kind q.bindings) (answers_to view q.kind q.bindings))
 whole_response order view q h other = by_kind order view q q.kind refl h other
 
 -- ---- sizes
 
--- how long a Response is
+-- the length of a Response
 pub response_size : MessageSizes → (q : Message) (status index : ℤ) (given : List VarBind)
     → whole_size (response q status index []) (length (canon_bindings given)) ≡ length (canon (response q status index given))
 response_size sizes q status index given =
     ap (λ head. length head + length (canon_bindings given)) (same_head (response q status index given) (length (canon_bindings given)))
     ∙ sym (sizes.whole (response q status index given))
 
--- the message of these parts whose bindings are the first octets of the output, in the part of it that the message may take
+-- a message of parts `m` whose bindings are the first octets of the output, written to `part`, the
+-- part of the output that a message may take
 module _ (sizes : MessageSizes) (pieces : HasPieces) (limit total : ℕ) (m r : Message) (out part rest : List ℕ) (parts : m ≡ record r { bindings = [] })
     (octets : take total out ≡ canon_bindings r.bindings) (long : length (take total out) ≡ total) (room : length part ≡ limit) where
   total_size : total ≡ length (canon_bindings r.bindings)
@@ -70,9 +71,9 @@ module _ (sizes : MessageSizes) (pieces : HasPieces) (limit total : ℕ) (m r : 
       → IfSome result (λ n. (n ≡ whole_size m total) × (take n part ≡ canon_head m total ++ take total out)) → IsWritten limit r result (part ++ rest)
   is_written result fits h = grind (arith, common_steps, ⊎_elim, size, head)
 
--- ---- what a request is tested for
+-- ---- the tests of a request
 
--- a number that was handed over and is 1
+-- if the representation of a number in the code is 1, the number is 1
 pub is_one : {handed z : ℤ} → SFits w32 handed → handed ≡ z → of_z w32 handed ≡ 1 → z ≡ pos 1
 is_one {handed} {z} fits e one = sym e ∙ sym (to_z-of_z w32 handed fits) ∙ ap (to_z w32) one
 

@@ -1,4 +1,4 @@
--- Facts about lists of entries whose names rise.
+-- Lists of entries with increasing names.
 use Rattle.std.proofs.{lemmas.Grind.common_steps, lemmas.List.Elements.Contains-append_right}
 use Rattle.std.proofs.Common.{arith, ◌≡◌, ℕ, zero, suc, Bool, true, false, cond, ◌&&◌, T, List, [], ◌∷◌, ◌++◌, Some, refl, sym, ◌∙◌, ap, subst}
 use Rattle.std.proofs.Common.{Ordering, Less, Equal, Greater}
@@ -45,7 +45,7 @@ pub after_none : (o : List ℕ) (es : List (List ℕ × Datum)) → IsAfterAll o
 after_none o [] h = tt
 after_none o (e ∷ es) h = ((λ less. let greater = h.0 in absurd (cc)), after_none o es h.1)
 
--- ---- where an entry stands
+-- ---- a name and a list of entries
 
 pub less_from_test : (r : Ordering) → T (is_lt r) → r ≡ Less
 less_from_test r h = grind (arith, common_steps)
@@ -63,7 +63,7 @@ pub before_all : (o : List ℕ) (es : List (List ℕ × Datum)) → T (below_all
 before_all o [] h = tt
 before_all o (e ∷ es) h = (less_from_test _ (first_of_both _ _ h), before_all o es (second_of_both _ _ h))
 
--- ---- rising lists
+-- ---- increasing lists
 
 pub rising_rest : (es fs : List (List ℕ × Datum)) → T (is_sorted (slice_cmp nat_cmp) (es ++ fs)) → T (is_sorted (slice_cmp nat_cmp) fs)
 rising_rest [] fs h = h
@@ -77,12 +77,12 @@ pub rising_first : (es fs : List (List ℕ × Datum)) → T (is_sorted (slice_cm
 rising_first [] fs h = tt
 rising_first (e ∷ es) fs h = both _ _ (below_first e.0 es fs (first_of_both _ _ h)) (rising_first es fs (second_of_both _ _ h))
 
--- a name comes before all of these where it comes before the first
+-- a name that comes before the first entry comes before all of them
 pub before_from : (o : List ℕ) (e : List ℕ × Datum) (es : List (List ℕ × Datum)) → T (is_sorted (slice_cmp nat_cmp) (e ∷ es))
     → is_le (slice_cmp nat_cmp e.0 o) ≡ false → IsBeforeAll o (e ∷ es)
 before_from o e es h begins = grind (arith, common_steps, is_behind, before_more, before_all, first_of_both)
 
--- it comes after those in front of an entry that has it or a name before it
+-- a name comes after all entries before one whose name isn't greater
 pub after_up_to : (o : List ℕ) (es fs : List (List ℕ × Datum)) (e : List ℕ × Datum) → T (is_sorted (slice_cmp nat_cmp) (es ++ e ∷ fs))
     → is_le (slice_cmp nat_cmp e.0 o) ≡ true → IsAfterAll o es
 after_up_to o [] fs e h up_to = tt
@@ -90,7 +90,8 @@ after_up_to o (f ∷ es) fs e h up_to =
     let less = (all_back _ es (e ∷ fs) (before_all f.0 (es ++ e ∷ fs) (first_of_both _ _ h))).0 in
     (turned f.0 o Less (before_up_to f.0 e.0 o less up_to), after_up_to o es fs e (second_of_both _ _ h) up_to)
 
--- the entry behind some others is before all the later ones, after all the earlier ones, and before none of those up to it
+-- an entry of the list comes before all later ones, after all earlier ones, and before none of
+-- those up to it
 pub before_later : (es fs : List (List ℕ × Datum)) (e : List ℕ × Datum) → T (is_sorted (slice_cmp nat_cmp) (es ++ e ∷ fs)) → IsBeforeAll e.0 fs
 before_later es fs e h = let rest = rising_rest es (e ∷ fs) h in before_all e.0 fs (first_of_both _ _ rest)
 
@@ -101,7 +102,7 @@ pub before_no_earlier : (es fs : List (List ℕ × Datum)) (e : List ℕ × Datu
     → IsBeforeNone e.0 (es ++ e ∷ [])
 before_no_earlier es fs e h = all_both _ es (e ∷ []) (after_none e.0 es (after_earlier es fs e h)) (not_before_itself e.0, tt)
 
--- a name after the last is after all of them
+-- a name that comes after the last entry comes after all of them
 pub after_last : (o : List ℕ) (es : List (List ℕ × Datum)) (e : List ℕ × Datum) → T (is_sorted (slice_cmp nat_cmp) (es ++ e ∷ []))
     → slice_cmp nat_cmp e.0 o ≡ Less → IsAfterAll o (es ++ e ∷ [])
 after_last o es e h less = all_both _ es (e ∷ []) (after_up_to o es [] e h (ap is_le less)) (turned e.0 o Less less, tt)

@@ -13,9 +13,10 @@ not_empty : (before later : List (List VarBind)) (round : List VarBind) → [] �
 not_empty [] later round e = cc
 not_empty (r ∷ before) later round e = cc
 
--- ---- rounds that are added one after the other
+-- ---- rounds that are appended, one after the other
 
--- the rounds that are left after `round` others, added now, are all, added at the beginning
+-- `now` is the reply after `round` rounds: appending the remaining rounds to it gives the same as
+-- appending all rounds to `old`
 abbrev pub AreLeft : MibView → List VarBind → ℕ → Held → ℕ → Held → Type 0
 AreLeft view names repetitions old round now = (left : ℕ) → round + left ≡ repetitions
     → fill old (joined (rounds_from view names 0 repetitions)) ≡ fill now (joined (rounds_from view names round left))
@@ -36,7 +37,7 @@ module _ (view : MibView) (names : List VarBind) (repetitions : ℕ) (old : Held
           ∙ ap (λ over. fill now (given_in view round names ++ joined (cond over [] rest))) goes ∙ fill_both now (given_in view round names) (joined rest)
           ∙ ap (λ (h : Held). fill h (joined rest)) (sym added)
 
-      -- no room is left for others, or none follow
+      -- no room is left for other rounds, or none follows
       pub rounds_over : round < repetitions → (new.left ≡ 0) ⊎ (list_all is_over (places_of view round names) ≡ true)
           → new ≡ fill old (joined (rounds_from view names 0 repetitions))
       rounds_over below (inl full) =
@@ -53,7 +54,8 @@ module _ (view : MibView) (names : List VarBind) (repetitions : ℕ) (old : Held
 -- ---- the rounds are those of the standard
 
 module _ (order : IsOrder) (view : MibView) (mib : IsMibView view) (names : List VarBind) where
-  -- what stands at a place, and that none follows the last one
+  -- the round at an index has what the names are given, and no round follows one that is
+  -- endOfMibView throughout
   at_place : (i left : ℕ) (before later : List (List VarBind)) (round : List VarBind) → rounds_from view names i left ≡ before ++ round ∷ later
       → AreGiven view (i + length before) names round × (AreEnds round → later ≡ [])
   at_place i zero before later round e = absurd (not_empty before later round e)
@@ -77,7 +79,7 @@ module _ (order : IsOrder) (view : MibView) (mib : IsMibView view) (names : List
             (subst (λ (k : ℕ). AreGiven view k names round) place there.0, there.1)
       ] rest
 
-  -- where there are fewer, the last one is endOfMibView throughout
+  -- if there are fewer rounds than repetitions, the last one is endOfMibView throughout
   early : (i left : ℕ) → (length (rounds_from view names i left) ≤ left)
       × (length (rounds_from view names i left) < left
       → (before : List (List VarBind)) × (round : List VarBind) × (rounds_from view names i left ≡ before ++ round ∷ []) × AreEnds round)
@@ -107,7 +109,7 @@ module _ (order : IsOrder) (view : MibView) (mib : IsMibView view) (names : List
     closed = (early 0 repetitions).1;
   }
 
--- and all bindings are those that a GetBulk asks for
+-- the bindings that are computed for a GetBulk are those that it asks for
 pub is_bulk : IsOrder → (view : MibView) → IsMibView view → (q : Message) → IsBulk view q (bulk_of view q)
 is_bulk order view mib q = record {
   singles = given_in view 0 (take (or_zero q.a) q.bindings);

@@ -1,4 +1,4 @@
--- What a change of one row makes of Gets, and of other changes.
+-- How a change of one row affects Gets and other changes.
 use Rattle.std.proofs.Common.{◌≡◌, ◌↔◌, ◌∙◌, Bool, true, false, cond, List, ℕ, Some, None, Ordering, refl, sym, ap}
 use Rattle.std.specs.{Ordering.nat_cmp, Ordering.is_eq, Ordering.eq_by_cmp, Cmp.tied_itself, Cmp.Lexicographic.slice_cmp}
 use Rattle.std.specs.Cmp.Lexicographic.{nat_list_cmp_total}
@@ -13,7 +13,7 @@ cmp = slice_cmp nat_cmp
 abbrev Rows : Type 0
 Rows = FinMap (slice_cmp nat_cmp) Datum
 
--- ---- the test of a name
+-- ---- the comparison of two names
 
 own_name : (o : List ℕ) → eq_by_cmp cmp o o ≡ true
 own_name o = ap is_eq (tied_itself nat_list_cmp_total o)
@@ -27,7 +27,7 @@ other_name o q other =
 
 -- ---- Gets
 
--- a Get sees the row of its name, and no other
+-- a Get of `q` depends on no row but that of `q`
 same_get : (view : MibView) (rows : Rows) (q : List ℕ) (p : VarBind) → get view.rows q ≡ get rows q → IsGet view q p
     → IsGet (record { rows = rows; objects = view.objects }) q p
 same_get view rows q p same (variable named row) =

@@ -1,4 +1,4 @@
--- Facts about the turns of a server.
+-- The turns of a server.
 use Rattle.std.proofs.{lemmas.Grind.common_steps, lemmas.List.flat_map_more, lemmas.List.length_push, lemmas.List.Sums.sum_by_push}
 use Rattle.std.proofs.Common.{◌≡◌, ℕ, ◌+◌, List, [], ◌∷◌, ◌++◌, ap, ◌∙◌, subst, arith}
 use Rattle.std.specs.Prelude.{cond, count_by}
@@ -8,7 +8,7 @@ use Rattle.snmp_agent.specs.{declared.server.Served.Served, declared.server.Turn
 use Rattle.snmp_agent.specs.declared.server.Turn.TheVariants as turn
 use Rattle.snmp_agent.specs.Serving.{AreTurns, IsTurn, TurnDone, same_turn, tally}
 
--- steps, and then others
+-- some steps, and then others
 pub in_turn-append : {L X : Type 0} (step : L → X → L → Type 0) (xs ys : List X) (old between new : L) → InTurn step old xs between
     → InTurn step between ys new → InTurn step old (xs ++ ys) new
 in_turn-append step [] ys old between new h k = subst (λ l. InTurn step l ys new) h k
@@ -17,7 +17,7 @@ in_turn-append step (x ∷ xs) ys old between new h k = (h.0, h.1, in_turn-appen
 abbrev sum : Served → ℕ
 sum s = s.replies + s.dropped + s.idle + s.faults
 
--- the counts with one more turn of this kind
+-- the counts with one more turn that ended in this way
 abbrev pub one_more : Turn → Served → Served
 one_more turn.Replied served = record served { replies = served.replies + 1 }
 one_more turn.Dropped served = record served { dropped = served.dropped + 1 }
@@ -46,7 +46,7 @@ module _ {Peer : Type 0} where
   pub no_turns : (agent : Agent) (s : Served) → s ≡ record { replies = 0; dropped = 0; idle = 0; faults = 0 } → AreTurns {Peer = Peer} agent 0 s []
   no_turns agent s none = grind (arith, common_steps, All-nil)
 
-  -- one turn more
+  -- after one more turn
   pub more_turns : (agent : Agent) (n : ℕ) (s more : Served) (events : List (Event Peer)) (t : Turn) (now : List (Event Peer)) → more ≡ one_more t s
       → AreTurns agent n s events → IsTurn agent t now → AreTurns agent (n + 1) more (events ++ now)
   more_turns agent n s more events t now counted so_far is =
@@ -62,7 +62,7 @@ module _ {Peer : Type 0} where
 pub one_more_turn : (t : Turn) (s : Served) → sum (one_more t s) ≡ sum s + 1
 one_more_turn t s = grind (arith, common_steps)
 
--- ---- how the endpoint's count of faults rises
+-- ---- the fault count of the endpoint
 
 risen_more : (n m a b c : ℕ) → HasRisenBy n a b → HasRisenBy m b c → HasRisenBy (n + m) a c
 risen_more n m a b c h k = grind (arith, common_steps)
@@ -70,7 +70,7 @@ risen_more n m a b c h k = grind (arith, common_steps)
 faults_with : (t : Turn) (s : Served) → s.faults + cond (same_turn turn.Failed t) 1 0 ≡ (one_more t s).faults
 faults_with t s = grind (arith, common_steps)
 
--- with one more turn
+-- the fault count after one more turn
 pub risen_in_turn : (t : Turn) (s more : Served) (a b c : ℕ) → more ≡ one_more t s → HasRisenBy s.faults a b
     → HasRisenBy (cond (same_turn turn.Failed t) 1 0) b c → HasRisenBy more.faults a c
 risen_in_turn t s more a b c is h k = grind (arith, common_steps, faults_with, risen_more)

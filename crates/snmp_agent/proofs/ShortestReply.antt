@@ -1,4 +1,5 @@
--- A reply is the shortest encoding of its Response: all parts of this are within their ranges.
+-- A reply is the shortest encoding of its Response, since all parts of the Response are within
+-- their ranges.
 use Rattle.std.proofs.{lemmas.Grind.common_steps, lemmas.List.take-append-drop}
 use Rattle.std.proofs.Common.{◌≡◌, ℕ, ℤ, pos, zero, suc, ◌+◌, ◌≤◌, List, [], ◌∷◌, ◌++◌, length, take, drop, refl, sym, subst, ◌∙◌, arith}
 use Rattle.std.proofs.Common.{length-append, append_assoc}
@@ -14,7 +15,7 @@ use Rattle.snmp_agent.specs.Reply.{no_error, not_writable, or_zero, response, sh
 use Rattle.snmp_agent.proofs.{Lists.all_back, Lists.all_both, Lists.all_front, Keeping.name_in_range, Keeping.value_in_range}
 use Rattle.snmp_agent.proofs.Encodings.{longer_binding, longer_value}
 
--- ---- bindings of a request, whose strings a Response has room for
+-- ---- bindings of a request: those that a Response has room for are in range
 
 content_size : (text : List ℕ) → length (canon_content (octet_string text)) ≡ length text
 unfolding canon_content

@@ -1,4 +1,4 @@
--- Places among the variables of a view, and what names are given there.
+-- Positions among the variables of a view, and what names are given from there.
 use Rattle.std.proofs.{lemmas.Grind.common_steps}
 use Rattle.std.proofs.Common.{arith, ◌≡◌, ◌↔◌, ℕ, zero, suc, ◌+◌, true, List, [], ◌∷◌, map, take, drop, refl, ap, subst, ◌∙◌, add-one}
 use Rattle.std.specs.{FinMap.entries, List.list_all}
@@ -12,9 +12,9 @@ use Rattle.snmp_agent.proofs.Following.{IsOrder, all_behind, asked_past, behind_
 abbrev Entries : Type 0
 Entries = List (List ℕ × Datum)
 
--- ---- the place of a name
+-- ---- the position of a name
 
--- behind as many of the variables after it as there were rounds
+-- after `round` variables after the name, the position is the one after `round` rounds
 pub place_past : (view : MibView) (round : ℕ) (o : List ℕ) (back : List (List ℕ × Datum)) (name : List ℕ) (rest : List (List ℕ × Datum))
     → AreBehind view o back → name ≡ last_name o (take round back) → rest ≡ drop round back → record { name = name; rows = rest } ≡ place_of view round o
 unfolding place_of
@@ -24,7 +24,7 @@ place_past view round o back name rest h at left =
     let rest_at : rest ≡ drop round (entries_after o (entries view.rows)) = left ∙ ap (drop round) all in
     λ i. record { name = name_at i; rows = rest_at i }
 
--- what comes first after it is what a GetNext gives
+-- the first variable after the name is what a GetNext returns
 pub first_there : (view : MibView) (o : List ℕ) (back : List (List ℕ × Datum)) → AreBehind view o back
     → first_or_end o (map var_of back) ≡ next_at (place_of view 0 o)
 first_there view o back h = ap next_at (place_past view 0 o back o back h refl refl)
@@ -36,7 +36,7 @@ one_past zero o (e ∷ es) = refl
 one_past (suc round) o [] = refl
 one_past (suc round) o (e ∷ es) = one_past round e.0 es
 
--- one round later
+-- the position one round later
 pub place_passed : (view : MibView) (round : ℕ) (o : List ℕ) → passed (place_of view round o) ≡ place_of view (round + 1) o
 unfolding place_of
 place_passed view round o = rw add-one (one_past round o (entries_after o (entries view.rows)))
@@ -58,7 +58,7 @@ module _ (view : MibView) (mib : IsMibView view) where
   at_end o [] h end = refl
   at_end o (e ∷ es) h end = absurd (not_end e.1 (mib.values (var_of e) (first_row view o e es h)) end)
 
-  -- a round is endOfMibView throughout where no variable was left
+  -- a name is given endOfMibView if and only if no variable was left for it
   ends_here : (round : ℕ) (o : List ℕ) → (is_over (place_of view round o) ≡ true) ↔ ((next_at (place_of view round o)).value ≡ end_of_mib_view)
   unfolding place_of
   ends_here round o = grind (arith, common_steps, has_end, at_end, behind_past, behind_name)
@@ -68,7 +68,7 @@ module _ (view : MibView) (mib : IsMibView view) where
   all_end round (p ∷ names) = grind (arith, common_steps, all_end round names, ends_here)
 
 module _ (order : IsOrder) (view : MibView) (round : ℕ) where
-  -- what the name is given in the next round
+  -- what the name is given from its position after `round` rounds is the result of that round
   pub given_there : (o : List ℕ) → IsNextAfter view round o (next_at (place_of view round o))
   unfolding place_of
   given_there o =

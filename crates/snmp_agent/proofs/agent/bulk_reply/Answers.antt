@@ -6,7 +6,7 @@ use Rattle.snmp_agent.proofs.{BulkReplies.bulk_response, Fronts.HoldsFront, Fron
 use Rattle.snmp_agent.proofs.agent.bulk_reply.Goals as goal
 use Rattle.snmp_agent.proofs.agent.bulk_reply.Goals.{After-append_bulk-bindings}
 
--- what is held, of all that is asked for
+-- a prefix of the bindings that the request asks for was written
 front : (c : After-append_bulk-bindings) → HoldsFront c.room_for_bindings-room.result [] (bulk_of c.args.table.now c.args.request.now)
     (held c.append_bulk-bindings.result c.append_bulk-bindings.new.out)
 front c = grind (arith, common_steps, all_front)

@@ -6,7 +6,7 @@ use Rattle.snmp_agent.specs.private.Answering.{Held, fill, held, rounds_from}
 use Rattle.snmp_agent.proofs.{Fronts.fill_both, Fronts.fill_full, bulk.append_bulk.Goals.After-append_singles-reply}
 use Rattle.snmp_agent.proofs.bulk.append_bulk.Goals as goal
 
--- a number that was handed over
+-- the representation of a number in the code is the number
 number : {z : ℤ} (handed : ℤ) → SFits w32 handed → handed ≡ z → to_z w32 (of_z w32 handed) ≡ z
 number handed fits e = to_z-of_z w32 handed fits ∙ e
 

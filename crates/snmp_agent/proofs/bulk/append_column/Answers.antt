@@ -11,12 +11,12 @@ use Rattle.snmp_agent.proofs.bulk.append_column.Goals as goal
 pub rounds-init : goal.rounds-init
 rounds-init c = grind (arith, common_steps, rounds_first)
 
--- what the round adds
+-- what the round appends
 added : (c : After-append_next-reply) → held c.append_next-reply.result c.append_next-reply.new.out
     ≡ fill (held c.rounds.reply c.rounds.out) (given_in c.args.table.now c.rounds.counter (c.args.asked ∷ []))
 added c = c.append_next-reply.ensures.added ∙ ap (λ (place : Standing). add (held c.rounds.reply c.rounds.out) (next_at place)) c.rounds.invariant.place
 
--- whether it is the last one
+-- whether the round is the last one
 last : (c : After-append_next-reply) → list_all is_over (places_of c.args.table.now c.rounds.counter (c.args.asked ∷ [])) ≡ c.is_at_end-is_last.result
 last c = and-true _ ∙ ap is_over (sym c.rounds.invariant.place) ∙ sym c.is_at_end-is_last.ensures
 

@@ -3,7 +3,8 @@ use Rattle.snmp_agent.specs.{private.Answering.held, private.Standing.place_of}
 use Rattle.snmp_agent.proofs.Rounds.{AreLeft}
 use Rattle.snmp_agent.proofs.bulk.append_column.Given as goal
 
--- with the rounds that are left all are there, and the place is where those before leave the name
+-- appending the remaining rounds completes the reply, and the position is the one after the rounds
+-- so far
 abbrev pub invariant-rounds : goal.invariant-rounds
 invariant-rounds l = record {
   rounds : AreLeft l.table (l.fn.asked ∷ []) l.repetitions (held l.fn.reply l.fn.out) l.counter (held l.reply l.out);

@@ -11,12 +11,12 @@ use Rattle.snmp_agent.proofs.bulk.append_round.Goals as goal
 use Rattle.snmp_agent.proofs.bulk.append_round.Goals.{After-append_next-reply, After-append_next-reply-in-Some, In_default, then-are_over}
 use Rattle.snmp_agent.proofs.bulk.append_round.Goals.{else-are_over}
 
--- ---- the places
+-- ---- the positions
 
 pub places-init : goal.places-init
 places-init c = record { moved = refl; rest = refl }
 
--- what is added with one more place
+-- the reply after one more position
 next : (c : After-append_next-reply) → fill (held c.args.reply c.args.out.now) (map next_at c.args.places.now)
     ≡ fill (held c.append_next-reply.result c.append_next-reply.new.out) (map next_at (drop (c.places.place-index + 1) c.args.places.now))
 next c = grind (arith, common_steps, still_there)
@@ -60,7 +60,7 @@ others-init c =
       over = list_all-append is_over places others ∙ ap (λ b. b && list_all is_over others) (sym c.are_at_end-are_over.ensures);
     }
 
--- what is added with one more name
+-- the reply after one more name
 more : (c : After-append_next-reply-in-Some) → fill (held c.args.reply c.args.out.now)
     (map next_at (c.args.places.now ++ places_of c.args.table.now c.args.round c.args.others))
     ≡ fill (held c.append_next-reply-in-Some.result c.append_next-reply-in-Some.new.out) (given_in c.args.table.now c.args.round c.next_ref.new.self)

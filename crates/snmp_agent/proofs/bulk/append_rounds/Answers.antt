@@ -11,7 +11,7 @@ use Rattle.snmp_agent.proofs.bulk.append_rounds.Goals as goal
 pub rounds-init : goal.rounds-init
 rounds-init c = grind (arith, common_steps, rounds_first)
 
--- where all names stand
+-- the positions of all names
 all : (c : After-append_round-is_over) → c.rounds.places ++ places_of c.args.table.now c.rounds.round c.left.result
     ≡ places_of c.args.table.now c.rounds.round c.args.bindings.now
 all c = ap (λ (bs : List VarBind). c.rounds.places ++ places_of c.args.table.now c.rounds.round bs) c.left.ensures ∙ c.rounds.invariant.places

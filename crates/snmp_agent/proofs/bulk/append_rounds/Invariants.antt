@@ -3,7 +3,8 @@ use Rattle.snmp_agent.specs.{private.Answering.held, private.Standing.places_of}
 use Rattle.snmp_agent.proofs.Rounds.{AreLeft}
 use Rattle.snmp_agent.proofs.bulk.append_rounds.Given as goal
 
--- with the rounds that are left all are there, and the places are where those before leave the names
+-- appending the remaining rounds completes the reply, and the positions are those after the rounds
+-- so far
 abbrev pub invariant-rounds : goal.invariant-rounds
 invariant-rounds l = record {
   rounds : AreLeft l.table l.bindings l.repetitions (held l.fn.reply l.fn.out) l.round (held l.reply l.out);

@@ -2,7 +2,7 @@ use Rattle.std.proofs.Common.{◌≡◌, ℕ, ◌+◌, take, drop}
 use Rattle.snmp_agent.specs.{private.Answering.fill, private.Answering.held, private.Standing.given_in}
 use Rattle.snmp_agent.proofs.bulk.append_singles.Given as goal
 
--- what is still to be given, added now, is all, added at the beginning
+-- appending the remaining results now gives the same as appending all results at the beginning
 abbrev pub invariant-singles : goal.invariant-singles
 invariant-singles l = record {
   others : (left : ℕ) → l.counter + left ≡ l.count → fill (held l.fn.reply l.fn.out) (given_in l.table 0 (take l.count l.fn.bindings))

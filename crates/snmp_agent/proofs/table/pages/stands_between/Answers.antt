@@ -6,7 +6,7 @@ use Rattle.snmp_agent.specs.table.Pages.{begins_up_to}
 use Rattle.snmp_agent.proofs.{Lists.last_of, Rising.same_name}
 use Rattle.snmp_agent.proofs.table.pages.stands_between.Goals as goal
 
--- how a row compares
+-- how a row compares with the name
 order : (o : List ℕ) {row name : List ℕ} {r s : Ordering} → name ≡ row → s ≡ slice_cmp nat_cmp name o → s ≡ r → slice_cmp nat_cmp row o ≡ r
 order o {row} {name} same compared is = ap (λ (p : List ℕ). slice_cmp nat_cmp p o) (sym same) ∙ sym compared ∙ is
 
@@ -17,10 +17,10 @@ begins : (o : List ℕ) (rows : List VarBind) (next : VarBind) → slice_get row
     → begins_up_to o rows ≡ false
 begins o rows next at behind = grind (arith, common_steps)
 
--- the last row in front has the name
+-- `front` ends with the row of the name
 pub returns-in-Equal : goal.returns-in-Equal
 returns-in-Equal c = grind (arith, common_steps, order, last_of, same_name)
 
--- the last row in front comes before the name, and the first one behind comes after it
+-- `front` ends with a smaller name, and `rows` begins with a greater one
 pub returns-in-Some-first : goal.returns-in-Some-first
 returns-in-Some-first c = grind (arith, common_steps, order, greater, last_of, begins)

@@ -8,7 +8,7 @@ use Rattle.snmp_agent.proofs.Paging.{kept_found, named_found, put_found, rising_
 use Rattle.snmp_agent.proofs.table.pages.Pages.put.Goals as goal
 use Rattle.snmp_agent.proofs.table.pages.Pages.put.Goals.{In_err-replaced, In_ok-append, In_ok-place, In_ok-replaced}
 
--- ---- a row behind all others
+-- ---- a row after all others
 
 behind : (c : In_ok-append) → IsAfterAll c.args.row.name (entries_in c.self.inside.list.items)
 behind c = rw (c.name-name.ensures, c.as_slice.ensures.value) at (c.ends_before.ensures.before c.if-ends_before.true)
@@ -33,7 +33,7 @@ returns-then-ends_before-clause-replaced c =
     rw (← c.self.view_is) (none_behind c.args.row.name es (behind (goal.at.returns-then-ends_before-clause-replaced c).In_ok-append)
     ∙ had_name c.args.row.name es es c.self.invariant)
 
--- ---- a row in its page
+-- ---- a row on its page
 
 room : (c : In_ok-place) → IsPageWithRoom c.args.row.name c.page_with_room.new.pages.items c.in_ok-place.place
 room c = rw c.name-name.ensures at c.in_ok-place.ensures.place
