@@ -88,7 +88,8 @@ pub entries_around : (rows : List VarBind) (place : ℕ) (row : VarBind) → ent
 entries_around rows place row = map-append entry_of (take place rows) (row ∷ drop (suc place) rows)
 
 -- if the last of the rows up to a name has that name, it is the row of the name
-abbrev pub has_name_at : (rows : List VarBind) (place : ℕ) (o : List ℕ) (row : VarBind) → IsRising rows → IsPlaceAfter o rows place → IsLast (take place rows) row
+abbrev pub has_name_at : (rows : List VarBind) (place : ℕ) (o : List ℕ) (row : VarBind) → IsRising rows → IsPlaceAfter o rows place
+    → IsLast (take place rows) row
     → row.name ≡ o → HasNameAt o rows (place - 1)
 has_name_at rows place o row rising h last name =
     let k = place - 1 in

@@ -47,7 +47,8 @@ no_prefix view o (suc n) k e low is =
 pub is_got : (view : MibView) (o : List ℕ) → IsGet view o (got_at view o)
 is_got view o = by_value (get view.rows o) refl
   where
-    by_prefix : get view.rows o ≡ None → (b : Bool) → has_prefix view o (length o) ≡ b → IsGet view o (record { name = o; value = cond b no_such_instance no_such_object })
+    by_prefix : get view.rows o ≡ None → (b : Bool) → has_prefix view o (length o) ≡ b
+        → IsGet view o (record { name = o; value = cond b no_such_instance no_such_object })
     by_prefix e true has = unknown_instance e (prefix_found view o (length o) has) refl
     by_prefix e false none = unknown_object e (λ has.
         let front : take (length has.0) o ≡ has.0 = ap (take (length has.0)) has.3 ∙ take-append_seam has.0 has.1 in

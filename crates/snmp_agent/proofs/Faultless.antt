@@ -30,21 +30,25 @@ good_value format line (a_blank h) bad = bad.3.not_blank h
 good_value format line (a_prefix o h) bad = bad.3.no_object h.0 h.1
 good_value format line (a_row p h) bad =
     let same = same_rows format line bad.0 bad.1 bad.2 h.name h.tag h.text bad.3 (row_form format line p h) in
-    bad.5 p.value (subst (λ (t : List ℕ). IsValueText format bad.1 t p.value) same.2 (subst (λ (t : List ℕ). IsValueText format t h.text p.value) same.1 h.valued))
+    bad.5 p.value (subst (λ (t : List ℕ). IsValueText format bad.1 t p.value) same.2
+    (subst (λ (t : List ℕ). IsValueText format t h.text p.value) same.1 h.valued))
 
-pub line_good : (format : Format) (front : List (List ℕ)) (line : List ℕ) (back : List (List ℕ)) → All (IsGoodLine format) (front ++ line ∷ back) → IsGoodLine format line
+pub line_good : (format : Format) (front : List (List ℕ)) (line : List ℕ) (back : List (List ℕ))
+    → All (IsGoodLine format) (front ++ line ∷ back) → IsGoodLine format line
 line_good format front line back h =
     All-contains (IsGoodLine format) (front ++ line ∷ back) line h (Contains-append_right front (line ∷ back) line (0, omega arith, refl))
 
 -- a line and one before it
-pub earlier_differs : (format : Format) (front : List (List ℕ)) (line : List ℕ) (back : List (List ℕ)) (other : List ℕ) → AllPairs (DifferInName format) (front ++ line ∷ back)
+pub earlier_differs : (format : Format) (front : List (List ℕ)) (line : List ℕ) (back : List (List ℕ)) (other : List ℕ)
+    → AllPairs (DifferInName format) (front ++ line ∷ back)
     → Contains front other → DifferInName format other line
 earlier_differs format front line back other h at =
     let low : length front < length (front ++ line ∷ back) = omega (arith, length-append front (line ∷ back)) in
     let here = h at.0 (length front) other at.1 low in
     rw (get_or-append front (line ∷ back) other at.0 at.1, at.2, get_or-append_seam front line back other) at here
 
-pub no_fault_in : (format : Format) (lines : List (List ℕ)) (fault : TableError) → AreTable format lines → IsFirstFaultIn format lines fault → fault ≡ error.Memory
+pub no_fault_in : (format : Format) (lines : List (List ℕ)) (fault : TableError) → AreTable format lines
+    → IsFirstFaultIn format lines fault → fault ≡ error.Memory
 no_fault_in format lines (error.BadLine n) good h =
     absurd (good_line format h.1 (line_good format h.0 h.1 h.2.back (subst (λ ls. All (IsGoodLine format) ls) h.2.parts good.each)) h.3)
 no_fault_in format lines (error.BadName n) good h =

@@ -30,7 +30,8 @@ value_in_range v h = grind (arith, common_steps)
 abbrev pub view_from : List (List ℕ × Datum) → List (List ℕ) → MibView
 view_from entries objects = view_of (from_sorted entries) objects
 
-module _ (format : Format) (lines : List (List ℕ)) (entries : List (List ℕ × Datum)) (objects : List (List ℕ)) (h : HoldsTable format lines entries objects) where
+module _ (format : Format) (lines : List (List ℕ)) (entries : List (List ℕ × Datum)) (objects : List (List ℕ))
+    (h : HoldsTable format lines entries objects) where
   value_at : (o : List ℕ) → get (view_from entries objects).rows o ≡ find (slice_cmp nat_cmp) o entries
   value_at o = get-from_sorted (slice_cmp nat_cmp) entries o h.rising
 

@@ -151,7 +151,8 @@ module _ (pages : List Page) (place : ℕ) (found first second : Page) (low : pl
     pub room_before : begins_up_to o second.rows.items ≡ false → IsPageWithRoom o (divided pages place first second) place
     room_before begins =
         let ahead = rows_ahead o second.rows.items (back pages place) (rising_rest (entries_of first.rows.items) _ rising_halves) begins in
-        let room : length first.rows.items < PAGE_ROWS = omega (arith, found.most, second.some, ap length same, length-append first.rows.items second.rows.items) in
+        let room : length first.rows.items < PAGE_ROWS =
+        omega (arith, found.most, second.some, ap length same, length-append first.rows.items second.rows.items) in
         rw as_list (page_between o (take place pages) (second ∷ drop (suc place) pages) first place long h.passed ahead room)
 
     pub room_behind : begins_up_to o second.rows.items ≡ true → IsPageWithRoom o (divided pages place first second) (place + 1)
@@ -160,7 +161,8 @@ module _ (pages : List Page) (place : ℕ) (found first second : Page) (low : pl
         let behind = rows_passed o (entries_of first.rows.items) second.rows.items (back pages place) second.some rising_halves begins in
         let passed : IsAfterAll o (entries_in early) = subst (IsAfterAll o) (sym (pages-append (take place pages) (first ∷ [])))
         (all_both _ (front pages place) _ h.passed (all_both _ (entries_of first.rows.items) [] behind tt)) in
-        let room : length second.rows.items < PAGE_ROWS = omega (arith, found.most, first.some, ap length same, length-append first.rows.items second.rows.items) in
+        let room : length second.rows.items < PAGE_ROWS =
+        omega (arith, found.most, first.some, ap length same, length-append first.rows.items second.rows.items) in
         rw (as_list, ← append_assoc (take place pages) (first ∷ []) (second ∷ drop (suc place) pages))
         (page_between o early (drop (suc place) pages) second (place + 1) (length_push (take place pages) first ∙ ap (λ k. k + 1) long) passed h.ahead room)
 

@@ -19,7 +19,8 @@ unfolding canon_head canon_front canon_opening canon_fields
 same_head m total = refl
 
 -- `f` computes an answer to each binding
-each : (R : VarBind → VarBind → Type 0) (f : VarBind → VarBind) → ((asked : VarBind) → R asked (f asked)) → (asked : List VarBind) → AreAnswers R asked (map f asked)
+each : (R : VarBind → VarBind → Type 0) (f : VarBind → VarBind) → ((asked : VarBind) → R asked (f asked))
+    → (asked : List VarBind) → AreAnswers R asked (map f asked)
 each R f one [] = tt
 each R f one (p ∷ asked) = (one p, each R f one asked)
 

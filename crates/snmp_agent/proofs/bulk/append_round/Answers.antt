@@ -40,7 +40,8 @@ returns-then-is_full-clause-filled c =
     let others = map next_at (places_of c.args.table.now c.args.round c.args.others) in
     let full = c.is_full.ensures.0 c.if-is_full.true in
     sym (parts (held c.args.reply c.args.out.now) c.args.places.now (places_of c.args.table.now c.args.round c.args.others)
-    ∙ ap (λ (h : Held). fill h others) (next (goal.at.returns-then-is_full-clause-filled c).After-append_next-reply ∙ fill_full now (map next_at (drop (c.places.place-index + 1) c.args.places.now)) full)
+    ∙ ap (λ (h : Held). fill h others) (next (goal.at.returns-then-is_full-clause-filled c).After-append_next-reply
+    ∙ fill_full now (map next_at (drop (c.places.place-index + 1) c.args.places.now)) full)
     ∙ fill_full now others full)
 
 pub returns-then-is_full-clause-last : goal.returns-then-is_full-clause-last
@@ -56,7 +57,8 @@ others-init c =
     record {
       rest = parts (held c.args.reply c.args.out.now) places others
           ∙ ap (λ (h : Held). fill h (map next_at others))
-          (c.places.invariant.rest ∙ ap (λ (ps : List Standing). fill (held c.places.reply c.places.out) (map next_at ps)) (drop_all c.places.place-index places all));
+          (c.places.invariant.rest
+          ∙ ap (λ (ps : List Standing). fill (held c.places.reply c.places.out) (map next_at ps)) (drop_all c.places.place-index places all));
       over = list_all-append is_over places others ∙ ap (λ b. b && list_all is_over others) (sym c.are_at_end-are_over.ensures);
     }
 
@@ -85,7 +87,8 @@ others-preserved c =
 pub returns-then-is_full-2-clause-filled : goal.returns-then-is_full-2-clause-filled
 returns-then-is_full-2-clause-filled c =
     sym (more (goal.at.returns-then-is_full-2-clause-filled c).After-append_next-reply-in-Some
-    ∙ fill_full (held c.append_next-reply-in-Some.result c.append_next-reply-in-Some.new.out) (given_in c.args.table.now c.args.round c.next_ref.new.self) (c.is_full-in-Some.ensures.0 c.if-is_full-2.true))
+    ∙ fill_full (held c.append_next-reply-in-Some.result c.append_next-reply-in-Some.new.out) (given_in c.args.table.now c.args.round c.next_ref.new.self)
+    (c.is_full-in-Some.ensures.0 c.if-is_full-2.true))
 
 pub returns-then-is_full-2-clause-last : goal.returns-then-is_full-2-clause-last
 returns-then-is_full-2-clause-last c = λ _. inl (c.is_full-in-Some.ensures.0 c.if-is_full-2.true)

@@ -19,6 +19,7 @@ answered c =
 pub returns : goal.returns
 returns c = record {
   answer = answered c;
-  name = next_after_name c.args.self.now c.args.rounds c.args.name.now (var_bind c.advance.new.binding) c.is_mib_view.ensures c.content-content.ensures.encodes.wire (answered c);
+  name = next_after_name c.args.self.now c.args.rounds c.args.name.now (var_bind c.advance.new.binding) c.is_mib_view.ensures
+      c.content-content.ensures.encodes.wire (answered c);
   value = next_after_value c.args.self.now c.args.rounds c.args.name.now (var_bind c.advance.new.binding) c.is_mib_view.ensures (answered c);
 }
