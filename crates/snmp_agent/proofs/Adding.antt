@@ -1,4 +1,4 @@
--- What a draft has behind one more line, and why the reading stops at it.
+-- What a draft stores after one more line, and why the reading stops at a line.
 use Rattle.std.proofs.lemmas.Grind.{common_steps}
 use Rattle.std.proofs.Common.{◌≡◌, ℕ, List, [], ◌∷◌, ◌++◌, refl, sym, ap, subst, Result, IfOk, IfErr, MatchResult, append-nil, ◌∙◌, Bool}
 use Rattle.std.proofs.Common.{◌+◌, ◌<◌, ◌≤◌, append_assoc, arith, length, length-append}
@@ -18,20 +18,20 @@ pub either : {A B : Type 0} {P P' : A → Type 0} {Q Q' : B → Type 0} (r : Res
     → IfErr r Q → ((a : A) → P a → P' a) → ((b : B) → Q b → Q' b) → MatchResult r P' Q'
 either r p q f g = grind (arith, common_steps)
 
--- another reason to stop, of each fault
+-- a weaker reason to stop
 halts_weaker : (P Q : TableError → Type 0) (exact : Bool)
     → ((fault : TableError) → P fault → Q fault) → (e : Halt) → HaltsBy P exact e
     → HaltsBy Q exact e
 halts_weaker P Q exact f e k = grind (arith, common_steps)
 
--- no fault: memory ran out
+-- memory ran out, and there is no fault
 pub full : (P : TableError → Type 0) (exact : Bool) (e : Halt) → IsFull exact e
     → HaltsBy P exact e
 full P exact = halts_weaker (λ _. ⊥) P exact (λ fault none. absurd none)
 
 module _ (format : Format) (before : List (List ℕ)) (line : List ℕ) (number : ℕ) (old : Draft)
     (h : IsDraft format before old) where
-  -- one row more
+  -- one row is added
   pub row_added : (row : VarBind) → StatesOnly format line (instance row) → (new : Draft)
       → IsPermutation (draft_entries old ++ entry_of row ∷ []) (draft_entries new)
       → new.objects ≡ old.objects → IsDraft format (before ++ line ∷ []) new
@@ -42,7 +42,7 @@ module _ (format : Format) (before : List (List ℕ)) (line : List ℕ) (number 
         (IsPermutation-append_left (entry_of row ∷ []) h.0 (draft_entries old) h.2) moved,
   )
 
-  -- the lines are a table, as no two rows have one name
+  -- if no two rows have the same name, the lines define a table
   table_before : AreDistinct (draft_entries old) → AreTable format before
   table_before distinct = good_lines format before h.0 (draft_objects old) h.1
       (distinct_moved h.0 (draft_entries old) h.2 distinct)
@@ -50,7 +50,7 @@ module _ (format : Format) (before : List (List ℕ)) (line : List ℕ) (number 
   abbrev Here : TableError → Type 0
   Here fault = AreTable format before × IsFaultBehind format before line number fault
 
-  -- a row that isn't put
+  -- the reading stops at a row that another row has the name of
   pub row_halted : (row : VarBind) → States format line (instance row) → (e : Halt)
       → IsHaltAt row.name (draft_entries old) number old.exact e
       → IsHalt format before line number old.exact e
@@ -64,14 +64,14 @@ module _ (format : Format) (before : List (List ℕ)) (line : List ℕ) (number 
             (refl, double format before line h.0 (draft_objects old) h.1 row k.2 states there),
       ))
 
-  -- a fault behind lines of which no two are rows of one name
+  -- the reading stops at a fault, after lines whose rows differ in name
   pub stopped : (wrong : TableError) → IsFaultBehind format before line number wrong → (e : Halt)
       → IsStop (draft_entries old) old.exact wrong e
       → IsHalt format before line number old.exact e
   stopped wrong faulty = halts_weaker (λ fault. (fault ≡ wrong) × AreDistinct (draft_entries old))
       Here old.exact (λ fault k. (table_before k.1, rw k.0 faulty))
 
--- all rows are in their places: no two have one name
+-- if no rows are collected, no two rows have the same name
 pub settled_distinct : (old new : Draft) → IsPermutation (draft_entries old) (draft_entries new)
     → new.late.items ≡ [] → AreDistinct (draft_entries old)
 settled_distinct old new moved none =
@@ -80,7 +80,7 @@ settled_distinct old new moved none =
 
 -- ---- the lines of a text
 
--- the draft has what the first lines of the text state, and the others are left
+-- the draft stores what the first lines of the text define, and the other lines are left
 pub record IsReadTo (format : Format) (text rest : List ℕ) (draft : Draft) (number : ℕ)
     : Type 0 where
   pub done : List (List ℕ)
@@ -96,7 +96,7 @@ read_nothing format text draft holds =
 
 module _ (format : Format) (text rest line behind : List ℕ) (old : Draft) (number : ℕ)
     (h : IsReadTo format text rest old number) (e : lines rest ≡ line ∷ lines behind) where
-  -- one more line
+  -- after one more line
   pub read_more : (more new : Draft) → length behind < length rest
       → IsDraft format (h.done ++ line ∷ []) more
       → IsPermutation (draft_entries more) (draft_entries new) → new.objects ≡ more.objects
@@ -136,7 +136,7 @@ module _ (format : Format) (text rest line behind : List ℕ) (old : Draft) (num
         cases good error.Memory j = tt
         cases good fault j = (h.done, line, behind_good good (number_of fault) j.0, j.1)
 
--- all lines are read, and all rows are in their places
+-- all lines were read, and all rows inserted
 pub all_read : (format : Format) (text : List ℕ) (old new : Draft) (number : ℕ)
     → IsReadTo format text [] old number → IsPermutation (draft_entries old) (draft_entries new)
     → new.late.items ≡ [] → new.objects ≡ old.objects

@@ -1,4 +1,4 @@
--- Facts about reading decimal digits.
+-- Decimal digits, read one at a time.
 use Rattle.std.proofs.{lemmas.Grind.common_steps, Math.Nat.pow-suc, Math.Nat.one-le-pow, Math.Nat.le-mul_of_pos_right}
 use Rattle.std.proofs.Common.{◌≡◌, ◌≢◌, ℕ, ◌+◌, ◌-◌, ◌*◌, ◌^◌, ◌≤◌, ◌<◌, true, List, [], ◌∷◌, ◌++◌, length, drop, get_or, refl, sym, ◌∙◌}
 use Rattle.std.proofs.Common.{arith, drop-cons, add-one}
@@ -6,12 +6,12 @@ use Rattle.std.specs.{Char.is_ascii_digit, Str.all_ascii_digits}
 use Rattle.snmp_oid.specs.Numeric.{decimal_value, IsNumeral, IsDotted}
 use Rattle.snmp_agent.specs.table.Text.{IsDecimal}
 
--- the digits of a text are read but for those left
+-- the digits of `text` before `left` have been read as `number`
 pub record IsReadTo (text left : List ℕ) (number : ℕ) : Type 0 where
   pub value : number * 10 ^ length left + decimal_value left ≡ decimal_value text
   pub digits : all_ascii_digits left ≡ all_ascii_digits text
 
--- a number and its next digit, before the digits left
+-- a number and its next digit, before the remaining digits
 shifted : (number digit power rest : ℕ) → (number * 10 + digit) * power + rest ≡ number * (power * 10) + (digit * power + rest)
 shifted number digit power rest = omega arith
 
@@ -29,21 +29,21 @@ at_front : (text : List ℕ) (count number : ℕ) → count < length text → Is
     → IsReadTo text (get_or text count 0 ∷ drop (count + 1) text) number
 at_front text count number low h = rw (← front_at text count low) h
 
--- one more digit
+-- after one more digit
 pub read_more : (text : List ℕ) (count number : ℕ) → count < length text → is_ascii_digit (get_or text count 0) ≡ true → IsReadTo text (drop count text) number
     → IsReadTo text (drop (count + 1) text) (number * 10 + (get_or text count 0 - 48))
 read_more text count number low is_digit h = grind (arith, common_steps, at_front, value_more)
 
--- all digits
+-- after all digits
 pub read_all : (text : List ℕ) (number : ℕ) → text ≢ [] → IsReadTo text [] number → IsDecimal text number
 read_all text number some h = record { some = some; digits = sym h.digits; value = let e : number * 1 + 0 ≡ decimal_value text = h.value in omega arith }
 
--- more than 64 bits
+-- the number has more than 64 bits
 pub read_large : (text : List ℕ) (count number : ℕ) → count < length text → 2 ^ 64 ≤ number * 10 + (get_or text count 0 - 48)
     → IsReadTo text (drop count text) number → (n : ℕ) → IsDecimal text n → n < 2 ^ 64 → ⊥
 read_large text count number low large h n decimal small = grind (arith, common_steps, at_front, le-mul_of_pos_right, one-le-pow, value_more)
 
--- one number at most
+-- a string is the digits of at most one number
 pub same_decimal : (text : List ℕ) (n m : ℕ) → IsDecimal text n → IsDecimal text m → m ≡ n
 same_decimal text n m one other = sym other.value ∙ one.value
 

@@ -1,4 +1,4 @@
--- Lines that state a table have no fault.
+-- Lines that define a table have no fault.
 use Rattle.std.proofs.{lemmas.Grind.common_steps, Math.ListN.get_or-append, Math.Seq.get_or-append_seam}
 use Rattle.std.proofs.Common.{◌≡◌, inl, inr, ℕ, List, ◌∷◌, ◌++◌, length, length-append, ◌<◌, refl, subst, arith}
 use Rattle.std.specs.List.{All, AllPairs, Contains}
@@ -38,7 +38,7 @@ pub line_good : (format : Format) (front : List (List ℕ)) (line : List ℕ) (b
 line_good format front line back h =
     All-contains (IsGoodLine format) (front ++ line ∷ back) line h (Contains-append_right front (line ∷ back) line (0, omega arith, refl))
 
--- a line and one before it
+-- a line differs in name from each line before it
 pub earlier_differs : (format : Format) (front : List (List ℕ)) (line : List ℕ) (back : List (List ℕ)) (other : List ℕ)
     → AllPairs (DifferInName format) (front ++ line ∷ back)
     → Contains front other → DifferInName format other line

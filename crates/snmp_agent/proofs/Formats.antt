@@ -8,11 +8,11 @@ use Rattle.snmp_agent.proofs.Cuts.{HasNoBar, no_cut}
 
 -- ---- names of a reader
 
--- what is no name, or that of a part of the text
+-- if a reader of names finds nothing, the string isn't a name
 pub no_name : (names : Names) (text : List ℕ) → IsFrontRead names text None → IsOnly (IsNameIn (second_format names) text) None
 no_name names text h = grind (arith, common_steps)
 
--- ---- where a name ends
+-- ---- the end of a name
 
 pub no_end_first : (line : List ℕ) → HasNoBar line → HasNoEnd first_format line
 no_end_first line none = λ name rest e ends. no_cut line name rest none e

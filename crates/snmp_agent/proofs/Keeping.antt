@@ -1,4 +1,5 @@
--- What lines state is what a table may keep.
+-- What lines define can be in a table: the view of a draft is a MIB view (`is_view`), and the
+-- table of its lines (`table_of`).
 use Rattle.std.proofs.{Common.arith, Common.◌≡◌, Common.ℕ, Common.true, Common.List, Common.sym, Common.◌∙◌, lemmas.Grind.common_steps}
 use Rattle.std.specs.{Ordering.nat_cmp, Cmp.Lexicographic.slice_cmp, Cmp.Lexicographic.nat_list_cmp_total, FinSet.contains, FinSet.contains-from_list}
 use Rattle.std.specs.FinMap.{FinMap, entries, entries_sorted, entries-from_sorted, from_sorted, same_entries_map, get, get-from_sorted, find}
@@ -12,14 +13,14 @@ use Rattle.snmp_agent.proofs.Statements.{name_numbers}
 identifier : (text o : List ℕ) → IsName text o → IsIdentifier o
 identifier text o h = record { short = h.short; numbers = name_numbers text o h.named }
 
--- a name is one of an identifier
+-- a name is the name of an identifier
 is_identifier : (format : Format) (text o : List ℕ) → IsNameIn format text o → IsIdentifier o
 is_identifier format text o h = grind (arith, common_steps, identifier)
 
 pub instance_value : (format : Format) (tag text : List ℕ) (v : Datum) → IsValueText format tag text v → IsInstanceValue v
 instance_value format tag text v h = grind (arith, common_steps, is_identifier)
 
--- an instance has an encoding
+-- the name of an instance has an encoding
 pub name_in_range : (o : List ℕ) → IsInstanceName o → IsInRange (object_id o)
 name_in_range o h = (h.wire, h.identifier)
 
@@ -53,6 +54,6 @@ module _ (format : Format) (lines : List (List ℕ)) (entries : List (List ℕ �
   pub table_of : IsTableIn format lines (view_from entries objects)
   table_of = grind (arith, common_steps, row_stated, stated_row, object_stated, stated_has)
 
--- the map of the entries of a map
+-- the map made from the entries of a map is that map
 pub of_entries : (m : FinMap (slice_cmp nat_cmp) Datum) → from_sorted {R = slice_cmp nat_cmp} (entries m) ≡ m
 of_entries m = same_entries_map (from_sorted (entries m)) m (entries-from_sorted (slice_cmp nat_cmp) (entries m) (entries_sorted m))

@@ -1,4 +1,4 @@
--- A line states one thing at most.
+-- A line contains at most one statement.
 use Rattle.std.proofs.lemmas.Grind.{common_steps}
 use Rattle.std.proofs.Common.{◌≡◌, ℕ, ℤ, neg_ℤ, ◌⊎◌, true, false, List, ◌++◌, length, Ok, sym, ◌∙◌, ap, subst, arith, codes, Some}
 use Rattle.std.specs.Str.{all_ascii_digits}
@@ -11,7 +11,7 @@ use Rattle.snmp_agent.specs.table.Format.{Format, IsNameIn, Means, Names, first_
 use Rattle.snmp_agent.specs.table.Text.{IsDecimal, IsSignedDecimal, IsValueText}
 use Rattle.snmp_agent.proofs.Statements.{blank_no_object, row_form, same_object, same_rows}
 
--- what a line states when it states one thing alone
+-- the line contains the statement `s`, and no other
 abbrev pub StatesOnly : Format → List ℕ → Statement → Type 0
 StatesOnly format line s = States format line s × ((t : Statement) → States format line t → t ≡ s)
 
@@ -35,12 +35,12 @@ module _ (one_name : (text o p : List ℕ) → IsNumericName text o → IsNumeri
   one_meant numeric_names text o p h k = one_name text o p h.named k.named
   one_meant (names_by meaning) text o p h k = let same : Some o ≡ Some p = sym h.0 ∙ k.0 in cc
 
-  -- a text names one identifier at most
+  -- a string is the name of at most one identifier
   name_once : (format : Format) (text o p : List ℕ) → IsNameIn format text o → IsNameIn format text p → o ≡ p
   name_once first_format text o p h k = one_name text o p h.named k.named
   name_once (second_format names) text o p h k = one_meant names text o p h.1 k.1
 
-  -- and a text one value
+  -- a string is at most one value
   one_value : (format : Format) (tag text : List ℕ) (v w : Datum) → IsValueText format tag text v → IsValueText format tag text w → w ≡ v
   one_value format tag text v w h k = grind (arith, common_steps, same_signed, same_string, name_once, decode_of-same)
 

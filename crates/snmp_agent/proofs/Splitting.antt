@@ -1,4 +1,4 @@
--- Texts that are cut at an octet, and at line ends.
+-- Strings that are split at an octet, and at line ends.
 use Rattle.std.proofs.{lemmas.Grind.common_steps, lemmas.List.get_or-take, lemmas.List.get_or_default, lemmas.List.length-take-le}
 use Rattle.std.proofs.{lemmas.List.Splits.length-slice_split, lemmas.List.Splits.slice_split_at, lemmas.List.Splits.slice_split_none}
 use Rattle.std.proofs.{lemmas.Option.slice_get-get_or, Common.eqb-true, Common.false, Common.eqb, Common.[], Common.refl}
@@ -6,11 +6,11 @@ use Rattle.std.proofs.Common.{◌≡◌, ◌≢◌, ℕ, suc, ◌<◌, List, ◌
 use Rattle.std.specs.{List.All, List.slice_split, Str.Lines.lines, Str.Lines.lines_of_parts, Str.Lines.strip_carriage_return}
 use Rattle.snmp_agent.proofs.Lists.{around}
 
--- no octet is this one where none is read so
+-- if no octet of the string equals `octet`, the string doesn't contain it
 pub others : (octet : ℕ) (text : List ℕ) → ((k : ℕ) → k < length text → get_or text k 0 ≡ octet → ⊥) → All (λ o. o ≢ octet) text
 others octet text none = λ k d low same. none k low (get_or_default text k 0 d low ∙ same)
 
--- the parts around the first place where it is
+-- the string is split at index `place`, where `octet` is for the first time
 pub record Cut (octet : ℕ) (text : List ℕ) (place : ℕ) : Type 0 where
   pub parts : text ≡ take place text ++ octet ∷ drop (suc place) text
   pub front : All (λ o. o ≢ octet) (take place text)
@@ -29,7 +29,7 @@ cut octet text place low at none = record {
 is_other : (octet : ℕ) → octet ≢ 10 → eqb octet 10 ≡ false
 is_other octet other = grind (arith, common_steps, eqb-true)
 
--- a line before other parts
+-- the lines of parts that begin with one line
 line_before : (line : List ℕ) (parts : List (List ℕ)) → 0 < length parts
     → lines_of_parts (line ∷ parts) ≡ strip_carriage_return line ∷ lines_of_parts parts
 line_before line parts some = grind (arith, common_steps)

@@ -1,4 +1,4 @@
--- Facts about what lines state.
+-- What lines contain.
 use Rattle.std.proofs.{lemmas.Grind.common_steps, lemmas.List.append_cancel_left, lemmas.Map.Views.Contains-from_any}
 use Rattle.std.proofs.lemmas.List.Elements.{All-nil, All-cons}
 use Rattle.std.proofs.Common.{◌≡◌, ◌≢◌, ℕ, ◌^◌, ◌<◌, inl, inr, List, [], ◌∷◌, ◌++◌, Result, IfErr, IfOk, refl, sym, ◌∙◌, append_assoc, arith, codes}
@@ -17,7 +17,7 @@ use Rattle.snmp_agent.proofs.{Changing.tied, Cuts.HasNoBar, Cuts.no_cut, Cuts.sa
 
 -- ---- first octets
 
--- the first octet, and 0 of none
+-- the first octet, or 0 if there is none
 abbrev first_of : List ℕ → ℕ
 first_of [] = 0
 first_of (octet ∷ more) = octet
@@ -41,7 +41,7 @@ name_numbers text o h = grind (arith, common_steps, All-nil, dotted_numbers)
 abbrev tags : List (List ℕ)
 tags = codes "2" ∷ codes "4" ∷ codes "4x" ∷ codes "6" ∷ codes "64" ∷ codes "65" ∷ codes "66" ∷ codes "67" ∷ codes "68x" ∷ codes "70" ∷ []
 
--- a tag that is found among the known ones
+-- a tag that is found among the known ones is one of them
 found : (t : List ℕ) → list_any (eq_by_cmp (slice_cmp nat_cmp) t) tags ≡ true → IsTag t
 found t is = Contains-from_any (λ x y e. tied x y true e refl) t tags is
 
@@ -57,18 +57,18 @@ tag_stated format t text no_such_instance h = absurd h
 tag_stated format t text end_of_mib_view h = absurd h
 tag_stated format t text _ h = rw h.0 (found _ refl)
 
--- a row's line has the form of one
+-- a line with a row has the form of one
 pub row_form : (format : Format) (l : List ℕ) (p : VarBind) (h : IsRowLine format l p) → IsRowForm format l h.name h.tag h.text
 row_form format l p h = grind (arith, common_steps, tag_stated)
 
--- the first cut of a row's line
+-- the bar after the name splits a line with a row
 first_cut : (format : Format) (l name tag text : List ℕ) → IsRowForm format l name tag text → l ≡ name ++ bar ∷ (tag ++ bar ∷ text)
 first_cut format l name tag text h = h.parts ∙ append_assoc name (bar ∷ tag) (bar ∷ text)
 
 pub no_row_without_bar : (format : Format) (l name tag text : List ℕ) → HasNoEnd format l → IsRowForm format l name tag text → ⊥
 no_row_without_bar format l name tag text none h = none name (tag ++ bar ∷ text) (first_cut format l name tag text h) h.name_ends
 
--- what stands behind the bar that ends the name
+-- the name of a row ends at the bar that ends a name, and the rest follows that bar
 behind_first : (format : Format) (l front behind name tag text : List ℕ) → l ≡ front ++ bar ∷ behind → EndsAtBar format front → IsRowForm format l name tag text
     → (name ≡ front) × (tag ++ bar ∷ text ≡ behind)
 behind_first format l front behind name tag text e ends h = grind (arith, common_steps, same_end, first_cut)
@@ -78,7 +78,7 @@ pub no_row_with_one_bar : (format : Format) (l front behind name tag text : List
 no_row_with_one_bar format l front behind name tag text e ends none_behind h =
     no_cut behind tag text none_behind (sym (behind_first format l front behind name tag text e ends h).1)
 
--- the parts of a row's line
+-- the parts of a line with a row, as the code splits it
 pub same_parts : (format : Format) (l front behind middle back name tag text : List ℕ) → l ≡ front ++ bar ∷ behind → EndsAtBar format front → behind ≡ middle ++ bar ∷ back
     → HasNoBar middle → IsRowForm format l name tag text
     → (name ≡ front) × (tag ≡ middle) × (text ≡ back)
@@ -92,12 +92,12 @@ pub same_rows : (format : Format) (l name tag text name2 tag2 text2 : List ℕ) 
 same_rows format l name tag text name2 tag2 text2 h k = same_parts format l name (tag ++ bar ∷ text) tag text name2 tag2 text2
     (first_cut format l name tag text h) h.name_ends refl h.tag_ends k
 
--- the cuts of a line, put together
+-- a line is put together from the parts that the code split it into
 pub row_parts : (l front behind middle back tag : List ℕ) → l ≡ front ++ bar ∷ behind → behind ≡ middle ++ bar ∷ back → middle ≡ tag
     → l ≡ (front ++ bar ∷ tag) ++ bar ∷ back
 row_parts l front behind middle back tag e f g = grind (arith, common_steps, append_assoc)
 
--- ---- what a line states
+-- ---- what a line contains
 
 pub object_states : (format : Format) (l text : List ℕ) → l ≡ codes "object " ++ text → (r : Result Line LineFault) → IsObjectRead format text r
     → IfOk r (λ stated. States format l (statement_of stated))

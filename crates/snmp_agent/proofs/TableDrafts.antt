@@ -1,4 +1,4 @@
--- Facts about what lines state together, and about the draft that holds it.
+-- What lines define together, and the draft that stores it.
 use Rattle.std.proofs.{lemmas.Grind.common_steps, Math.Bool.or-true, lemmas.Bool.or_cases, lemmas.List.Quantifiers.all_pairs_push}
 use Rattle.std.proofs.Common.{◌≡◌, Option, is_some, ℕ, ◌⊎◌, inl, inr, ◌↔◌, true, false, cond, ◌||◌, List, [], ◌∷◌, ◌++◌, map, Some, None, refl}
 use Rattle.std.proofs.Common.{sym, ◌∙◌, T, ap, Less, get_or, Equal, Greater, Vec, Global, ◌+◌, ◌≤◌, arith}
@@ -23,7 +23,7 @@ use Rattle.snmp_agent.proofs.Rising.{before_all, find-listed, first_of_both, lis
 counted_itself : (o : List ℕ) (v : Datum) → has_key o (o, v) ≡ 1
 counted_itself o v = ap (λ r. cond (is_eq r) 1 0) (tied_itself nat_list_cmp_total o)
 
--- an entry of the name counts one at least
+-- an entry of the name counts as at least one
 contained_counts : (o : List ℕ) (v : Datum) (es : List (List ℕ × Datum)) → Contains es (o, v)
     → 1 ≤ sum_by (has_key o) es
 contained_counts o v es h =
@@ -56,7 +56,7 @@ distinct_sorted (e ∷ es) rising = λ o.
       | false ↦ λ is. let other : has_key o e ≡ 0 = ap (λ b. cond b 1 0) is in omega arith
     ] refl
 
--- to put an entry of a new name in its place only moves entries
+-- inserting an entry with a new name only moves entries
 pub put_moves : (o : List ℕ) (v : Datum) (es : List (List ℕ × Datum))
     → find (slice_cmp nat_cmp) o es ≡ None
     → IsPermutation (es ++ (o, v) ∷ []) (put (slice_cmp nat_cmp) o v es)
@@ -73,7 +73,7 @@ put_moves o v (e ∷ es) absent =
 
 -- ---- one more line
 
--- one of the lines states it: of an instance `HasRow`, of an object prefix `HasPrefix`
+-- one of the lines contains it: for an instance this is `HasRow`, for an object prefix `HasPrefix`
 abbrev IsStated : Format → List (List ℕ) → Statement → Type 0
 IsStated format lines s = (line : List ℕ) × Contains lines line × States format line s
 
@@ -92,7 +92,7 @@ good_statement format line nothing h = a_blank h
 good_statement format line (object_prefix object) h = a_prefix object h
 good_statement format line (instance row) h = a_row row h
 
--- ---- what lines hold
+-- ---- what lines contain
 
 pub holds_no_lines : (format : Format) (es : List (List ℕ × Datum)) (os : List (List ℕ))
     → es ≡ [] → os ≡ [] → HoldsLines format [] es os
@@ -106,10 +106,10 @@ holds_no_lines format es os no_entries no_objects = rw (no_entries, no_objects) 
         (λ found. (let no : ⊥ = cc in absurd no), λ h. absurd (omega (arith, h.1.1)));
   }
 
--- one more line
+-- after one more line
 module _ (format : Format) (before : List (List ℕ)) (line : List ℕ)
     (es : List (List ℕ × Datum)) (os : List (List ℕ)) (h : HoldsLines format before es os) where
-  -- what the lines state then is what they stated, and what this one states alone
+  -- what the lines then contain is what they contained before, and what this one contains
   stated : (s : Statement) → StatesOnly format line s → (t : Statement) {P Q : Type 0} → P ↔ IsStated format before t → Q ↔ (P ⊎ (t ≡ s))
       → Q ↔ IsStated format (before ++ line ∷ []) t
   stated s only t old new = (
@@ -120,7 +120,7 @@ module _ (format : Format) (before : List (List ℕ)) (line : List ℕ)
     λ is. new.1 (elim (stated_either format before line t is) [ inl earlier ↦ inl (old.1 earlier) | inr now ↦ inr (only.1 t now) ]),
   )
 
-  -- the entries and the object prefixes then, by what they were and what the line states
+  -- the entries and the object prefixes then, by what they were and what the line contains
   holds_more : (s : Statement) → StatesOnly format line s → (fs : List (List ℕ × Datum)) (more : List (List ℕ))
       → ((p : VarBind) → Contains fs (entry_of p) ↔ (Contains es (entry_of p) ⊎ (instance p ≡ s)))
       → ((o : List ℕ) → (list_any (eq_by_cmp (slice_cmp nat_cmp) o) more ≡ true)
@@ -137,7 +137,7 @@ module _ (format : Format) (before : List (List ℕ)) (line : List ℕ)
     prefixes = λ o. stated s only (object_prefix o) (h.prefixes o) (prefixes o);
   }
 
-  -- what the line doesn't state
+  -- what the line doesn't contain
   kept : {P Q : Type 0} → (Q → ⊥) → P ↔ (P ⊎ Q)
   kept never = (λ p. inl p, λ either. elim either [ inl p ↦ p | inr q ↦ absurd (never q) ])
 
@@ -205,7 +205,7 @@ pub good_lines : (format : Format) (lines : List (List ℕ)) (es : List (List �
 good_lines format lines es os h distinct =
     record { each = h.each; differ = h.differ distinct }
 
--- the entries in their places
+-- the entries in the order of names
 pub whole : (format : Format) (lines : List (List ℕ)) (es fs : List (List ℕ × Datum))
     (os : List (List ℕ)) → HoldsLines format lines es os → IsPermutation es fs
     → T (is_sorted (slice_cmp nat_cmp) fs) → HoldsTable format lines fs os
@@ -227,7 +227,7 @@ pub list_any-insert : (o : List ℕ) (ks : List (Vec ℕ Global)) (k : Vec ℕ G
 list_any-insert o [] k = refl
 list_any-insert o (x ∷ ks) k = grind (arith, common_steps, list_any-insert o ks k, same_name)
 
--- ---- what a look-up says
+-- ---- the result of a look-up
 
 pub some_of : {X : Type 0} (r : Option X) → is_some r ≡ true → (x : X) × (r ≡ Some x)
 some_of r h = grind (arith, common_steps)

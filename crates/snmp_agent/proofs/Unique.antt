@@ -1,4 +1,4 @@
--- Lines state one table at most.
+-- Lines define at most one table.
 use Rattle.std.proofs.Common.{arith, ◌≡◌, ◌↔◌, ℕ, Bool, true, List, ◌∙◌, ap, Option, Some}
 use Rattle.std.proofs.lemmas.Grind.{common_steps}
 use Rattle.std.specs.{Ordering.nat_cmp, Cmp.Lexicographic.slice_cmp, Cmp.Lexicographic.nat_list_cmp_total, FinMap.FinMap, FinMap.get, FinMap.same_map}
@@ -7,7 +7,7 @@ use Rattle.snmp_wire.specs.Message.{Datum}
 use Rattle.snmp_agent.specs.{table.Table.MibView, table.Stated.IsTableIn, table.Stated.IsTableOf}
 use Rattle.snmp_agent.specs.table.Format.{Format, IsFormat, IsMarked, Names, first_format}
 
--- what one knows, the other knows
+-- two options with the same values are the same
 same_option : {X : Type 0} (a b : Option X) → ((x : X) → a ≡ Some x → b ≡ Some x) → ((x : X) → b ≡ Some x → a ≡ Some x) → a ≡ b
 same_option a b f g = grind (arith, common_steps)
 
@@ -27,14 +27,14 @@ one_view_in format lines v w h k =
     ap (λ (r : FinMap (slice_cmp nat_cmp) Datum). record { rows = r; objects = v.objects }) rows
     ∙ ap (λ (s : FinSet (slice_cmp nat_cmp)). record { rows = w.rows; objects = s }) objects
 
--- lines have one format
+-- lines have exactly one format
 pub one_format : (names : Names) (lines : List (List ℕ)) (f g : Format) → IsFormat names lines f → IsFormat names lines g → g ≡ f
 one_format names lines f g h k = grind (arith, common_steps)
 
 pub one_view : (names : Names) (lines : List (List ℕ)) (v w : MibView) → IsTableOf names lines v → IsTableOf names lines w → v ≡ w
 one_view names lines v w h k = one_view_in h.0 lines v w h.2 (rw (← one_format names lines h.0 k.0 h.1 k.1) k.2)
 
--- lines without the mark are of the first format
+-- lines without the mark have the first format
 pub without_mark : (names : Names) (lines : List (List ℕ)) (P : Format → Type 0)
     → (IsMarked lines → ⊥) → ((format : Format) × IsFormat names lines format × P format) ↔ P first_format
 without_mark names lines P unmarked = grind (arith, common_steps, one_format)

@@ -1,4 +1,4 @@
--- What the steps of reading a line find, for private clauses.
+-- What the steps of reading a line find, for clauses of private functions.
 use Rattle.std.specs.Prelude.{◌≡◌, ◌++◌, ℕ, List, codes, Option, Some, None, Result, Ok, Err}
 use Rattle.snmp_wire.specs.Message.{Datum}
 use Rattle.snmp_agent.specs.{declared.table.line.Line.Line, declared.table.line.Form.Form}
@@ -24,7 +24,7 @@ IsForm format l (Some (form.Object text)) = l ≡ codes "object " ++ text.now
 IsForm format l (Some (form.Row name tag text)) =
     IsRowForm format l name.now (tag_text tag) text.now
 
--- the object prefix that a text names, or the fault
+-- the object prefix that the text names, or why there is none
 abbrev pub IsObjectRead : Format → List ℕ → Result Line LineFault → Type 0
 IsObjectRead format text (Ok (line.Object numbers)) = IsObjectText format text numbers.items
 IsObjectRead format text (Ok line.Nothing) = ⊥
@@ -34,7 +34,7 @@ IsObjectRead format text (Err fault.Name) = (o : List ℕ) → IsObjectText form
 IsObjectRead format text (Err fault.Value) = ⊥
 IsObjectRead format text (Err fault.Memory) = Unit {0}
 
--- the instance that the texts of a line state, or the fault
+-- the instance that the parts of a line define, or why there is none
 abbrev pub IsInstanceRead : Format → (name tag text : List ℕ) → Result Line LineFault → Type 0
 IsInstanceRead format name tag text (Ok (line.Instance row)) =
     IsInstanceText format name row.name × IsValueText format tag text row.value

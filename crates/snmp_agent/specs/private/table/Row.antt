@@ -1,4 +1,4 @@
--- Values as the text of a table states them.
+-- Values as the text of a table represents them.
 use Rattle.std.specs.Prelude.{ℕ, ◌≤◌, List, length, codes}
 use Rattle.snmp_wire.specs.Message.{Datum}
 use Rattle.snmp_wire.specs.Message.Datum.{octet_string, object_id, opaque_octets}
@@ -6,18 +6,18 @@ use Rattle.snmp_agent.specs.{declared.table.value.Tag.Tag, declared.table.value.
 use Rattle.snmp_agent.specs.declared.table.value.Tag.TheVariants as tag
 use Rattle.snmp_agent.specs.declared.table.value.RowText.TheVariants as value
 
--- the value that a row's stands for
+-- the value that the one of a row represents
 abbrev pub datum_of : RowText → Datum
 datum_of (value.Octets octets) = octet_string octets.items
 datum_of (value.ObjectId numbers) = object_id numbers.items
 datum_of (value.Opaque octets) = opaque_octets octets.items
 
--- how many numbers the value has where it is an identifier, and else 0
+-- the number of numbers of an identifier, or 0 for other values
 abbrev pub name_length : RowText → ℕ
 name_length (value.ObjectId numbers) = length numbers.items
 name_length _ = 0
 
--- where the value is an identifier, it has at most 128 numbers
+-- an identifier has at most 128 numbers
 abbrev pub IsShort : RowText → Type 0
 IsShort v = name_length v ≤ 128
 
@@ -34,7 +34,7 @@ tag_text tag.TimeTicks = codes "67"
 tag_text tag.HexOpaque = codes "68x"
 tag_text tag.Counter64 = codes "70"
 
--- values of the tag take memory of their own when they are read, for private clauses
+-- reading a value of the tag allocates memory, for clauses of private functions
 abbrev pub TakesMemory : Tag → Type 0
 TakesMemory tag.HexOctetString = Unit {0}
 TakesMemory tag.ObjectId = Unit {0}

@@ -3,7 +3,7 @@ use Rattle.std.proofs.Common.{◌≡◌, ◌++◌, ℕ, List, length, take, drop
 use Rattle.std.specs.List.Sorted.{IsPermutation}
 use Rattle.snmp_agent.proofs.table.late.sort_falling.Goals as goal
 
--- what a list holds once all of its slice was written
+-- a list, after all of its slice was overwritten by a permutation of it
 written : {X : Type 0} (n : ℕ) (xs ys zs : List X) → IsPermutation zs ys → zs ≡ xs → length zs ≡ n
     → IsPermutation xs (take n (ys ++ drop (length ys) xs))
 written n xs ys zs moved same size = grind (arith, common_steps, length_permutation, drop_all, append-nil, take_all)
