@@ -27,7 +27,7 @@ one_view_in format lines v w h k =
     ap (λ (r : FinMap (slice_cmp nat_cmp) Datum). record { rows = r; objects = v.objects }) rows
     ∙ ap (λ (s : FinSet (slice_cmp nat_cmp)). record { rows = w.rows; objects = s }) objects
 
--- lines have exactly one format
+-- lines have at most one format
 pub one_format : (names : Names) (lines : List (List ℕ)) (f g : Format) → IsFormat names lines f → IsFormat names lines g → g ≡ f
 one_format names lines f g h k = grind (arith, common_steps)
 

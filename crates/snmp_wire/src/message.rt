@@ -271,8 +271,8 @@ pub fn encode(parts: &Parts<'_>, out: &mut [u8]) -> Option<usize>
     Some(size)
 }
 
-/// Returns the length, in octets, of the shortest encoding of a message up to its first binding,
-/// if its bindings take `total` octets together. Doesn't read the bindings of `parts`.
+/// Returns the length, in octets, of the head of a message: its shortest encoding up to the first
+/// binding. The bindings take `total` octets together; those of `parts` aren't read.
 ///
 /// The community must have at most 65535 octets, and `total` must be at most 4,000,000,000.
 // `inline(always)`: called several times for one reply, with different totals. Inlined, what these
@@ -302,8 +302,8 @@ pub fn head_size(parts: &Parts<'_>, total: u64) -> u64
     message + front
 }
 
-/// Writes the shortest encoding of a message up to its first binding to the start of `out`, and
-/// returns its length. The bindings, which take `total` octets together, follow it; those of
+/// Writes the head of a message to the start of `out`, and returns its length. The head is the
+/// shortest encoding up to the first binding. The bindings take `total` octets together; those of
 /// `parts` aren't read. It requires what [`head_size`] requires.
 ///
 /// Returns `None` if `out` is shorter than that; `out` is then unchanged.
@@ -337,13 +337,13 @@ pub fn encode_head(parts: &Parts<'_>, total: u64, out: &mut [u8]) -> Option<usiz
 }
 
 /// Makes a message of encoded bindings that are already in `out`: they are the `len` octets from
-/// `at` on. Moves them so that they follow the shortest head of such a message, writes the head to
-/// the start of `out`, and returns the length of the message. The octets of `out` after the
-/// message are unspecified. The bindings of `parts` aren't read.
+/// `at` on. Writes the head of the message to the start of `out`, moves the bindings so that they
+/// follow it, and returns the length of the message. The octets of `out` after the message are
+/// unspecified. The bindings of `parts` aren't read.
 ///
 /// The community must have at most 65535 octets, `len` must be at most 4,000,000,000, and the
-/// octets must lie within `out`. Returns `None` if the message is longer than `out`, which is then
-/// unchanged.
+/// `len` octets must lie within `out`. Returns `None` if the message is longer than `out`, which
+/// is then unchanged.
 #[inline]
 pub fn seal(parts: &Parts<'_>, at: usize, len: usize, out: &mut [u8]) -> Option<usize>
     requires community { length parts.now.community.now ≤ 65535 }
@@ -427,8 +427,8 @@ fn put_bindings(out: &mut [u8], end: usize, bindings: &[Binding<'_>]) -> usize
     start
 }
 
-/// Writes the head of a message whose bindings take `total` octets together before `end`, and
-/// returns its offset.
+/// Writes the head of a message before `end`, and returns its offset. The bindings of the message
+/// take `total` octets together.
 fn put_head(out: &mut [u8], end: usize, parts: &Parts<'_>, total: u64) -> usize
     requires community { length parts.now.community.now ≤ 65535 }
     requires total { total ≤ 4000000000 }

@@ -15,7 +15,8 @@ use snmp_oid::{Oid, order};
 use std::cmp::Ordering;
 use std::marker::Model;
 
-/// The limit of the octets in the content of an identifier: five for each of at most 128 numbers.
+/// An upper bound of the octets in the content of an identifier: five for each of at most 128
+/// numbers.
 pub const MAX_CONTENT: usize = 640;
 
 /// The name of an instance as it is encoded: the content octets of an identifier (X.690, 8.19).
