@@ -58,8 +58,8 @@ pub fn answer(
 }
 
 /// Does what [`answer`] does, faster for a series of requests: a name whose position is in `hint`
-/// is found without a search. Records in `hint` the positions of this request's names, and of the
-/// last row that a GetNext or a GetBulk of one name returned.
+/// is found without a search. Records in `hint` where a search found a name, and the position of
+/// the last row that a GetNext or a GetBulk of one name returned.
 ///
 /// The reply doesn't depend on `hint`, which may even come from another table.
 pub fn answer_near(

@@ -97,8 +97,8 @@ pub fn read_value<'a>(tag: u8, content: &'a [u8], into: &mut ValueRef<'a>)
     }
 }
 
-/// Does what [`read_value`] does, over a value of any type. `inline(never)`, since it writes all
-/// octets of a [`ValueRef`].
+/// Does what [`read_value`] does, over a value of any type. `inline(never)`: it writes all octets
+/// of a [`ValueRef`], which most reads of a value avoid.
 #[tactic(auto, unfolding(crate::specs::ber::Reading::typed_value, crate::specs::ber::Reading::unsigned_of))]
 #[inline(never)]
 fn replace_value<'a>(tag: u8, content: &'a [u8], into: &mut ValueRef<'a>)
