@@ -33,8 +33,8 @@ IsServed kind.SetRequest = Unit {0}
 IsServed kind.GetBulkRequest = Unit {0}
 IsServed _ = ⊥
 
--- `octets` encode `q`, a message of version 1, which stands for SNMPv2c, of the agent's community,
--- and a request that is served
+-- `octets` encode `q`, a request that the agent serves: its version is 1, which stands for
+-- SNMPv2c, its community is the agent's, and requests of its kind are served
 pub record IsRequest (community octets : List ℕ) (q : Message) : Type 0 where
   pub spelt : Spells q octets
   pub version : q.version ≡ pos 1
@@ -129,8 +129,8 @@ pub record AreRounds (view : MibView) (repetitions : ℕ) (names : List VarBind)
       × AreEnds round
 
 -- `bindings` are all that a GetBulk asks for, whatever their length: the successors of its first
--- names, as many as its non-repeaters or all that there are, and then max-repetitions rounds of
--- the other names. A negative number counts as 0.
+-- names, as many as non-repeaters says, or of all if there are fewer, and then max-repetitions
+-- rounds of the other names. A negative number counts as 0.
 pub record IsBulk (view : MibView) (q : Message) (bindings : List VarBind) : Type 0 where
   pub singles : List VarBind
   pub rounds : List (List VarBind)

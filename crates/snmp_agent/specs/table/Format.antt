@@ -10,7 +10,7 @@ use Rattle.snmp_agent.specs.table.Exact.{IsOnly}
 abbrev pub bar : ℕ
 bar = 124
 
--- `text` is a numeric name of at most as many numbers as an identifier can have
+-- `text` is the numeric name of `o`, which has at most 128 numbers
 pub record IsName (text o : List ℕ) : Type 0 where
   pub named : IsNumericName text o
   pub short : length o ≤ 128
@@ -38,7 +38,8 @@ abbrev pub IsFormat : Names → (lines : List (List ℕ)) → Format → Type 0
 IsFormat names lines first_format = IsMarked lines → ⊥
 IsFormat names lines (second_format given) = IsMarked lines × (given ≡ names)
 
--- the text is a name of this format; in the second format it has no bar outside quotes
+-- `text` is a name of the identifier `o` in this format; in the second format it has no bar
+-- outside quotes
 abbrev pub IsNameIn : Format → (text o : List ℕ) → Type 0
 IsNameIn first_format text o = IsName text o
 IsNameIn (second_format names) text o = HasNoneOutside bar text × Means names text o

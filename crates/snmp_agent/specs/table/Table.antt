@@ -97,12 +97,12 @@ IsNextAfter view zero o p = IsNext view o p
 IsNextAfter view (suc rounds) o p = (q : VarBind) × IsNextAfter view rounds o q
     × IsNext view q.name p
 
--- the view with this instance, which replaces the one of its name if there is one; all other
--- things are the same
+-- the view with this instance, which replaces the one of its name if there is one; the rest is the
+-- same
 abbrev pub with_row : MibView → List ℕ → Datum → MibView
 with_row view o v = record { rows = insert view.rows o v; objects = view.objects }
 
--- the view without the instance of this name; all other things are the same
+-- the view without the instance of this name; the rest is the same
 abbrev pub without_row : MibView → List ℕ → MibView
 without_row view o = record { rows = remove view.rows o; objects = view.objects }
 
