@@ -79,7 +79,8 @@ no_row_with_one_bar format l front behind name tag text e ends none_behind h =
     no_cut behind tag text none_behind (sym (behind_first format l front behind name tag text e ends h).1)
 
 -- the parts of a line with a row, as the code splits it
-pub same_parts : (format : Format) (l front behind middle back name tag text : List ℕ) → l ≡ front ++ bar ∷ behind → EndsAtBar format front → behind ≡ middle ++ bar ∷ back
+pub same_parts : (format : Format) (l front behind middle back name tag text : List ℕ) → l ≡ front ++ bar ∷ behind → EndsAtBar format front
+    → behind ≡ middle ++ bar ∷ back
     → HasNoBar middle → IsRowForm format l name tag text
     → (name ≡ front) × (tag ≡ middle) × (text ≡ back)
 same_parts format l front behind middle back name tag text e none f none_middle h =
@@ -103,8 +104,8 @@ pub object_states : (format : Format) (l text : List ℕ) → l ≡ codes "objec
     → IfOk r (λ stated. States format l (statement_of stated))
 object_states format l text e r h = grind (arith, common_steps)
 
-pub row_states : (format : Format) (l name tag text : List ℕ) → IsRowForm format l name tag text → (r : Result Line LineFault) → IsInstanceRead format name tag text r
-    → IfOk r (λ stated. States format l (statement_of stated))
+pub row_states : (format : Format) (l name tag text : List ℕ) → IsRowForm format l name tag text → (r : Result Line LineFault)
+    → IsInstanceRead format name tag text r → IfOk r (λ stated. States format l (statement_of stated))
 row_states format l name tag text e r h = grind (arith, common_steps)
 
 pub row_faults : (format : Format) (l name tag text : List ℕ) → IsRowForm format l name tag text → (r : Result Line LineFault)

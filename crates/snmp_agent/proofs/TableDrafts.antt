@@ -83,7 +83,8 @@ stated_before format before line s h = (h.0, Contains-append_left before (line �
 stated_now : (format : Format) (before : List (List ℕ)) (line : List ℕ) (s : Statement) → States format line s → IsStated format (before ++ line ∷ []) s
 stated_now format before line s h = (line, Contains-append_right before (line ∷ []) line (0, omega arith, refl), h)
 
-stated_either : (format : Format) (before : List (List ℕ)) (line : List ℕ) (s : Statement) → IsStated format (before ++ line ∷ []) s → IsStated format before s ⊎ States format line s
+stated_either : (format : Format) (before : List (List ℕ)) (line : List ℕ) (s : Statement) → IsStated format (before ++ line ∷ []) s
+    → IsStated format before s ⊎ States format line s
 stated_either format before line s h =
     elim (Contains-push_cases before line h.0 h.1) [ inl old ↦ inl (h.0, old, h.2) | inr same ↦ inr (rw same h.2) ]
 
