@@ -72,7 +72,7 @@ fn wrong_row_by<'a>(
     modules: &'a [Module],
     rows: &[Row<'_>],
 ) -> Result<Option<usize>, Fail>
-    requires { names.now ≡ modules.now }
+    requires { names.now.modules ≡ modules.now }
 {
     let Gathered { sources, oids, .. } = gather_nodes(alloc, names, modules)?;
     wrong_row_among(
@@ -93,7 +93,7 @@ fn wrong_row_among<'a>(
     identifiers: &Identifiers,
     rows: &[Row<'_>],
 ) -> Result<Option<usize>, Fail>
-    requires { names.now ≡ modules.now }
+    requires { names.now.modules ≡ modules.now }
 {
     if sources.len() != identifiers.len() {
         return Err("a node without an identifier")?;

@@ -55,7 +55,7 @@ pub(crate) fn modules_of(alloc: Global, text: &[u8]) -> Result<Vec<Module>, Fail
 
 /// The names of modules, in a box, whose `drop` is proved once.
 pub(crate) fn names_of<'a>(alloc: Global, modules: &'a [Module]) -> Result<Box<Names<'a>>, Fail>
-    ensures { IfOk result (λ names. names.value ≡ modules.now) }
+    ensures { IfOk result (λ names. names.value.modules ≡ modules.now) }
 {
     let names = Names::new(alloc, NameHash::Fixed, modules)?;
     Ok(Box::new(alloc, names)?)
