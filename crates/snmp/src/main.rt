@@ -1,4 +1,5 @@
-//! The program `snmp`: it hands the words, files, network and outputs of the machine to the tools.
+//! The program `snmp`: it passes the arguments, files, network and outputs of the machine to the
+//! tools.
 #![tactic(auto)]
 
 use snmp_io::{KeyedFiles, MachineFiles, MachineOutput, Output, write_all};
@@ -39,7 +40,8 @@ where
     Ok(tool(rt.alloc(), texts.as_slice(), &files, &mut links, out, err))
 }
 
-// No words can be had: memory ran out, or one of them is no text.
+// Reports on `err` why the arguments couldn't be read, and returns the exit status: memory ran
+// out, or an argument isn't UTF-8.
 fn refused<E: Output>(err: &mut E, error: &io::Error) -> u8 {
     let text = match error.kind() {
         ErrorKind::OutOfMemory => "Out of memory.\n",

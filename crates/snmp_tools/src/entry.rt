@@ -1,4 +1,4 @@
-//! From words to status.
+//! A whole command line: from its arguments to the exit status.
 ghost use Rattle.std.specs.Prelude.{◌≡◌, ◌≢◌, ℕ, List, [], IfErr, IfOk};
 ghost use Rattle.std.specs.Str.Lines.{lines};
 ghost use Rattle.snmp_words.specs.{Command.faults_of, Words.job_words, Words.texts_at};
@@ -15,17 +15,17 @@ use snmp_net::Links;
 use snmp_words::{Job, UsageError, one_job, read_words};
 use std::alloc::Global;
 
-/// Does what the words of a command line ask for, the program's name among them as the first, and
-/// returns the exit status.
+/// Does what a command line asks for, and returns the exit status. `words` are its arguments, the
+/// first of which is the program's name.
 ///
-/// It is 0 where that was done, 2 where an agent replied with an error status, and 1 in any other
-/// case. A failure is one line on `err`, except that a mistake in the command line's syntax may
-/// take several.
+/// The status is 0 if all of it was done, 2 if an agent replied with an error status, and 1 in any
+/// other case. A failure is reported as one line on `err`; a mistake in the syntax of the command
+/// line may take several lines.
 ///
-/// [`run_job`] lists the records by which `done` says what a job does. `rows_printed` is a case of
+/// [`run_job`] lists the records in which `done` says what a job does. `rows_printed` is a case of
 /// it in plain terms (`specs/TableWalk.antt`): what `snmpwalk -On table:PATH ROOT` prints.
-/// `help_or_mistake` is about all other words: the error that is shown (`ShowsError`) is one that
-/// [`read_words`] may return for them.
+/// `help_or_mistake` is about all other arguments: the error that is shown (`ShowsError`) is one
+/// that [`read_words`] may return for them.
 pub fn tool<F: Files, L: Links, O: Output, E: Output>(
     alloc: Global,
     words: &[&str],
@@ -34,19 +34,19 @@ pub fn tool<F: Files, L: Links, O: Output, E: Output>(
     out: &mut O,
     err: &mut E,
 ) -> u8
-    // A walk of a table file in numbers prints the lines of its rows below the root, or where none
-    // is below, that of what a Get of the root gives, and no others.
+    // A walk of a table file in numbers prints the lines of the rows below the root. If there are
+    // none, it prints the line of what a Get of the root returns. It prints no other lines.
     ensures rows_printed { (path root text : List ℕ)
         → texts_at words.now ≡ table_walk path root
         → HoldsTableFile (F.text_at files.now) path root text
         → PrintsRows (lines text) root (O.stream out.old) (O.stream out.new)
         (E.stream err.old) (E.stream err.new) result }
-    // The job that the words state is done, or refused as its steps say.
+    // The job that the arguments ask for is done, or fails in a way that `IsJobDone` lists.
     ensures done { AreWordsDone L.Links L.Wire.Link (texts_at words.now)
         (seen (F.text_at files.now) links.old (O.stream out.old) (E.stream err.old))
         (seen (F.text_at files.now) links.new (O.stream out.new) (E.stream err.new)) result }
-    // If the words have faults, one of them is reported, with status 1; or they ask for help or the
-    // version, and that is printed. The network stays as it was.
+    // If the arguments have faults, one of them is reported, and the status is 1. If the fault is
+    // that they ask for help or the version, that is printed. The network stays as it was.
     ensures help_or_mistake { faults_of (texts_at words.now) ≢ []
         → (links.new ≡ links.old) × IsHelpOrMistake (texts_at words.now)
         (O.stream out.old) (O.stream out.new) (E.stream err.old) (E.stream err.new) result }
@@ -56,8 +56,8 @@ pub fn tool<F: Files, L: Links, O: Output, E: Output>(
     do_words(alloc, read_words(alloc, words), files, links, out, err)
 }
 
-/// Does the job that words state, or shows the error if they state none, and returns the exit
-/// status.
+/// Does the job that was read from the arguments, or shows the error if reading failed. Returns
+/// the exit status.
 fn do_words<F: Files, L: Links, O: Output, E: Output>(
     alloc: Global,
     read: Result<Job<'_>, UsageError>,
@@ -87,7 +87,8 @@ fn do_words<F: Files, L: Links, O: Output, E: Output>(
     }
 }
 
-/// Prints the help that was asked for, and returns the status.
+/// Prints `text`, the help or version that was asked for, and returns the exit status: 0, or 1 if
+/// the output fails. Then that is reported on `err`.
 fn print_help<O: Output, E: Messages>(text: &str, out: &mut O, err: &mut E) -> u8
     ensures { PrintsHelp text.now (O.stream out.old) (O.stream out.new)
         (E.stream err.old) (E.stream err.new) result }

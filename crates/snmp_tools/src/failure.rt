@@ -1,4 +1,4 @@
-//! Why a job wasn't done: its message on standard error, and its status.
+//! Why a job wasn't done, with the message on standard error and the exit status for it.
 ghost use Rattle.std.specs.Prelude.{◌≡◌, ◌++◌, ◌∷◌, codes, OnOk, OnErr};
 ghost use Rattle.std.specs.Fmt.{signed_decimal};
 ghost use Rattle.snmp_oid.specs.Numeric.{numeric_text};
@@ -17,30 +17,31 @@ use snmp_oid::{LONGEST_TEXT, Oid, write_numeric};
 use snmp_walk::{SinkFault, WalkEnd};
 use std::alloc::AllocError;
 
-/// Why a job wasn't done, with the words that its message repeats.
+/// Why a job wasn't done. Holds the arguments that its message repeats.
 #[derive(Debug, Drop)]
 pub enum Failure<'a> {
-    /// The version of SNMP, of `-v`, isn't 2c.
+    /// The version of SNMP (`-v`) isn't 2c.
     Version(&'a str),
-    /// A letter of `-O`, `-T` or `-C` that has no meaning.
+    /// This octet has no meaning in the letters of `-O`, `-T` or `-C`.
     Letter(u8),
     /// The community has more than 255 octets.
     Community,
-    /// The word for the agent, or that for the place where requests are received, is no address.
+    /// AGENT, or the argument of `--listen`, isn't a valid address.
     Agent(&'a str),
-    /// The text is no name, for this reason.
+    /// The argument isn't a name, for this reason.
     Name(&'a str, NameError),
-    /// The module files can't be loaded.
+    /// The module files can't be loaded, for this reason.
     Modules(FilesError<'a>),
-    /// The file can't be read.
+    /// The table file at this path can't be read.
     Unreadable(&'a str),
-    /// The table file has a fault.
+    /// The table file at this path has this fault.
     Table(&'a str, TableError),
-    /// The name can't be sent.
+    /// The name has no encoding, so it can't be sent.
     NotWire(&'a str),
     /// The name of `--after` is neither the root nor below it.
     AfterOutsideRoot(&'a str),
-    /// What was asked of this agent, or served at this place, ended early: the end says why.
+    /// The walk or Get of this agent ended early, for the reason that the end says. Or no socket
+    /// could be opened at this address of `--listen`.
     Ended(&'a str, WalkEnd),
     /// The output failed.
     Output,
@@ -49,7 +50,7 @@ pub enum Failure<'a> {
 }
 
 impl Failure<'_> {
-    /// The exit status: 2 where the agent replied with an error status, else 1.
+    /// Returns the exit status: 2 if the agent replied with an error status, otherwise 1.
     pub fn status(&self) -> u8
         ensures { result ≡ status_of (fault_of self.now) }
     {
@@ -59,7 +60,7 @@ impl Failure<'_> {
         }
     }
 
-    /// Appends the message, without a newline. Where memory runs out, `out` is unchanged.
+    /// Appends the message, without a newline. Fails if memory runs out, with `out` unchanged.
     pub fn message(&self, out: &mut Vec<u8>) -> Result<(), AllocError>
         ensures appended { OnOk result (
             out.new.items ≡ out.old.items ++ fault_message (fault_of self.now)) }
@@ -70,7 +71,7 @@ impl Failure<'_> {
         draft.finish(out)
     }
 
-    // Appends the message.
+    // Appends the message, without a newline.
     fn append_message(&self, out: &mut Draft)
         ensures { Adds out.old (fault_message (fault_of self.now)) out.new }
     {
@@ -111,7 +112,7 @@ impl From<AllocError> for Failure<'_> {
     }
 }
 
-/// Appends two texts, one after the other.
+/// Appends `first` and then `second`.
 fn two_texts(out: &mut Draft, first: &[u8], second: &[u8])
     ensures { Adds out.old (first.now ++ second.now) out.new }
 {
@@ -119,14 +120,14 @@ fn two_texts(out: &mut Draft, first: &[u8], second: &[u8])
     out.octets(second);
 }
 
-/// Appends a text, and a word after it.
+/// Appends `text` and then `word`.
 fn text_and_word(out: &mut Draft, text: &[u8], word: &str)
     ensures { Adds out.old (text.now ++ word.now) out.new }
 {
     two_texts(out, text, word.as_bytes());
 }
 
-/// What is wrong with the text of a name.
+/// Returns the start of the message about a name, which says what is wrong with it.
 fn name_fault<'a>(error: &NameError) -> &'a [u8]
     ensures { result.now ≡ name_fault error.now }
 {
@@ -138,7 +139,8 @@ fn name_fault<'a>(error: &NameError) -> &'a [u8]
     }
 }
 
-/// Appends the path of a table file, the line, and what is wrong there.
+/// Appends the message about a fault in the table file at `path`: the path, the number of the
+/// line, and what is wrong there.
 fn table_message(fault: &TableError, path: &str, out: &mut Draft)
     ensures { Adds out.old (table_message path.now fault.now) out.new }
 {
@@ -151,7 +153,7 @@ fn table_message(fault: &TableError, path: &str, out: &mut Draft)
     }
 }
 
-/// Appends the message for a walk or a Get that ended early.
+/// Appends the message about a walk or a Get that ended early; nothing for one that is done.
 fn end_message(end: &WalkEnd, agent: &str, out: &mut Draft)
     ensures { Adds out.old (end_message agent.now end.now) out.new }
 {
@@ -170,7 +172,7 @@ fn end_message(end: &WalkEnd, agent: &str, out: &mut Draft)
     }
 }
 
-/// Appends the message for a name that isn't above the last one.
+/// Appends the message about the name `got`, which isn't greater than `last`, the name before it.
 fn falling_message(out: &mut Draft, last: &Oid, got: &Oid)
     ensures { Adds out.old (codes "Error: OID not increasing: " ++ numeric_text last.now
         ++ codes " >= " ++ numeric_text got.now) out.new }
@@ -179,7 +181,7 @@ fn falling_message(out: &mut Draft, last: &Oid, got: &Oid)
     text_and_name(out, b" >= ", got);
 }
 
-/// Appends an error status by its name and number, and the error index.
+/// Appends the message about an error status: its name and number, and the error index.
 fn fault_message(out: &mut Draft, status: &i32, index: &i32)
     ensures { Adds out.old (error_status_text status.now index.now) out.new }
 {
@@ -188,7 +190,7 @@ fn fault_message(out: &mut Draft, status: &i32, index: &i32)
     text_and_integer(out, b"), index ", index);
 }
 
-/// Appends a text, and a signed number after it.
+/// Appends `text` and then the signed number `n`.
 fn text_and_integer(out: &mut Draft, text: &[u8], n: &i32)
     ensures { Adds out.old (text.now ++ signed_decimal n.now) out.new }
 {
@@ -196,7 +198,7 @@ fn text_and_integer(out: &mut Draft, text: &[u8], n: &i32)
     out.integer(i64::from(*n));
 }
 
-/// The name of an error status (RFC 3416, section 3).
+/// Returns the name of an error status (RFC 3416, section 3), or `unknown` if it has none.
 fn status_name<'a>(status: i32) -> &'a [u8]
     ensures { result.now ≡ status_name status }
 {
@@ -224,7 +226,7 @@ fn status_name<'a>(status: i32) -> &'a [u8]
     }
 }
 
-/// Appends a text, and a name in numbers after it.
+/// Appends `text` and then `name` in numbers.
 fn text_and_name(out: &mut Draft, text: &[u8], name: &Oid)
     ensures { Adds out.old (text.now ++ numeric_text name.now) out.new }
 {
@@ -236,7 +238,7 @@ fn text_and_name(out: &mut Draft, text: &[u8], name: &Oid)
     }
 }
 
-/// Appends a text, the agent as given, and a full stop.
+/// Appends `text`, the argument `agent` and a full stop.
 fn agent_message(out: &mut Draft, text: &[u8], agent: &str)
     ensures { Adds out.old (text.now ++ agent.now ++ codes ".") out.new }
 {

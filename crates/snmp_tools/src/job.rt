@@ -1,4 +1,4 @@
-//! A job: it is done, and what failed is reported.
+//! A job: does it, and reports what failed.
 ghost use Rattle.std.specs.Prelude.{◌≡◌, ◌++◌, codes, IfOk, OnErr};
 ghost use Rattle.snmp_io.specs.Output.{IsWritten};
 ghost use Rattle.snmp_words.specs.Words.{job_words};
@@ -21,24 +21,25 @@ use snmp_net::Links;
 use snmp_words::Job;
 use std::alloc::{AllocError, Global};
 
-/// Does a job, and returns the exit status: 0 where it was done, 2 where an agent replied with an
+/// Does a job, and returns the exit status: 0 if all of it was done, 2 if an agent replied with an
 /// error status, and 1 in any other case.
 ///
-/// The lines of a reply are written to `out` together, as it comes. A failure is one line on `err`;
-/// an `err` that fails itself changes nothing else.
+/// The lines of a reply are written to `out` together, when it arrives. A failure is reported as
+/// one line on `err`. If a write to `err` fails, nothing else changes.
 ///
-/// What `done` promises is in the fields of records (`specs/Done.antt`), by the command:
+/// What `done` promises is in the fields of records (`specs/Done.antt`), one for each command:
 ///
-/// - snmpget, snmpwalk and snmpbulkwalk (`IsAskDone`): `outcome_reported` has each way in which the
-///   job may end: which step refused it, over which link it asked, what it printed, how it left the
-///   network, and what it reported. `rows_written` is about a table file whose text is known
-///   (`specs/Headline.antt`): whatever fails, only a first part of the lines is written
-///   (`front_written`); at status 0 all of them are (`all_written_at_status_0`); and the status is
+/// - snmpget, snmpwalk and snmpbulkwalk (`IsAskDone`): `outcome_reported` lists the ways in which
+///   the job can end: which step refused it, over which link it asked, what it printed, how it
+///   left the network, and what it reported. `rows_written` is about a table file whose text is
+///   known (`specs/Headline.antt`). Whatever fails, only a prefix of the lines is written
+///   (`front_written`). At status 0 all of them are (`all_written_at_status_0`), and the status is
 ///   0 if nothing prevents it (`ends_at_status_0`).
-/// - snmptranslate (`IsTranslated`): `outcome` and `is_reported` are the same for it. Whatever
-///   fails, only a first part of the names' texts is printed (`front`), and at status 0 all of them
-///   are (`all_at_status_0`). The network stays as it was.
-/// - snmpd (`IsServeRun`): `outcome` and `reported`.
+/// - snmptranslate (`IsTranslated`): `outcome` and `is_reported` say the same of it. Whatever
+///   fails, only a prefix of the names' texts is printed (`front`). At status 0 all of them are
+///   (`all_at_status_0`). The network stays as it was.
+/// - snmpd (`IsServeRun`): `outcome` lists the ways in which it can end, and `reported` says what
+///   is reported of them.
 pub fn run_job<F: Files, L: Links, O: Output, E: Output>(
     alloc: Global,
     job: &Job<'_>,
@@ -54,7 +55,7 @@ pub fn run_job<F: Files, L: Links, O: Output, E: Output>(
     do_job(alloc, job, files, links, out, err)
 }
 
-/// Does a job, and reports why not all of it was done, if it wasn't.
+/// Does a job, reports why if not all of it was done, and returns the exit status.
 fn do_job<F: ModuleLoader<E>, L: Links, O: Output, E: Messages>(
     alloc: Global,
     job: &Job<'_>,
@@ -76,7 +77,7 @@ fn do_job<F: ModuleLoader<E>, L: Links, O: Output, E: Messages>(
     report(alloc, done, err)
 }
 
-/// Does a job, and returns why not all of it was done, if it wasn't.
+/// Does a job. Fails if not all of it was done; the error says why.
 fn try_job<'a, F: ModuleLoader<E>, L: Links, O: Output, E: Messages>(
     alloc: Global,
     job: &Job<'a>,
@@ -108,10 +109,10 @@ fn report<E: Messages>(alloc: Global, done: Result<(), Failure<'_>>, err: &mut E
     failure.status()
 }
 
-/// Writes the line of a message, or that memory ran out for it.
+/// Writes the line of a message to `err`, or `Out of memory.` if there was no memory for the line.
 fn tell_line<E: Messages>(line: Result<Vec<u8>, AllocError>, err: &mut E)
     ensures whole { IfOk line (λ text. IsWritten (E.stream err.old) text.items (E.stream err.new)) }
-    // `Out of memory.` is written in place of another message only if memory for that ran out.
+    // `Out of memory.` is written instead of another message only if memory for that ran out.
     ensures no_memory { OnErr line (
         IsWritten (E.stream err.old) (codes "Out of memory.\n") (E.stream err.new)) }
 {
@@ -121,7 +122,7 @@ fn tell_line<E: Messages>(line: Result<Vec<u8>, AllocError>, err: &mut E)
     }
 }
 
-/// The message of a failure, with its newline.
+/// Returns the message of `failure`, and a newline. Fails only if memory runs out.
 fn message_line(alloc: Global, failure: &Failure<'_>) -> Result<Vec<u8>, AllocError>
     ensures { IfOk result (λ text.
         text.items ≡ fault_message (fault_of failure.now) ++ codes "\n") }

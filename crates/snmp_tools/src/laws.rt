@@ -1,4 +1,4 @@
-//! Laws of the words and of what is promised of them, as calls that do nothing.
+//! Laws about command lines and about what is promised of them. Each is a call that does nothing.
 ghost use Rattle.std.specs.Prelude.{◌≡◌, ℕ, List, [], false, true};
 ghost use Rattle.std.specs.Str.Lines.{lines};
 ghost use Rattle.snmp_io.specs.{Files.Holdings, Output.Stream};
@@ -23,8 +23,11 @@ use snmp_net::memory::{MemoryDoor, MemoryLinks};
 use snmp_walk::{honest_networks, instances_below, short_rows_have_room};
 use snmp_words::walks_are_taken;
 
-/// The command takes the words of a walk of a table file whose root is in numbers, and from what is
-/// promised of every walk over a table it follows which rows this one prints.
+/// The command line `snmpwalk -On table:PATH ROOT`, with ROOT in numbers, is accepted and asks for
+/// that walk. What is promised of every walk over a table (`WritesRowsOf`) says which rows this
+/// one prints (`PrintsRows`).
+///
+/// A law: the call does nothing, and its caller may use what it ensures.
 #[inline]
 pub(crate) fn table_walks()
     ensures taken { (path root : List ℕ) → is_taken (table_walk path root) ≡ true }
@@ -48,20 +51,22 @@ pub(crate) fn table_walks()
     short_rows_have_room();
 }
 
-/// What a walk or a Get prints where `snmpd` serves the table of a file to it, by what
-/// [`tool`](crate::tool) promises of the two command lines: a beginning of the lines of just what
-/// the question gives of that file's table, in order, and at status 0 all of them, where the
-/// network between makes nothing up and alters nothing.
+/// If `snmpd` serves a table file to a walk or a Get, and the network between them neither invents
+/// nor alters datagrams, then the walk or Get prints the lines of the rows that it asks for, in
+/// order, from the first one on. At status 0 it prints all of them. This follows from what
+/// [`tool`](crate::tool) promises of the two command lines.
 ///
-/// It may lose, repeat and delay datagrams and bring them in another order, as UDP may (RFC 768),
-/// and other clients may ask snmpd. `L` opens the link of the walk, and `M` the door of snmpd, at
-/// which `D` receives and sends. AGENT and `--listen` are joined by one thing alone: what happened
-/// at the two ends is one run of the network.
+/// The network may lose, repeat, delay and reorder datagrams, as UDP may (RFC 768), and other
+/// clients may ask snmpd. `L` opens the link of the walk, and `M` the door (server socket) of
+/// snmpd, at which `D` receives and sends. Nothing relates AGENT to `--listen`, except that what
+/// happened at the two ends is one run of the network.
 ///
-/// What the files hold is known, and snmpd has ended: where it served, it has served all its turns.
-/// Nothing is said of when status 0 comes. That snmpd serves in turn at its doors is what `M` says
-/// of them, as links in memory do ([`memory_serves_in_turn`]). Of the machine's own network nothing
-/// is known of its turns (its `serves` says nothing).
+/// It must be known what the files hold, and snmpd must have ended: if it served, it has served
+/// all its turns. The law doesn't say when the status is 0. It needs `ServesInTurn` of `M`: at its
+/// doors an agent is served in turn. That holds of links in memory ([`memory_serves_in_turn`]). Of
+/// the machine's own network it isn't known, since its `serves` says nothing.
+///
+/// A law: the call does nothing, and its caller may use what it ensures.
 pub fn served_tables<L: Links, M: Links, D: Endpoint>()
     ensures printed { (endpoint_at : M.Door → D) (words : AskWords)
         (before after : Seen L) (status : ℕ) (serving : ServeWords)
@@ -84,15 +89,20 @@ pub fn served_tables<L: Links, M: Links, D: Endpoint>()
     honest_networks::<D>();
 }
 
-/// Links in memory serve in turn at each of their doors, which are endpoints themselves.
+/// Links in memory serve an agent in turn at each of their doors. Their doors are endpoints.
+///
+/// A law: the call does nothing, and its caller may use what it ensures.
 pub fn memory_serves_in_turn()
     ensures { ServesInTurn ⟦<MemoryLinks<'static> as Links>⟧ (λ door. door)
         ⟦<MemoryDoor<'static> as Endpoint>⟧.happens }
 {}
 
-/// What `snmpwalk -On AGENT ROOT` asks for, where `snmpd` serves a table file to it: what the
-/// file's lines state below the root, or where that is nothing, what a Get of the root gives. What
-/// is written of these rows, by [`served_tables`], is the line in numbers of each.
+/// If `snmpd` serves a table file to `snmpwalk -On AGENT ROOT`, both without module files, then
+/// the walk asks for the rows of the file below the root. If there are none, it asks for what a
+/// Get of the root returns. [`served_tables`] says what it prints of these rows: their lines in
+/// numbers.
+///
+/// A law: the call does nothing, and its caller may use what it ensures.
 pub fn served_walks_in_numbers()
     ensures asked { (words : WalkWords) (files : Holdings) (serving : ServeWords)
         (server_files : Holdings) (line : List (List ℕ)) (root text : List ℕ)

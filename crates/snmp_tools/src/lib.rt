@@ -1,7 +1,8 @@
-//! The tools: each job from its words to what it prints.
+//! The tools: each job from the arguments of its command line to the lines that it prints.
 //!
-//! Built on the words, on outputs and files, on tables and walks, and on the texts of names and
-//! values. The program passes the machine to it.
+//! Built on the command line (`snmp_words`), on outputs and files (`snmp_io`), on tables and walks
+//! (`snmp_agent`, `snmp_walk`, `snmp_net`), and on names and values as text (`smi_show`). The
+//! program `snmp` passes it the machine's files, network and outputs.
 //!
 //! # Examples
 //!
@@ -41,10 +42,10 @@ pub use snmp_words::{
     Asking, GetJob, Job, ServeJob, TranslateJob, UsageError, WalkJob, read_words,
 };
 
-// Why a job wasn't done, and a load of module files by itself: for tests, and for messages of a
-// caller's own.
+// For tests, and for callers that write their own messages: why a job wasn't done, and loading
+// module files without a job.
 pub use failure::Failure;
 pub use load::{FilesError, load_tree};
 
-// Laws: calls that do nothing, for proofs.
+// Laws: calls that do nothing, whose callers may use what they ensure.
 pub use laws::{memory_serves_in_turn, served_tables, served_walks_in_numbers};

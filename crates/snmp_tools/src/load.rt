@@ -1,7 +1,7 @@
-//! Files of SMIv2 modules: each is read and parsed whole, in the order in which they are given, and
-//! their modules are loaded into the tree of names.
+//! Files of SMIv2 modules: they are read and parsed whole, in the order of the arguments, and
+//! their modules are loaded into one tree of names.
 //!
-//! Depends on the parser, on the tree and on what holds the files.
+//! Depends on the parser (`smi_text`), the tree (`smi_tree`) and files (`snmp_io`).
 ghost use Rattle.std.specs.Prelude.{◌≡◌, IfErr, IfOk, List, OnErr, ℕ, OnOk};
 ghost use Rattle.smi_text.specs.declared.trees.tree.Module.{Module};
 ghost use Rattle.snmp_tools.specs.load.Files.{AreModulesOf, IsFilesRefusal, no_memory, texts};
@@ -22,11 +22,12 @@ use snmp_io::{Files, Output};
 use std::alloc::Global;
 use warned::warning_lines;
 
-/// Loads the tree of names from module files (RFC 2578, section 3), and writes the line of each
-/// warning on `err`, in order. Its names are hashed by the key of the files, if they have one.
+/// Loads the tree of names from the module files at `paths` (RFC 2578, section 3), and writes the
+/// line of each warning to `err`, in order. The tree hashes names with the key of the files, if
+/// they have one.
 ///
-/// The first file that can't be read, or whose text has a fault anywhere, is the error, and then
-/// nothing is written. An `err` that fails changes nothing else.
+/// Fails at the first file that can't be read or whose text has a fault anywhere, or if memory
+/// runs out. Then nothing is written. If a write to `err` fails, nothing else changes.
 pub fn load_tree<'a, F: Files, E: Output>(
     alloc: Global,
     files: &F,
@@ -52,18 +53,18 @@ pub fn load_tree<'a, F: Files, E: Output>(
     Ok(tree)
 }
 
-/// Files from which a job loads the tree of names of its modules, and writes the warnings on its
-/// error output, of the type `E`. Implemented for all files.
+/// Files from which a job loads its modules, with warnings written to its error output, of the
+/// type `E`. Implemented for all files.
 ///
-/// A job is generic in this trait and in `E`, which keeps it from loading in another way: only
-/// `load` relates the states of the error output by `loads`, as the job promises, and a job has no
-/// other output of the type `E` over which it could load before it acts.
+/// A job is generic in this trait and in `E`, so that it can't load in another way. It promises
+/// that `loads` relates the states of its error output, and only `load` ensures this. It has no
+/// other output of the type `E` that it could pass to `load` before it acts.
 pub(crate) trait ModuleLoader<E: Messages>: Files {
-    /// How a load of the module files at these paths relates the states of the error output before
-    /// and after it.
+    /// `loads files paths before after`: how a load of the module files at `paths` relates the
+    /// states of the error output before and after it.
     ghost loads: { Self → List (List ℕ) → Stream → Stream → Type 0 };
 
-    /// Loads the tree of names of module files, as [`load_tree`] does.
+    /// Loads the tree of names from module files, as [`load_tree`] does.
     fn load<'a>(
         &self,
         alloc: Global,
@@ -72,8 +73,8 @@ pub(crate) trait ModuleLoader<E: Messages>: Files {
     ) -> Result<Tree, FilesError<'a>>
         ensures loaded { IfOk result (λ tree. IsLoaded (MayHold (Self.text_at self.now))
             (texts paths.now) tree (E.stream err.old) (E.stream err.new)) }
-        // Nothing else says this of the error output. So a job that acts before it loads, or that
-        // writes the warnings by itself, doesn't meet its contract.
+        // No other clause says this of the error output. So a job that acts before it loads, or
+        // that writes the warnings by itself, doesn't meet its contract.
         ensures loads { OnOk result (
             loads self.now (texts paths.now) (E.stream err.old) (E.stream err.new)) }
         ensures refused { IfErr result (λ e.

@@ -6,10 +6,10 @@ use snmp_io::{Output, write_all};
 /// An output for warnings and messages, as standard error is. A write that fails isn't reported to
 /// the caller, so nothing else that a job does depends on it.
 pub(crate) trait Messages {
-    /// What is known of it: the octets that it took, and how many writes failed.
+    /// What is known of the output: the octets that it took, and the number of writes that failed.
     ghost stream: { Self → Stream };
 
-    /// Writes a text, or a front of it where a write fails.
+    /// Writes `text`. If a write fails, only a prefix of `text` is written.
     fn tell(&mut self, text: &[u8])
         ensures { IsWritten (stream self.old) text.now (stream self.new) };
 }

@@ -1,4 +1,5 @@
-//! Names that texts state: each is looked up, and those of a Get must have an encoding.
+//! The names in arguments: they are looked up in the tree, and the names of a Get are tested for
+//! an encoding.
 ghost use Rattle.std.specs.Prelude.{◌≡◌, ◌⊎◌, List, ℕ, All, IfErr, IfOk, Ok, OnOk, Some, length};
 ghost use Rattle.std.specs.Prelude.{option_map};
 ghost use Rattle.smi_show.specs.name.Meant.{TextMeans};
@@ -16,7 +17,7 @@ use smi_tree::Tree;
 use snmp_oid::Oid;
 use std::alloc::Global;
 
-/// The name that a text states.
+/// Returns the identifier that the name `text` means. Fails if it means none.
 pub(crate) fn name<'a>(tree: &Tree, text: &'a str) -> Result<Oid, Failure<'a>>
     ensures ok { IfOk result (λ o. TextMeans tree.now text.entry.now (Ok o)) }
     ensures err { IfErr result (λ e. NameFails tree.now text.entry.now (fault_of e)) }
@@ -27,7 +28,8 @@ pub(crate) fn name<'a>(tree: &Tree, text: &'a str) -> Result<Oid, Failure<'a>>
     }
 }
 
-/// Reads the name that a text states into an identifier that is there.
+/// Reads the identifier that the name `text` means into `oid`. Fails if it means none; then `oid`
+/// may have any numbers.
 pub(crate) fn read_name<'a>(tree: &Tree, text: &'a str, oid: &mut Oid) -> Result<(), Failure<'a>>
     ensures ok { OnOk result (TextMeans tree.now text.entry.now (Ok oid.new)) }
     ensures err { IfErr result (λ e. NameFails tree.now text.entry.now (fault_of e)) }
@@ -38,7 +40,8 @@ pub(crate) fn read_name<'a>(tree: &Tree, text: &'a str, oid: &mut Oid) -> Result
     }
 }
 
-/// The name that a text states, where there is a text.
+/// Returns the identifier that the name `text` means, or `None` if there is no `text`. Fails if it
+/// means none.
 pub(crate) fn name_if_given<'a>(
     tree: &Tree,
     text: Option<&'a str>,
@@ -54,7 +57,8 @@ pub(crate) fn name_if_given<'a>(
     }
 }
 
-/// The names that texts state, in order, or the first of the texts that states none.
+/// Returns the identifiers that the names `texts` mean, in order. Fails at the first that means
+/// none, or if memory runs out.
 pub(crate) fn read_names<'a>(
     alloc: Global,
     tree: &Tree,
@@ -72,8 +76,8 @@ pub(crate) fn read_names<'a>(
     Ok(names)
 }
 
-/// Whether each of the names, which these texts state, has an encoding, or the text of the first
-/// that has none.
+/// Checks that each name has an encoding. `texts[i]` is the argument that `names[i]` came from;
+/// the error holds the argument of the first name that has none.
 pub(crate) fn check_names<'a>(texts: &[&'a str], names: &[Oid]) -> Result<(), Failure<'a>>
     requires { length names.now ≡ length texts.now }
     ensures sendable { OnOk result (All (λ o. IsWire (wire o)) names.now) }

@@ -1,5 +1,5 @@
-//! The plan that is made of the words of a job that asks an agent: they are judged in order, up to
-//! the first that has no meaning, and its names are looked up.
+//! The plan of a job that asks an agent. It is made of the job's arguments: they are judged in
+//! order, up to the first without a meaning, and then the names among them are looked up.
 ghost use Rattle.std.specs.Prelude.{◌≡◌, ◌≤◌, length, IfErr, IfOk};
 ghost use Rattle.snmp_walk.specs.Walker.{IsMethod};
 ghost use Rattle.snmp_tools.specs.{Asking.HasAgent, Letters.IsMethod-prop, Message.fault_of};
@@ -23,10 +23,10 @@ use snmp_oid::Oid;
 use snmp_walk::{Method, Mode};
 use std::alloc::Global;
 
-/// A question, to whom, and how the answer is shown.
+/// A question, the agent to ask, and how the answer is shown.
 #[derive(Debug, Drop)]
 pub(crate) struct Plan<'j, 'a> {
-    /// To whom, and how the answer is shown.
+    /// The agent to ask, and how the answer is shown.
     pub(crate) orders: Orders<'a>,
     /// What is asked.
     pub(crate) question: Question<'j, 'a>,
@@ -36,7 +36,8 @@ impl<'j, 'a> Plan<'j, 'a> {
     ghost use Rattle.snmp_tools.specs.private.Planned.{AreOrdersOf, HasTextsOf, NamesFail};
     ghost use Rattle.snmp_tools.specs.private.Planned.{ask_words, plan_of};
 
-    /// What the words ask for, by the names of a tree.
+    /// Returns the plan of `job`, whose names are looked up in `tree`. `orders` must be those of
+    /// `job`. Fails if a name has no meaning, or if memory runs out.
     pub(crate) fn read(
         alloc: Global,
         job: AskJob<'j, 'a>,
@@ -57,18 +58,18 @@ impl<'j, 'a> Plan<'j, 'a> {
     }
 }
 
-/// What the words say, before any file is read and names are looked up.
+/// The judged arguments of a job: what they say, before any file is read and names are looked up.
 #[derive(Clone, Copy, Debug)]
 pub(crate) struct Orders<'a> {
     /// How lines are shown.
     pub(crate) letters: Letters,
     /// What the letters of `-C` choose.
     pub(crate) choices: Choices,
-    /// The community of requests and of the agent.
+    /// The community of requests, and of an agent in memory.
     pub(crate) community: &'a [u8],
-    /// The greatest size of the agent's messages, in octets.
+    /// The greatest size of a message of an agent in memory, in octets.
     pub(crate) max_size: usize,
-    /// Where the agent is.
+    /// Where the agent is reached.
     pub(crate) agent: AgentAddress<'a>,
     ghost short_community: { length community.now ≤ 255 },
     ghost some_size: { 1 ≤ max_size },
@@ -78,7 +79,8 @@ pub(crate) struct Orders<'a> {
 impl<'a> Orders<'a> {
     ghost use Rattle.snmp_tools.specs.private.Planned.{AreOrdersOf, ask_words};
 
-    /// What the words say before names are looked up.
+    /// Judges the arguments of `job`: the version, the letters of `-O` and of `-C`, the community
+    /// and the agent. Fails at the first that has no meaning, or isn't allowed.
     pub(crate) fn read(job: AskJob<'_, 'a>) -> Result<Orders<'a>, Failure<'a>>
         ensures orders { IfOk result (AreOrdersOf (ask_words job.entry)) }
         ensures refused { (files : Holdings)
@@ -103,9 +105,9 @@ impl<'a> Orders<'a> {
 /// A Get of names, or a walk.
 #[derive(Debug, Drop)]
 pub(crate) enum Question<'j, 'a> {
-    /// The names.
+    /// A Get of these names.
     Get(Names<'j, 'a>),
-    /// The walk.
+    /// A walk.
     Walk(Walk<'a>),
 }
 
@@ -113,7 +115,7 @@ impl<'j, 'a> Question<'j, 'a> {
     ghost use Rattle.snmp_tools.specs.private.Planned.{HasTextsOf, NamesFail, chosen, question_of};
     ghost use Rattle.snmp_tools.specs.private.Planned.{request_of};
 
-    /// Whether the number of bindings is printed after them.
+    /// Returns whether the number of bindings is printed after their lines.
     pub(crate) fn counts(&self) -> bool
         ensures { result ≡ counts_in (question_of self.now) }
     {
@@ -123,7 +125,8 @@ impl<'j, 'a> Question<'j, 'a> {
         }
     }
 
-    // What a request asks for, by the names of a tree.
+    // Returns the question of `request`, whose names are looked up in `tree`. `choices` must be
+    // those of its letters of `-C`. Fails if a name has no meaning, or if memory runs out.
     fn read(
         alloc: Global,
         request: Request<'j, 'a>,
@@ -166,9 +169,9 @@ impl<'j, 'a> Question<'j, 'a> {
 /// The names of a Get.
 #[derive(Debug, Drop)]
 pub(crate) struct Names<'j, 'a> {
-    /// The texts that state them, in order.
+    /// The arguments that they come from, in order.
     pub(crate) texts: &'j [&'a str],
-    /// The names, each at its text's place.
+    /// The identifiers: `oids[i]` is what `texts[i]` means.
     pub(crate) oids: Vec<Oid>,
     ghost one_each: { length oids.items ≡ length texts.now },
 }
@@ -176,22 +179,22 @@ pub(crate) struct Names<'j, 'a> {
 /// A walk.
 #[derive(Debug, Drop)]
 pub(crate) struct Walk<'a> {
-    /// The text of the root's name.
+    /// The root's name, as it was passed, or `MIB_2`.
     pub(crate) root_text: &'a str,
     /// The root of the subtree.
     pub(crate) root: Oid,
-    /// The text of the name after which the walk goes on; empty if none is given.
+    /// The name after which the walk continues, as it was passed; empty if none was.
     pub(crate) after_text: &'a str,
-    /// The name after which the walk goes on, if one is given.
+    /// The name after which the walk continues, if one was passed.
     pub(crate) after: Option<Oid>,
-    /// What it gives besides the instances below the root.
+    /// What the walk returns besides the instances below the root.
     pub(crate) mode: Mode,
-    /// The requests by which it asks for instances.
+    /// The requests with which the walk asks for instances.
     pub(crate) method: Method,
-    /// Whether the number of bindings is printed after them.
+    /// Whether the number of bindings is printed after their lines.
     pub(crate) counts: bool,
     ghost good_method: { IsMethod method } by { IsMethod-prop method },
 }
 
-/// The root of a walk where no name is given: `mib-2` (RFC 1213).
+/// The root of a walk if no name is given: `mib-2` (RFC 1213).
 const MIB_2: &str = "1.3.6.1.2.1";

@@ -1,5 +1,5 @@
-//! A job that asks an agent: its words are judged, its names looked up, its agent reached, and its
-//! lines printed.
+//! A job that asks an agent: judges its arguments, loads its module files, looks up its names,
+//! reaches the agent, and prints the lines of the answer.
 ghost use Rattle.std.specs.Prelude.{◌≡◌};
 ghost use Rattle.snmp_io.specs.{Files.MayHold, Output.Stream};
 ghost use Rattle.snmp_tools.specs.{Answer.end_in_memory, Message.outcome_of, load.Loaded.IsMibOf};
@@ -24,7 +24,8 @@ use snmp_net::{AgentAddress, Links};
 use snmp_walk::{MemoryLink, SinkFault, WalkEnd, instances_below};
 use std::alloc::Global;
 
-/// Asks an agent and prints the lines of its answer, after the warnings of the modules on `err`.
+/// Asks an agent and prints the lines of its answer. Before it asks, it writes the warnings of the
+/// modules to `err`. Fails if not all of this was done; the error says why.
 pub(crate) fn ask<'a, F: ModuleLoader<E>, L: Links, O: Output, E: Messages>(
     alloc: Global,
     job: AskJob<'_, 'a>,
@@ -43,7 +44,8 @@ pub(crate) fn ask<'a, F: ModuleLoader<E>, L: Links, O: Output, E: Messages>(
     ask_by(alloc, job, orders, &tree, files, links, out)
 }
 
-/// Asks an agent and prints the lines of its answer, by the names and types of a tree.
+/// Does what is left of [`ask`] once the modules are loaded into `tree`: asks the agent and prints
+/// the lines of its answer, by the names and types of `tree`.
 fn ask_by<'a, F: Files, L: Links, O: Output>(
     alloc: Global,
     job: AskJob<'_, 'a>,
@@ -90,7 +92,8 @@ fn ask_by<'a, F: Files, L: Links, O: Output>(
     }
 }
 
-/// How a run over a link in memory ended: such a link fails only where memory runs out.
+/// Returns how a run over a link in memory ended: `end`, except that `Link` becomes a lack of
+/// memory. Such a link fails only if memory runs out.
 fn end_in_memory(end: WalkEnd) -> WalkEnd
     ensures { result ≡ end_in_memory end }
 {
@@ -100,8 +103,8 @@ fn end_in_memory(end: WalkEnd) -> WalkEnd
     }
 }
 
-/// Prints what follows the lines of a run, which is the number of bindings if the words ask for it,
-/// or returns why it ended early.
+/// Prints what follows the lines of a run: the number of bindings, if the arguments ask for it.
+/// Fails if that fails, or if the run ended early; the error says why.
 fn finish<'a, O: Output>(
     end: WalkEnd,
     plan: &Plan<'_, 'a>,

@@ -1,4 +1,4 @@
-//! Modules and a table are read, and the table is served at a UDP port.
+//! The job of snmpd: reads module files and a table file, and serves the table at a UDP port.
 ghost use Rattle.std.specs.Prelude.{◌≡◌, ◌≤◌, IfErr, IfOk, OnOk, length};
 ghost use Rattle.snmp_io.specs.{Files.Holdings, Output.Stream};
 ghost use Rattle.snmp_net.specs.Address.{IsHostAndPort};
@@ -21,12 +21,12 @@ use snmp_walk::WalkEnd;
 use snmp_words::ServeJob;
 use std::alloc::{AllocError, Global};
 
-/// Serves the table of a file as the words of snmpd ask, by the names of its module files: prints
-/// where requests are received, serves the turns, and prints how many requests were replied to and
-/// how many dropped.
+/// Serves a table file as the arguments of snmpd ask, with names by its module files. Prints where
+/// requests are received, serves the turns, and prints how many requests were replied to and how
+/// many dropped. Fails if not all of this was done; the error says why.
 ///
-/// The words, then the module files and then the table file are judged before a socket is opened.
-/// Warnings of the modules go to `err`; an `err` that fails changes nothing else.
+/// Before a socket is opened, the arguments are judged, then the module files and then the table
+/// file. Warnings about the modules go to `err`. If a write to `err` fails, nothing else changes.
 pub(crate) fn serve_table<'a, F: ModuleLoader<E>, L: Links, O: Output, E: Messages>(
     alloc: Global,
     job: &ServeJob<'a>,
@@ -45,7 +45,8 @@ pub(crate) fn serve_table<'a, F: ModuleLoader<E>, L: Links, O: Output, E: Messag
     serve_by(alloc, job, place, &tree, files, links, out)
 }
 
-// Where requests are received, where the community is short enough.
+// Returns the address at which requests are received. Fails if the community has more than 255
+// octets, or if the argument of `--listen` isn't a valid address.
 fn place_of<'a>(job: &ServeJob<'a>) -> Result<UdpAddress<'a>, Failure<'a>>
     ensures short_community { OnOk result (length job.now.community.now ≤ 255) }
     ensures place { IfOk result (λ place.
@@ -62,8 +63,8 @@ fn place_of<'a>(job: &ServeJob<'a>) -> Result<UdpAddress<'a>, Failure<'a>>
     }
 }
 
-// Serves the table of the words' file at a place, by the names of a tree. The file is read before a
-// socket is opened there.
+// Serves the table file at the address `place`, with names by `tree`. The file is read before a
+// socket is opened.
 fn serve_by<'a, F: Files, L: Links, O: Output>(
     alloc: Global,
     job: &ServeJob<'a>,
@@ -87,7 +88,8 @@ fn serve_by<'a, F: Files, L: Links, O: Output>(
     serve_at(alloc, job, &mut door, &table, links, out)
 }
 
-// Serves a table at a door, once, after the line that says where.
+// Prints the line that says where requests are received, serves `table` at `door` for the turns of
+// `job`, and prints the line of the counts.
 fn serve_at<'a, L: Links, O: Output>(
     alloc: Global,
     job: &ServeJob<'a>,
@@ -113,7 +115,7 @@ fn serve_at<'a, L: Links, O: Output>(
     print_text(&counts, out)
 }
 
-// The line that says where requests are received.
+// Returns the line that says where requests are received. `word` is the argument of `--listen`.
 fn listening_line(alloc: Global, word: &str) -> Result<Vec<u8>, AllocError>
     ensures { IfOk result (λ text. text.items ≡ listening_line word.now) }
 {
@@ -126,7 +128,7 @@ fn listening_line(alloc: Global, word: &str) -> Result<Vec<u8>, AllocError>
     Ok(text)
 }
 
-// The line that says what was served.
+// Returns the line that says how many requests were replied to, and how many dropped.
 fn counts_line(alloc: Global, served: &Served) -> Result<Vec<u8>, AllocError>
     ensures { IfOk result (λ text. text.items ≡ counts_line served.now) }
 {

@@ -1,4 +1,4 @@
-//! The table that a file states, and the names in it, by the nodes of a tree.
+//! Reads a table file, whose names are looked up in the tree of the modules.
 ghost use Rattle.std.specs.Prelude.{◌≡◌, ◌⊎◌, IfErr, IfOk};
 ghost use Rattle.snmp_tools.specs.Message.{fault_of, out_of_memory};
 ghost use Rattle.snmp_tools.specs.serve.TableFile.{AreNamesIn, HasTable, TableFails, names_in};
@@ -13,7 +13,8 @@ use snmp_io::{FileFault, Files};
 use snmp_oid::Oid;
 use std::alloc::Global;
 
-/// The table that the file at a path states, by the names of a tree.
+/// Returns the table that the file at `path` defines, with names by `tree`. Fails if the file
+/// can't be read, at its first line with a fault, or if memory runs out.
 pub(crate) fn table_at<'a, F: Files>(
     alloc: Global,
     tree: &Tree,
@@ -37,7 +38,7 @@ pub(crate) fn table_at<'a, F: Files>(
     }
 }
 
-/// The names that texts have by a tree.
+/// Looks up the names of a table file in a tree.
 #[derive(Drop)]
 struct TreeNames<'a> {
     tree: &'a Tree,
@@ -54,7 +55,7 @@ impl<'a> Resolver for TreeNames<'a> {
         let mut oid = Oid::new();
         match resolve_front_into(self.tree, text, b'|', &mut oid) {
             Ok(size) => {
-                // The contract of `as_slice` says that it is an identifier.
+                // For the proof: the contract of `as_slice` says that `oid` is an identifier.
                 let _ = oid.as_slice();
                 Some((oid, size))
             }
@@ -63,7 +64,9 @@ impl<'a> Resolver for TreeNames<'a> {
     }
 }
 
-/// The names that are looked up are those that texts mean.
+/// Of the names in a table file, `names_in` says what their texts mean by the tree.
+///
+/// A law: the call does nothing, and its caller may use what it ensures.
 pub(crate) fn names_are_meant()
     ensures { (tree : Contents) → AreNamesIn tree (names_in tree) }
 {

@@ -1,8 +1,8 @@
-//! The job of snmptranslate: each name is printed as the letters of `-O` say, or with its details,
-//! by the names of module files.
+//! The job of snmptranslate: prints names as the letters of `-O` say, or their details, by the
+//! modules of its module files.
 //!
-//! Built on the words, on module files and on names and details as text. The module `job` calls it,
-//! and reports what failed.
+//! Built on the command line, on module files, and on names and details as text. The module `job`
+//! calls it, and reports what failed.
 ghost use Rattle.snmp_words.specs.Words.{translate_words, texts_at};
 ghost use Rattle.snmp_tools.specs.{Message.outcome_of, translate.Outcome.IsTranslateOutcome};
 ghost use Rattle.snmp_tools.specs.{Message.fault_of, translate.Text.IsShown};
@@ -26,12 +26,12 @@ use snmp_oid::Oid;
 use snmp_words::TranslateJob;
 use std::alloc::{AllocError, Global};
 
-/// Prints names as the words of snmptranslate ask: each name's text by the letters of `-O` and a
-/// newline, or with `-Td` its details, in order, by the names of the module files. The first name
-/// that has no meaning ends it, after the texts of those before it.
+/// Prints the names of `job` in order, by the modules of its module files: of each name the text
+/// that the letters of `-O` ask for and a newline, or with `-Td` its details. Fails at the first
+/// name that has no meaning, after printing the names before it.
 ///
-/// The letters and then the module files are judged before anything is printed. Warnings of the
-/// modules go to `err`; an `err` that fails changes nothing else.
+/// Before anything is printed, the letters are judged, and then the module files. Warnings about
+/// the modules go to `err`. If a write to `err` fails, nothing else changes.
 pub(crate) fn translate<'a, F: ModuleLoader<E>, O: Output, E: Messages>(
     alloc: Global,
     job: &TranslateJob<'a>,
@@ -58,7 +58,8 @@ pub(crate) struct Style {
 }
 
 impl Style {
-    /// What the letters of `-O` and of `-T` say.
+    /// Returns what the letters of `-O` and of `-T` say. Fails at the first octet that has no
+    /// meaning.
     pub(crate) fn read<'a>(job: &TranslateJob<'a>) -> Result<Style, Failure<'a>>
         ensures style { IfOk result (IsStyleOf (translate_words job.now)) }
         ensures refused { (files : Holdings) → IfErr result (λ e.
@@ -75,7 +76,8 @@ impl Style {
     }
 }
 
-// Whether the letters of `-T` ask for details. The error is the first octet that is not their `d`.
+// Returns whether the letters of `-T` ask for details: whether there are any, since their only
+// letter is `d`. The error is the first octet that isn't `d`.
 fn asks_details(text: &[u8]) -> Result<bool, u8>
     ensures asked { IfOk result (λ details. details ≡ has_letter 100 text.now) }
     ensures all_are_letters { OnOk result (first_other_of_t text.now ≡ None) }

@@ -1,4 +1,4 @@
-//! Why the modules of files can't be had.
+//! Why module files can't be loaded.
 ghost use Rattle.std.specs.Prelude.{◌≡◌, ◌++◌, codes, decimal};
 ghost use Rattle.snmp_io.specs.Draft.{Adds};
 ghost use Rattle.snmp_tools.specs.load.Message.{at_line, fault_text, refusal_of, refusal_text};
@@ -9,13 +9,13 @@ use snmp_io::Draft;
 use std::alloc::AllocError;
 use thiserror::Error;
 
-/// Why the modules of files can't be had, with the path of the file.
+/// Why module files can't be loaded, with the path of the first file that can't.
 #[derive(Clone, Copy, Debug, Error)]
 pub enum FilesError<'a> {
-    /// The file can't be read.
+    /// The file at this path can't be read.
     #[error("{0}: cannot be read")]
     Unreadable(&'a str),
-    /// The text of the file is refused as a whole.
+    /// The text of the file at this path has this fault, and is refused as a whole.
     #[error("{0}: {1}")]
     Text(&'a str, ParseError),
     /// Memory ran out.
@@ -32,7 +32,8 @@ impl From<AllocError> for FilesError<'_> {
 }
 
 impl FilesError<'_> {
-    /// Appends the message: the path, the line where there is one, and what is wrong.
+    /// Appends the message: the path and the number of the line, if there are any, and what is
+    /// wrong.
     pub fn message(&self, draft: &mut Draft)
         ensures { Adds draft.old (refusal_text (refusal_of self.now)) draft.new }
     {
@@ -44,7 +45,7 @@ impl FilesError<'_> {
     }
 }
 
-/// Appends that the file at a path can't be read.
+/// Appends the message that the file at `path` can't be read.
 pub(crate) fn unreadable_text(path: &str, draft: &mut Draft)
     ensures { Adds draft.old (path.now ++ codes ": cannot be read") draft.new }
 {
@@ -52,7 +53,7 @@ pub(crate) fn unreadable_text(path: &str, draft: &mut Draft)
     draft.octets(b": cannot be read");
 }
 
-// Appends the path of a file, and what is wrong with its text.
+// Appends the message about a fault in the text of the file at `path`.
 fn fault_text(path: &str, fault: &ParseError, out: &mut Draft)
     ensures { Adds out.old (fault_text path.now fault.now) out.new }
 {
@@ -65,7 +66,8 @@ fn fault_text(path: &str, fault: &ParseError, out: &mut Draft)
     }
 }
 
-/// Appends the path of a file, a line of it, and what is wrong there.
+/// Appends the message about line `line` of the file at `path`: the path, the number of the line,
+/// and `what` is wrong there.
 pub(crate) fn at_line(path: &str, line: usize, what: &[u8], draft: &mut Draft)
     ensures { Adds draft.old (at_line path.now line what.now) draft.new }
 {

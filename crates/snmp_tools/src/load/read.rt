@@ -1,4 +1,4 @@
-//! The modules of files, one file after the other.
+//! Reads the modules of files, one file after the other.
 ghost use Rattle.std.specs.Prelude.{◌≡◌, ◌⊎◌, ℕ, List, IfErr, IfOk};
 ghost use Rattle.snmp_tools.specs.load.Files.{texts, AreModulesIn, AreModulesOf, FileFails};
 ghost use Rattle.snmp_tools.specs.load.Files.{IsFilesRefusal, no_memory};
@@ -11,8 +11,9 @@ use smi_text::{Module, ParseError, one_module_list, one_token_list, parse_module
 use snmp_io::{FileFault, Files};
 use std::alloc::Global;
 
-/// Reads the modules of files (RFC 2578, section 3), one file after the other. The first file that
-/// can't be read, or whose text has a fault anywhere, is the error.
+/// Reads the modules of the files at `paths` (RFC 2578, section 3), one file after the other.
+/// Fails at the first file that can't be read or whose text has a fault anywhere, or if memory
+/// runs out.
 pub fn read_modules<'a, F: Files>(
     alloc: Global,
     files: &F,
@@ -35,7 +36,7 @@ pub fn read_modules<'a, F: Files>(
     Ok(modules)
 }
 
-// The modules of the file at a path.
+// Reads the modules of the file at `path`.
 fn modules_in<'a, F: Files>(
     alloc: Global,
     files: &F,
@@ -60,7 +61,9 @@ fn modules_in<'a, F: Files>(
     }
 }
 
-/// Files that are known to hold texts have one list of modules at most.
+/// If it is known that files hold the modules `ms`, they can't hold other modules.
+///
+/// A law: the call does nothing, and its caller may use what it ensures.
 #[tactic(auto, using(crate::proofs::ModuleLists::one_list))]
 pub fn one_list_of_modules()
     ensures { (files : Holdings) (paths : List (List ℕ)) (ms ns : List Tree)

@@ -1,4 +1,4 @@
-//! Warnings of modules that are loaded, as lines of text.
+//! Warnings about loaded modules, as lines of text.
 ghost use Rattle.std.specs.Prelude.{◌≡◌, ◌++◌, IfOk, codes};
 ghost use Rattle.snmp_io.specs.Draft.{Adds};
 ghost use Rattle.snmp_tools.specs.load.Warned.{symbol, warning_line, warning_lines};
@@ -9,7 +9,7 @@ use smi_text::Text;
 use snmp_io::Draft;
 use std::alloc::{AllocError, Global};
 
-/// The lines of warnings, in order.
+/// Returns the lines of `warnings`, in order. Fails only if memory runs out.
 pub(crate) fn warning_lines(alloc: Global, warnings: &[Warning]) -> Result<Vec<u8>, AllocError>
     ensures { IfOk result (λ text. text.items ≡ warning_lines warnings.now) }
 {
@@ -38,7 +38,7 @@ fn warning_line(warning: &Warning, draft: &mut Draft)
     draft.octets(b"\n");
 }
 
-// Appends what a warning says.
+// Appends the text of a warning, without the rest of its line.
 fn warning_text(warning: &Warning, draft: &mut Draft)
     ensures { Adds draft.old (warning_text warning.now) draft.new }
 {
@@ -54,7 +54,7 @@ fn warning_text(warning: &Warning, draft: &mut Draft)
     }
 }
 
-// Appends that an earlier module has the same name.
+// Appends that an earlier module has the name `home` too.
 fn double_module(home: &[u8], draft: &mut Draft)
     ensures { Adds draft.old (home.now ++ codes " is loaded twice") draft.new }
 {
@@ -62,7 +62,7 @@ fn double_module(home: &[u8], draft: &mut Draft)
     draft.octets(b" is loaded twice");
 }
 
-// Appends that the module after FROM is not loaded.
+// Appends that the module `from`, from which `home` imports, isn't loaded.
 fn missing_module(home: &[u8], from: &[u8], draft: &mut Draft)
     ensures { Adds draft.old (home.now ++ codes " imports from " ++ from.now
         ++ codes ", which is not loaded") draft.new }
@@ -73,7 +73,7 @@ fn missing_module(home: &[u8], from: &[u8], draft: &mut Draft)
     draft.octets(b", which is not loaded");
 }
 
-// Appends that the module after FROM has no such symbol.
+// Appends that the module `from` has no `name`, which `home` imports from it.
 fn missing_import(home: &Text, name: &Text, from: &Text, draft: &mut Draft)
     ensures { Adds draft.old (home.now ++ codes " imports " ++ name.now ++ codes " from "
         ++ from.now ++ codes ", which has no " ++ name.now) draft.new }
@@ -87,7 +87,7 @@ fn missing_import(home: &Text, name: &Text, from: &Text, draft: &mut Draft)
     draft.octets(name.as_bytes());
 }
 
-// Appends a definition by its module and label, and what is wrong with it.
+// Appends the module and the label of a definition, and `what` is wrong with it.
 fn of_symbol(home: &Text, label: &Text, what: &[u8], draft: &mut Draft)
     ensures { Adds draft.old (symbol home.now label.now ++ what.now) draft.new }
 {

@@ -14,13 +14,13 @@ use snmp_walk::{Method, Mode};
 /// What the letters of `-C` choose.
 #[derive(Clone, Copy, Debug)]
 pub(crate) struct Choices {
-    /// The root's own instance comes first, if there is one.
+    /// Whether the root's own instance comes first, if there is one (`i`).
     pub(crate) includes_root: bool,
-    /// No last Get of the root is sent where nothing is below it.
+    /// Whether a walk that finds nothing below the root ends without a Get of the root (`I`).
     pub(crate) leaves_last_get: bool,
-    /// The number of bindings is printed after their lines.
+    /// Whether the number of bindings is printed after their lines (`p`).
     pub(crate) counts: bool,
-    /// How many instances one request asks for, 1 to 2147483647.
+    /// The number of instances that a GetBulk asks for, 1 to 2147483647 (`r`).
     pub(crate) repetitions: u32,
     ghost some_repetitions: { 1 ≤ repetitions },
     ghost few_repetitions: { repetitions ≤ 2147483647 },
@@ -29,8 +29,8 @@ pub(crate) struct Choices {
 impl Choices {
     ghost use Rattle.snmp_tools.specs.private.Planned.{chosen, request_of};
 
-    /// What the letters of `-C` choose, where a request has any. The error is the first octet that
-    /// has no meaning.
+    /// Returns what the letters of `-C` of `request` choose; for a Get, which has none, the
+    /// defaults. The error is the first octet that has no meaning.
     pub(crate) fn of(request: Request<'_, '_>) -> Result<Choices, u8>
         ensures { MatchResult result (λ c. HasChosen (request_of request.entry) (chosen c))
             (HasUnknown (request_of request.entry)) }
@@ -41,7 +41,7 @@ impl Choices {
         }
     }
 
-    /// The choices before any letter.
+    /// Returns the defaults: what applies if `-C` isn't used.
     fn none() -> Choices
         ensures { chosen result ≡ no_choices }
     {
@@ -53,8 +53,8 @@ impl Choices {
         }
     }
 
-    // Reads the letters of `-C`, for snmpbulkwalk or for snmpwalk. The error is the first octet
-    // that has no meaning.
+    // Returns what the letters of `-C` choose, for snmpbulkwalk if `bulk`, otherwise for snmpwalk.
+    // The error is the first octet that has no meaning.
     fn read(letters: &str, bulk: bool) -> Result<Choices, u8>
         ensures { MatchResult result (λ c. HaveChosen bulk letters.now (chosen c))
             (IsFirstUnknown bulk letters.now) }
@@ -71,7 +71,9 @@ impl Choices {
         Ok(choices)
     }
 
-    // The choices after a letter with the digits after it.
+    // Returns the choices after one letter more, which `digits` follow. `digits` must be digits.
+    // The error is the octet that has no meaning: the letter, or the first of the digits if the
+    // letter has a meaning only without digits.
     fn after(self, letter: u8, digits: &[u8], bulk: bool) -> Result<Choices, u8>
         requires { list_all is_ascii_digit digits.now ≡ true }
         ensures { MatchResult result
@@ -96,7 +98,7 @@ impl Choices {
         }
     }
 
-    /// What the walk gives besides the instances below its root.
+    /// Returns the mode: what the walk returns besides the instances below its root.
     pub(crate) fn mode(self) -> Mode
         ensures { result ≡ mode_of (chosen self) }
     {
@@ -109,7 +111,8 @@ impl Choices {
         }
     }
 
-    /// The requests by which the walk asks for instances.
+    /// Returns the requests with which the walk asks for instances: GetBulk if `bulk`, otherwise
+    /// GetNext.
     pub(crate) fn method(self, bulk: bool) -> Method
         ensures method { result ≡ method_of bulk (chosen self) }
         ensures lawful { IsMethod result }
@@ -122,7 +125,7 @@ impl Choices {
     }
 }
 
-/// How many digits are at the front of a text.
+/// Returns how many digits `text` begins with.
 fn front_digits(text: &[u8]) -> usize
     ensures within { result ≤ length text.now }
     ensures digits { list_all is_ascii_digit (take result text.now) ≡ true }
@@ -137,7 +140,8 @@ fn front_digits(text: &[u8]) -> usize
     text.len()
 }
 
-/// The number of repetitions that digits state.
+/// Returns the number that `digits` spell, or `None` if it can't be a number of repetitions, which
+/// is 1 to 2147483647. `digits` must be digits.
 fn repetitions(digits: &[u8]) -> Option<u32>
     requires { list_all is_ascii_digit digits.now ≡ true }
     ensures { MatchOption result ((n : ℕ) → AreRepetitions digits.now n → ⊥)

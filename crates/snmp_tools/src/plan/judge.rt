@@ -1,4 +1,4 @@
-//! How the words that each job that asks an agent has are judged.
+//! Judges the arguments that all jobs which ask an agent have.
 ghost use Rattle.std.specs.Prelude.{◌≡◌, ◌≤◌, codes, length, IfErr, IfOk};
 ghost use Rattle.std.specs.Prelude.{string_bytes};
 ghost use Rattle.snmp_words.specs.Words.{asking_words};
@@ -11,7 +11,8 @@ use smi_show::Letters;
 use snmp_net::AgentAddress;
 use snmp_words::Asking;
 
-/// What the version and the letters of `-O` say: how lines are shown.
+/// Returns how lines are shown: what the letters of `-O` say. Fails if the version isn't 2c, or at
+/// the first octet of the letters that has no meaning.
 pub(super) fn read_shown<'a>(asking: &Asking<'a>) -> Result<Letters, Failure<'a>>
     ensures version { IfOk result (λ _. asking.now.protocol.now ≡ codes "2c") }
     ensures letters { IfOk result (AreShown (string_bytes asking.now.letters)) }
@@ -26,7 +27,8 @@ pub(super) fn read_shown<'a>(asking: &Asking<'a>) -> Result<Letters, Failure<'a>
     }
 }
 
-/// What the community and the agent's word say: where the agent is.
+/// Returns where the agent is reached: what AGENT says. Fails if the community has more than 255
+/// octets, or if AGENT isn't a valid address.
 pub(super) fn read_agent<'a>(asking: &Asking<'a>) -> Result<AgentAddress<'a>, Failure<'a>>
     ensures community { IfOk result (λ _. length asking.now.community.now ≤ 255) }
     ensures agent { IfOk result (λ agent. HasAgent asking.now.agent.now (address_of agent)) }

@@ -1,4 +1,4 @@
-//! What the words of a job that asks an agent ask for.
+//! The arguments of a job that asks an agent, by one type for snmpget, snmpwalk and snmpbulkwalk.
 ghost use Rattle.std.specs.Prelude.{◌≡◌};
 ghost use Rattle.snmp_words.specs.Words.{get_words, walk_words};
 ghost use Rattle.snmp_tools.specs.{private.Planned.ask_words, Question.of_get, Question.of_walk};
@@ -8,32 +8,32 @@ use snmp_words::{Asking, GetJob, WalkJob};
 /// A job that asks an agent.
 #[derive(Clone, Copy, Debug)]
 pub(crate) struct AskJob<'j, 'a> {
-    /// The agent, by which messages it is asked, and how the replies are shown.
+    /// The agent to ask, the messages to ask it with, and how the replies are shown.
     pub(crate) asking: &'j Asking<'a>,
-    /// What is to be asked.
+    /// What to ask for.
     pub(crate) request: Request<'j, 'a>,
 }
 
-/// What is to be asked of an agent.
+/// What to ask an agent for. Each text is as it was passed.
 #[derive(Clone, Copy, Debug)]
 pub(crate) enum Request<'j, 'a> {
-    /// The instances of names.
+    /// The instances of these names.
     Get(&'j [&'a str]),
     /// The instances below a name.
     Walk {
-        /// By GetBulk, many at a time.
+        /// Whether GetBulk asks for many instances at a time, instead of GetNext for one.
         bulk: bool,
         /// The letters of `-C`.
         letters: &'j str,
-        /// The name after which the walk goes on, of `--after`.
+        /// The name after which the walk continues (`--after`), if one is given.
         after: Option<&'a str>,
-        /// The name of the walk's root.
+        /// The name of the walk's root, if one is given.
         name: Option<&'a str>,
     },
 }
 
 impl<'j, 'a> AskJob<'j, 'a> {
-    /// The job of snmpget.
+    /// Returns the job of snmpget.
     pub(crate) fn of_get(get: &'j GetJob<'a>) -> AskJob<'j, 'a>
         ensures { ask_words result ≡ of_get (get_words get.now) }
     {
@@ -43,7 +43,7 @@ impl<'j, 'a> AskJob<'j, 'a> {
         }
     }
 
-    /// The job of snmpbulkwalk, or of snmpwalk.
+    /// Returns the job of snmpbulkwalk if `bulk`, otherwise of snmpwalk.
     pub(crate) fn of_walk(bulk: bool, walk: &'j WalkJob<'a>) -> AskJob<'j, 'a>
         ensures { ask_words result ≡ of_walk bulk (walk_words walk.now) }
     {

@@ -1,5 +1,5 @@
-//! Lines on an output: one for each binding of a walk or a Get, as its reply comes, and the count
-//! after them.
+//! Lines on an output: one for each binding of a walk or a Get, written when its reply arrives,
+//! and the count after them.
 ghost use Rattle.std.specs.Prelude.{◌≡◌, ◌+◌, ◌++◌, IfErr, IfOk, OnErr, OnOk};
 ghost use Rattle.snmp_io.specs.Output.{FailsWithin, extended};
 ghost use Rattle.snmp_tools.specs.Lines.{ArePrinted, IsTextPrinted, count_line, TakesLine};
@@ -18,12 +18,13 @@ use snmp_walk::{Link, Rows, Sink, SinkFault, WalkEnd};
 use snmp_wire::{Binding, ValueRef};
 use std::alloc::AllocError;
 
-/// What writes the lines of bindings, by the names and types of a tree and the letters of `-O`.
+/// A sink that writes the line of each binding, by the names and types of a tree and the letters
+/// of `-O`.
 #[derive(Drop)]
 pub(crate) struct Printer<'a, O: Output> {
     writer: LineWriter<'a>,
     letters: Letters,
-    // The lines of a reply until they are written. The buffer is used again for the next reply.
+    // The lines of a reply, until they are written. The buffer is used again for the next reply.
     text: &'a mut Vec<u8>,
     out: &'a mut O,
 }
@@ -45,8 +46,8 @@ impl<O: Output> Sink for Printer<'_, O> {
         write_lines(self.out, self.text.as_slice())
     }
 
-    // All lines of a reply are written at once. Their buffer needs no more room than a single line
-    // may: a reply may be one long binding.
+    // Writes all lines of a reply at once. Their buffer needs no more room than a single line may
+    // need, since a reply may also be one long binding.
     fn rows(&mut self, mut rows: Rows<'_>) -> Result<(), SinkFault> {
         let mut binding = Binding {
             name: Oid::new(),
@@ -77,8 +78,10 @@ impl<O: Output> Sink for Printer<'_, O> {
     }
 }
 
-/// Asks the question of a plan over a link, whose bindings become lines on the output. `text` is
-/// the memory for a line.
+/// Asks the question of `plan` over `link`, and writes the line of each binding to `out`. Returns
+/// how that ended. `text` is a buffer for the lines.
+///
+/// Fails as `run_plan` does. Then nothing is sent or written.
 pub(crate) fn print_lines<'a, L: Link, O: Output>(
     link: &mut L,
     plan: &Plan<'_, 'a>,
@@ -113,7 +116,7 @@ pub(crate) fn print_lines<'a, L: Link, O: Output>(
     Ok(end)
 }
 
-/// Prints the number of bindings that were found. `text` is the memory for the line.
+/// Prints the line that says how many bindings were found. `text` is a buffer for it.
 pub(crate) fn print_count<'a, O: Output>(
     count: u64,
     text: &mut Vec<u8>,
@@ -127,14 +130,14 @@ pub(crate) fn print_count<'a, O: Output>(
     print_text(text.as_slice(), out)
 }
 
-/// Prints a text, or a front of it where the output fails.
+/// Prints `text`. If the output fails, fails too, and has printed a prefix of `text`.
 pub(crate) fn print_text<'a, O: Output>(text: &[u8], out: &mut O) -> Result<(), Failure<'a>>
     ensures { IsTextPrinted (O.stream out.old) text.now (O.stream out.new) (outcome_of result) }
 {
     write_all(out, text).map_err(|_| Failure::Output)
 }
 
-/// Writes lines, or a front of them where the output fails.
+/// Writes `lines`. If the output fails, fails too, and has written a prefix of them.
 fn write_lines<O: Output>(out: &mut O, lines: &[u8]) -> Result<(), SinkFault>
     ensures whole_at_ok { OnOk result (O.stream out.new ≡ extended (O.stream out.old) lines.now) }
     ensures front_at_fault { IfErr result (λ fault. (fault ≡ SinkFault.Output)

@@ -1,4 +1,4 @@
-//! How the question of a plan is asked: its names must have an encoding.
+//! Asks the question of a plan, if its names can be sent.
 ghost use Rattle.std.specs.Prelude.{◌≡◌, ◌≤◌, ◌+◌, IfErr, IfOk, OnErr, OnOk, length};
 ghost use Rattle.snmp_oid.specs.Identifier.{IsWire, wire};
 ghost use Rattle.snmp_walk.specs.{Facts.IsFresh, Ordered.IsUnsendable, Ran.IsRun};
@@ -15,8 +15,11 @@ use snmp_walk::{Link, Sink, StartError, WalkCore, WalkEnd, run_get, run_walk};
 /// The id of the first request.
 const FIRST_ID: u32 = 1;
 
-/// Asks the question of a plan over a link, whose bindings are given to a sink. Where it has no
-/// names, nothing is asked. A failure has the text of the first name that can't be asked for.
+/// Asks the question of `plan` over `link`, and gives the bindings to `sink`. Returns how that
+/// ended. A Get without names sends nothing.
+///
+/// Fails before anything is sent if a name has no encoding, or if the name of `--after` is neither
+/// the root nor below it. The error holds the argument of the first such name.
 pub(crate) fn run_plan<'a, L: Link, S: Sink>(
     link: &mut L,
     plan: &Plan<'_, 'a>,
@@ -45,7 +48,7 @@ pub(crate) fn run_plan<'a, L: Link, S: Sink>(
     }
 }
 
-/// A walk before its first request.
+/// Returns the core of a walk that hasn't sent its first request. Fails as [`run_plan`] does.
 fn start<'a>(walk: &Walk<'a>, community: &[u8]) -> Result<WalkCore, Failure<'a>>
     requires { length community.now ≤ 255 }
     ensures ok { IfOk result (λ core. core ≡ first_of community.now (walk_of walk.now)) }
@@ -66,8 +69,8 @@ fn start<'a>(walk: &Walk<'a>, community: &[u8]) -> Result<WalkCore, Failure<'a>>
     }
 }
 
-/// The text of the first name of a walk that can't be sent: the root's, else that after which it
-/// goes on.
+/// Returns the argument of the first name of a walk that can't be sent: the root if that is one,
+/// otherwise the name of `--after`.
 fn unsendable_text<'a>(walk: &Walk<'a>) -> &'a str
     ensures root { IsUnsendable walk.now.root → result ≡ walk.now.root_text }
     ensures after { IsWire (wire walk.now.root) → result ≡ walk.now.after_text }
