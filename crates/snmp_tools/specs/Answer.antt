@@ -1,4 +1,4 @@
--- What a question gives: its rows over a table, and what is known of a run that asks it.
+-- The answer to a question: its rows over a table, and what is known of a run that asks it.
 use Rattle.std.specs.Prelude.{◌≡◌, ◌≢◌, ◌++◌, ℕ, List, [], ◌∷◌, length, Option, Some, None, All}
 use Rattle.snmp_oid.specs.Identifier.{IsWire, wire}
 use Rattle.snmp_agent.specs.{table.Listing.variables, table.Table.IsGet, table.Table.MibView}
@@ -15,12 +15,12 @@ use Rattle.snmp_tools.specs.Question.{Plan, Question, Walk, names, subtree}
 
 -- ---- over a table
 
--- the agent in memory that serves a table
+-- the agent in memory over the table `view`
 abbrev pub agent_over : Plan → MibView → Agents
 agent_over plan view =
     record { tables = view ∷ []; community = plan.community; max_size = plan.max_size }
 
--- the request of a Get, whose id is 1
+-- the request of a Get of the names `os`, with the id 1
 abbrev pub request_for : Plan → List (List ℕ) → Message
 request_for plan os = get_request plan.community 1 os
 
@@ -28,7 +28,7 @@ abbrev pub first_after : Option (List ℕ) → (community : List ℕ) → Walk �
 first_after None community w = started w.root w.mode w.method community 1
 first_after (Some after) community w = resumed w.root after w.method community 1
 
--- the walk before its first request, whose id is 1
+-- the walk before its first request, which has the id 1
 abbrev pub first_of : (community : List ℕ) → Walk → Walker
 first_of community w = first_after w.after community w
 
@@ -37,52 +37,53 @@ AreRowsAfter None w view rows = (got : VarBind) × IsGet view (wire w.root) got
     × (rows ≡ walk_of w.mode w.root got (variables view))
 AreRowsAfter (Some after) w view rows = rows ≡ rest_of w.root (wire after) (variables view)
 
--- The rows that a question gives of a table. Of a Get: what a Get of each name gives, at its name's
--- place. Of a walk: those below the root by rising names, where there are none what a Get of the
--- root gives, and before them the root's own, as the mode says; of one that goes on after a name,
--- those below the root and above that name.
+-- `rows` answers the question from the table `view`. For a Get they are the results for its names,
+-- in the order of the names. For a walk they are the rows below the root, in increasing order of
+-- names. By its mode, a walk also has the root's own row before them, or the result of a Get of
+-- the root if there are none. A walk that continues after a name has only the rows below the root
+-- that come after that name.
 abbrev pub AreRowsOf : Question → MibView → List VarBind → Type 0
 AreRowsOf (names os) view rows = AreGot view os rows
 AreRowsOf (subtree w) view rows = AreRowsAfter w.after w view rows
 
--- the name to go on after is the root or below it, and can be sent
+-- the name to continue after, if there is one, is the root or below it, and can be sent
 abbrev pub CanGoOn : List ℕ → Option (List ℕ) → Type 0
 CanGoOn root None = Unit {0}
 CanGoOn root (Some after) = IsAtOrBelow after root × IsWire (wire after)
 
--- its names can be sent, and a walk can go on after its name
+-- the names of the question can be sent, and a walk can continue after its name
 abbrev pub CanBeSent : Question → Type 0
 CanBeSent (names os) = All (λ o. IsWire (wire o)) os
 CanBeSent (subtree w) = IsWire (wire w.root) × CanGoOn w.root w.after
 
--- There is room: of a Get for the request and the Response, of a walk for each single binding, and
--- there are enough ids.
+-- Messages have enough room: for a Get, room for the request and the Response; for a walk, room
+-- for each single binding. A walk also has enough ids.
 abbrev pub HasRoomFor : Question → Plan → MibView → Type 0
 HasRoomFor (names os) plan view = HasRoomForGet (agent_over plan view) (request_for plan os) os
 HasRoomFor (subtree w) plan view =
     HasRoomForEach (agent_over plan view) view (first_of plan.community w)
     × HasIds (first_of plan.community w) view
 
--- what a question needs besides memory and an output that takes its lines
+-- what a plan needs to be answered in full, besides memory and an output that takes its lines
 pub record IsFeasible (plan : Plan) (view : MibView) : Type 0 where
   pub sendable : CanBeSent plan.question
   pub room : HasRoomFor plan.question plan view
 
 -- ---- over the agent in memory
 
--- all was given, or the output failed, or memory ran out
+-- the run is done, or the output failed, or memory ran out
 abbrev pub IsOwnEnd : WalkEnd → Type 0
 IsOwnEnd (ending.Done count) = Unit {0}
 IsOwnEnd (ending.Sink fault) = Unit {0}
 IsOwnEnd _ = ⊥
 
--- where it is done, the number of bindings that its end states
+-- if the run is done, `n` is the number of bindings in its end
 abbrev pub Counts : WalkEnd → ℕ → Type 0
 Counts (ending.Done count) n = count ≡ n
 Counts _ n = Unit {0}
 
--- why it ended: with an error only where there is no room, or where there are no more ids or no
--- reply
+-- the run has a reason to end with `end`; it ends with an error only if there is no room, there
+-- are no more ids, or there is no reply
 abbrev pub HasReason : Question → Plan → MibView → (given : List VarBind) → WalkEnd → Type 0
 HasReason (names os) plan view given end =
     IsEndOfGet (IsTooBig (agent_over plan view) (request_for plan os) os) ⊥
@@ -91,8 +92,8 @@ HasReason (subtree w) plan view given end =
     IsLawfulEnd (agent_over plan view) (HasNone (agent_over plan view)) (first_of plan.community w)
     given end × Counts end (length given)
 
--- The question of the plan was asked: it gave these rows, was refused the next one or none, and
--- ended in this way.
+-- The question was asked over the table `view`. The sink was given the rows `given`, and refused
+-- the rows `refused`, which are one or none; the run ended with `end`.
 pub record IsAsked (plan : Plan) (question : Question) (view : MibView)
     (given refused : List VarBind) (end : WalkEnd) : Type 0 where
   pub front : (rows : List VarBind) → AreRowsOf question view rows
@@ -100,12 +101,13 @@ pub record IsAsked (plan : Plan) (question : Question) (view : MibView)
   pub whole : (rows : List VarBind) → AreRowsOf question view rows → IsDone end → given ≡ rows
   pub linked : end ≢ ending.Link
   pub reason : HasReason question plan view given end
-  -- where there is room it ends early only where the output fails or memory runs out
+  -- if there is room, it ends early only if the output fails or memory runs out
   pub complete : HasRoomFor question plan view → IsOwnEnd end
 
 -- ---- over any link
 
--- what is known of a run that asks the question over a link
+-- what is known of a run that asks the question over a link, which it takes from the state `link`
+-- to the state `after`
 abbrev pub IsAskedOver : {W : Type 0} → LinkFacts W → (link after : W) → (tries : ℕ) → Plan
     → Question → (given refused : List VarBind) → WalkEnd → Type 0
 IsAskedOver {W} facts link after tries plan (names os) given refused end =
@@ -113,9 +115,9 @@ IsAskedOver {W} facts link after tries plan (names os) given refused end =
 IsAskedOver {W} facts link after tries plan (subtree w) given refused end =
     IsWalkedOver facts link after tries (first_of plan.community w) given refused end
 
--- What is known of a link over which nothing was sent before, and of the run over it. `link` is its
--- state before the run, and `after` the one after it. `Linked` says that it was opened in the first
--- and closed in the second: nothing else happened over it.
+-- What is known of a run over a link over which nothing was sent before. `link` is the state of
+-- the link before the run, and `after` its state after the run. `Linked` says that the link was
+-- opened in the state `link` and closed in the state `after`, so nothing else happened over it.
 pub record HasFacts {W : Type 0} (Linked : (link after : W) → Type 0) (facts : LinkFacts W)
     (tries : ℕ) (plan : Plan) (given refused : List VarBind) (end : WalkEnd) : Type 0 where
   pub link : W
@@ -126,7 +128,7 @@ pub record HasFacts {W : Type 0} (Linked : (link after : W) → Type 0) (facts :
 
 -- ---- for private functions
 
--- How a run over a link in memory ended, computed. Such a link fails only where memory runs out.
+-- How a run over a link in memory ended. Such a link fails only if memory runs out.
 abbrev pub end_in_memory : WalkEnd → WalkEnd
 end_in_memory ending.Link = ending.Sink sink.Memory
 end_in_memory end = end

@@ -1,5 +1,5 @@
--- The steps that jobs over an agent have in common: the words that say how lines are shown, the
--- community, and the agent.
+-- The steps that all jobs which ask an agent have: they judge the version, the letters of -O, the
+-- community and AGENT. Then what it means that module files, a name or the agent fails.
 use Rattle.std.specs.Prelude.{◌≡◌, ◌≢◌, ◌<◌, ◌≤◌, ℕ, List, length, Some, None, Option, Ok, Err}
 use Rattle.std.specs.Prelude.{codes}
 use Rattle.snmp_tools.specs.load.Files.{AreModulesOf, FilesFail, Refusal}
@@ -17,14 +17,14 @@ use Rattle.snmp_tools.specs.Message.{Fault, bad_agent, bad_letter, bad_modules, 
 use Rattle.snmp_tools.specs.Message.{bad_version, long_community}
 use Rattle.smi_tree.specs.{Tree.Contents}
 
--- ---- words before any file is read
+-- ---- arguments, before any file is read
 
--- the words of -O say how lines are shown
+-- all octets of -O, `text`, are letters, and `letters` is what they say: how lines are shown
 pub record AreShown (text : List ℕ) (letters : Letters) : Type 0 where
   pub known : first_other text ≡ None
   pub read : AreLetters text letters
 
--- the word states where the agent is, and nothing else
+-- the argument AGENT, `word`, says that the agent is at `agent`, and nowhere else
 abbrev pub HasAgent : (word : List ℕ) → Address → Type 0
 HasAgent word agent =
     IsAgent word agent × ((other : Address) → IsAgent word other → other ≡ agent)
@@ -35,14 +35,14 @@ pub data AskingStep : Type 0 where
   community_step : AskingStep
   agent_step : AskingStep
 
--- the step is done: what it looks for is there
+-- the step is done: it finds nothing to refuse
 abbrev pub IsAskingDone : AskingWords → AskingStep → Type 0
 IsAskingDone words version_step = words.protocol ≡ codes "2c"
 IsAskingDone words letters_step = (letters : Letters) × AreShown words.letters letters
 IsAskingDone words community_step = length words.community ≤ 255
 IsAskingDone words agent_step = (agent : Address) × HasAgent words.agent agent
 
--- the step fails for this reason
+-- the step fails for the reason `why`
 abbrev pub AskingFails : AskingWords → AskingStep → Fault → Type 0
 AskingFails words version_step why =
     (words.protocol ≢ codes "2c") × (why ≡ bad_version words.protocol)
@@ -54,29 +54,30 @@ AskingFails words agent_step why =
 
 -- ---- module files, names and agents
 
--- the first module file that can't be read, or whose text has a fault
+-- `why` is that of the first module file that can't be read or whose text has a fault; it isn't
+-- known that all files hold modules
 abbrev pub MibsFail : Holdings → (paths : List (List ℕ)) → Fault → Type 0
 MibsFail files paths why =
     (refusal : Refusal) × FilesFail files paths refusal × (why ≡ bad_modules refusal)
     × ((modules : List Module) → AreModulesOf (Holds files) paths modules → ⊥)
 
--- a text that isn't the name of an identifier
+-- the name `text` doesn't mean an identifier, and `why` says so
 abbrev pub NameFails : Contents → List ℕ → Fault → Type 0
 NameFails tree text why =
     (error : NameError) × TextMeans tree text (Err error) × (why ≡ bad_name error text)
 
--- the name that a text states, where there is a text
+-- `name` is the identifier that the text means as a name, or None if there is no text
 abbrev pub IsNameIfGiven : Contents → Option (List ℕ) → Option (List ℕ) → Type 0
 IsNameIfGiven mib None name = name ≡ None
 IsNameIfGiven mib (Some text) name =
     (o : List ℕ) × TextMeans mib text (Ok o) × (name ≡ Some o)
 
--- the agent is over a table that its file states, or over the network
+-- the agent can be reached: its table file defines a table, or it is reached over the network
 abbrev pub IsReached : Holdings → Contents → Address → Type 0
 IsReached files mib (table path) = (view : MibView) × HasTable files mib path view
 IsReached files mib (udp host port) = Unit {0}
 
--- its file can't be read or states no table
+-- the agent can't be reached: its table file can't be read or doesn't define a table
 abbrev pub ReachFails : Holdings → Contents → Address → Fault → Type 0
 ReachFails files mib (table path) why = TableFails files mib path why
 ReachFails files mib (udp host port) why = ⊥

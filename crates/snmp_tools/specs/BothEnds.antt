@@ -1,9 +1,9 @@
--- What a walk or a Get prints of a table file that `snmpd` serves: the words of both, what happened
--- at the two ends of the network between them, and the lines, on one page.
+-- What a walk or a Get prints of a table file that `snmpd` serves: the arguments of both, what
+-- happened at the two ends of the network between them, and the lines, on one page.
 --
--- `tool` promises `IsAskDone` of the words that ask and `IsServeRun` of those of snmpd (`Done`).
--- From both follows `PrintsServed`. Its lines are those of `Headline`, and its premise about the
--- network is `IsFaithful` (snmp_walk).
+-- `tool` promises `IsAskDone` of the arguments that ask, and `IsServeRun` of the arguments of
+-- snmpd (both in `Done`). From both follows `PrintsServed`. Its lines are those of `Headline`, and
+-- its premise about the network is `IsFaithful` (snmp_walk).
 use Rattle.std.specs.Prelude.{◌≡◌, ◌≢◌, ◌≤◌, ◌⊎◌, ◌+◌, ℕ, false, List, [], length, codes, Option}
 use Rattle.std.specs.Prelude.{Some, None}
 use Rattle.std.specs.{List.flat_map, Str.Lines.lines}
@@ -34,10 +34,10 @@ use Rattle.smi_tree.specs.{Tree.Contents}
 
 -- ---- what is asked, and of which table
 
--- The words ask an agent over the network. A command line states those of snmpd, whose file is
--- known to hold a table, and these rows are what the question gives of that table (`AreRowsOf`).
--- Nothing says that the agent is the one at the place of snmpd, nor that the two have a community
--- in common: an agent of another community drops what is asked.
+-- The arguments `words` ask an agent over the network. `serving` is what the arguments of snmpd
+-- say, and its table file is known to define a table. `rows` is the answer to the question from
+-- that table (`AreRowsOf`). Nothing says that the agent is the one at the address of snmpd, or
+-- that both have the same community: an agent of another community drops what is asked.
 pub record IsAskOfServer (words : AskWords) (files : Holdings) (serving : ServeWords)
     (server_files : Holdings) (rows : List VarBind) : Type 0 where
   pub mib : Contents
@@ -63,17 +63,18 @@ pub record IsAskOfServer (words : AskWords) (files : Holdings) (serving : ServeW
 
 -- ---- what happened at the two ends
 
--- what happened in a run that asks a question over a link
+-- what happened over the link in a run that asks a question
 abbrev pub events_of : {W : Type 0} → (facts : LinkFacts W) → (link later : W) → (tries : ℕ)
     → (plan : Plan) → (question : Question) → (given refused : List VarBind) → (end : WalkEnd)
     → IsAskedOver facts link later tries plan question given refused end → List (Event (Unit {0}))
 events_of {W} facts link later tries plan (names os) given refused end run = run.happened.events
 events_of {W} facts link later tries plan (subtree w) given refused end run = run.happened.events
 
--- The end of the words that ask. A link was opened, the question was asked over it, the link was
--- closed as the run left it, and the bindings of that run were printed: these events happened in it,
--- in turn, as the link says. Or there were none: no link was opened, or one was opened and closed as
--- it was, since a name can't be sent. Then nothing is printed, and the status isn't 0.
+-- What happened at the end that asks. `asked`: a link was opened, the question was asked over it,
+-- the link was closed as the run left it, and the bindings of the run were printed. `events`
+-- happened in the run, in turn, as the link says. `not_linked`, `not_asked`: nothing happened,
+-- since no link was opened, or one was opened and closed as it was because the question was
+-- refused. Then nothing is printed, and the status isn't 0.
 pub data IsAtAsker {N V D : Type 0} (net : Network N V D) (wire : LinkFacts V) (words : AskWords)
     (mib : Contents) (plan : Plan) (before after : Seen N) (status : ℕ)
     (events : List (Event (Unit {0}))) : Type 0 where
@@ -94,8 +95,8 @@ pub data IsAtAsker {N V D : Type 0} (net : Network N V D) (wire : LinkFacts V) (
       → InTurn (Happens wire) shown.facts.link events shown.facts.after
       → IsAtAsker net wire words mib plan before after status events
 
--- These events are turns of the agent, with these counts, and led the endpoint at the door from one
--- of its states to the other, as the endpoint says.
+-- `events` are `turns` turns of the agent, with the counts `served`. In turn they took the
+-- endpoint of the door from its state at `door` to its state at `later`, as the endpoint says.
 abbrev pub AreTurnsAt : {D P E : Type 0} → (endpoint_at : D → E)
     → (happens : E → Event P → E → Type 0) → (door : D) → Agent → (turns : ℕ) → Served
     → (later : D) → (events : List (Event P)) → Type 0
@@ -103,8 +104,8 @@ AreTurnsAt {D} {P} {E} endpoint_at happens door agent turns served later events 
     AreTurns agent turns served events
     × InTurn happens (endpoint_at door) events (endpoint_at later)
 
--- At each door of the network an agent is served in turn: what may be served there are turns, in
--- each of which a datagram that came got the agent's reply or was dropped, or none came, or a
+-- At each door of the network an agent is served in turn: what can be served there are turns. In
+-- each of them a datagram arrived and got the agent's reply or was dropped, or none arrived, or a
 -- receive or a send failed.
 abbrev pub ServesInTurn : {N V D P E : Type 0} → Network N V D → (endpoint_at : D → E)
     → (happens : E → Event P → E → Type 0) → Type 0
@@ -114,10 +115,11 @@ ServesInTurn {N} {V} {D} {P} {E} net endpoint_at happens =
     → (events : List (Event P))
     × AreTurnsAt endpoint_at happens door agent turns served later events
 
--- The end of snmpd. A door was opened, all turns of the agent of its words were served at it, as
--- the network says, with these counts, whose line is printed, or a front of it: these events are
--- such turns. Or there were none, since it wasn't served: at most a front of the line of its place
--- is printed, at another status than 0.
+-- What happened at the end of snmpd. `served`: a door was opened, and all turns of its agent were
+-- served there, as the network says. `events` are these turns. After the line that says where
+-- requests are received, the line of the counts was printed, or a prefix of it. `unserved`:
+-- nothing happened, since nothing was served. Then at most the first line is printed, or a prefix
+-- of it, and the status isn't 0.
 pub data IsAtServer {N V D P E : Type 0} (net : Network N V D) (endpoint_at : D → E)
     (happens : E → Event P → E → Type 0) (words : ServeWords) (view : MibView)
     (before after : Seen N) (status : ℕ) (events : List (Event P)) : Type 0 where
@@ -135,8 +137,8 @@ pub data IsAtServer {N V D P E : Type 0} (net : Network N V D) (endpoint_at : D 
       → IsReported fault warned after.err status
       → IsAtServer net endpoint_at happens words view before after status events
 
--- These are the ends of one run of a network that makes nothing up and alters nothing. It may lose,
--- repeat and delay datagrams, and bring them in another order.
+-- `asked` and `served` are what happened at the two ends of one run of a network that neither
+-- invents nor alters datagrams. It may lose, repeat, delay and reorder them.
 pub record AreEndsOfOneRun {P : Type 0} (asked : List (Event (Unit {0}))) (served : List (Event P))
     : Type 0 where
   pub walker : P
@@ -147,8 +149,8 @@ pub record AreEndsOfOneRun {P : Type 0} (asked : List (Event (Unit {0}))) (serve
 
 -- ---- what is printed
 
--- What happened at both ends, and what is written of the rows where these are the ends of one
--- faithful run of the network between
+-- What happened at both ends, and what is written of the rows if these are the ends of one
+-- faithful run of the network between them.
 pub record PrintsServed {N V C M W D P E : Type 0} (net : Network N V C) (wire : LinkFacts V)
     (server : Network M W D) (endpoint_at : D → E) (happens : E → Event P → E → Type 0)
     (words : AskWords) (before after : Seen N) (status : ℕ)
@@ -160,19 +162,19 @@ pub record PrintsServed {N V C M W D P E : Type 0} (net : Network N V C) (wire :
   pub served : List (Event P)
   pub at_server : IsAtServer server endpoint_at happens serving ask.view server_before server_after
       server_status served
-  -- Whatever fails, a front of the lines of the first rows is written, or of the whole text, and
+  -- Whatever fails, a prefix of the lines of the first rows is written, or of the whole text, and
   -- nothing else.
   pub front_written : AreEndsOfOneRun asked served
       → IsFrontWritten ask.mib ask.plan rows before.out after.out
-  -- At status 0 the whole text is.
+  -- At status 0 the whole text is written.
   pub all_written_at_status_0 : AreEndsOfOneRun asked served → status ≡ 0
       → IsWholeWritten ask.mib ask.plan rows before.out after.out
 
 -- ---- a walk in numbers
 
--- The words of `snmpwalk -On AGENT ROOT`, where the agent is reached over the network, no module
--- files are given and the root is in numbers. The community has 255 octets at most; the greatest
--- size, the retries and the seconds may be any.
+-- The arguments of `snmpwalk -On AGENT ROOT`, without module files, if the agent is reached over
+-- the network and the root is in numbers. The community has at most 255 octets. The greatest size,
+-- the retries and the seconds can be any.
 pub record IsWalkInNumbers (words : WalkWords) (root : List ℕ) : Type 0 where
   pub no_modules : words.asking.mibs ≡ []
   pub numeric : words.asking.letters ≡ codes "n"
@@ -185,9 +187,9 @@ pub record IsWalkInNumbers (words : WalkWords) (root : List ℕ) : Type 0 where
   pub whole : words.after ≡ None
   pub from : words.name ≡ Some (numeric_text root)
 
--- What the question of such a walk gives of the table of these lines: the rows below the root, or
--- where there are none, what a Get of the root gives (`AreWalked`). What is written of them is
--- `row_line` of each, as over a table file (`TableWalk`).
+-- The answer to such a walk from the table that `lines` define: the rows below the root or, if
+-- there are none, what a Get of the root returns (`AreWalked`). What is written of each row is its
+-- `row_line`, as over a table file (`TableWalk`).
 pub record IsAskInNumbers (words : WalkWords) (files : Holdings) (serving : ServeWords)
     (server_files : Holdings) (lines : List (List ℕ)) (root : List ℕ) : Type 0 where
   pub rows : List VarBind

@@ -1,4 +1,4 @@
--- What is promised of a job, by the words that state it.
+-- What is promised of a job, by the arguments that ask for it.
 use Rattle.std.specs.Prelude.{◌≡◌, ℕ, true, false, List, Option}
 use Rattle.snmp_io.specs.{Files.Holdings, Output.Stream}
 use Rattle.snmp_walk.specs.declared.link.Link.{Ghosts as LinkFacts}
@@ -12,14 +12,15 @@ use Rattle.snmp_tools.specs.{serve.Outcome.IsServeOutcome, translate.Outcome.IsT
 use Rattle.snmp_tools.specs.Question.{AskWords, of_get, of_walk}
 use Rattle.snmp_tools.specs.translate.Headline.{PrintsAll, PrintsFront}
 
--- the job of these words, which ask an agent, was done over the world outside
+-- What is promised of a job that asks an agent: the job of the arguments `words`, which took the
+-- world outside from the state `before` to the state `after`.
 pub record IsAskDone {N V D : Type 0} (net : Network N V D) (wire : LinkFacts V)
     (Loads : LoadFacts) (words : AskWords) (before after : Seen N) (status : ℕ) : Type 0 where
   pub outcome_reported : IsRun net wire Loads words before after status
   pub rows_written : WritesRowsOf words before.files before.out after.out before.err after.err
       status
 
--- what the words of snmptranslate print, and what is reported after the modules' warnings
+-- what snmptranslate prints, and what it reports after the warnings about its modules
 pub record IsTranslated (Loads : LoadFacts) (words : TranslateWords) (files : Holdings)
     (out_before out_after err_before err_after : Stream) (status : ℕ) : Type 0 where
   pub fault : Option Fault
@@ -28,10 +29,10 @@ pub record IsTranslated (Loads : LoadFacts) (words : TranslateWords) (files : Ho
   pub is_reported : IsReported fault warned err_after status
   -- at status 0 the texts of all names are printed, and nothing else
   pub all_at_status_0 : status ≡ 0 → PrintsAll words files out_before out_after
-  -- whatever fails, nothing is printed, or a front of the texts of the first names
+  -- whatever fails, nothing is printed, or a prefix of the texts of the first names
   pub front : PrintsFront words files out_before out_after
 
--- the outcome of the words of snmpd, which is reported after the modules' warnings
+-- how snmpd ended, and what it reports after the warnings about its modules
 pub record IsServeRun {N V D : Type 0} (net : Network N V D) (Loads : LoadFacts)
     (words : ServeWords) (before after : Seen N) (status : ℕ) : Type 0 where
   pub fault : Option Fault
@@ -39,9 +40,9 @@ pub record IsServeRun {N V D : Type 0} (net : Network N V D) (Loads : LoadFacts)
   pub outcome : IsServeOutcome net Loads words before (record after { err = warned }) fault
   pub reported : IsReported fault warned after.err status
 
--- The job that was stated so was done: its status is this, and the world outside went from one
--- state to the other. `net` is what is known of the network, `wire` of its links, and `Loads` of
--- loads of module files. snmptranslate asks nothing of the network.
+-- What is promised of a job: it ended with this exit status, and took the world outside from the
+-- state `before` to the state `after`. `net` is what is known of the network, `wire` of its links,
+-- and `Loads` of loads of module files. snmptranslate leaves the network as it was.
 abbrev pub IsJobDone : {N V D : Type 0} → Network N V D → LinkFacts V → LoadFacts → Stated
     → (before after : Seen N) → (status : ℕ) → Type 0
 IsJobDone {N} {V} {D} net wire Loads (snmptranslate words) before after status =
@@ -56,7 +57,8 @@ IsJobDone {N} {V} {D} net wire Loads (snmpbulkwalk words) before after status =
 IsJobDone {N} {V} {D} net wire Loads (snmpd words) before after status =
     IsServeRun net Loads words before after status
 
--- The words of a command line were done: the job that they state, if they have no fault.
+-- What is promised of the arguments of a command line: if they have no fault, what is promised of
+-- the job that they ask for.
 abbrev pub AreWordsDone : {N V D : Type 0} → Network N V D → LinkFacts V → (words : List (List ℕ))
     → (before after : Seen N) → (status : ℕ) → Type 0
 AreWordsDone {N} {V} {D} net wire words before after status = (job : Stated) → AreFaultless words
@@ -64,7 +66,7 @@ AreWordsDone {N} {V} {D} net wire words before after status = (job : Stated) →
 
 -- ---- for private functions
 
--- what it did, and why not all of it was done, before that is reported
+-- what a job did, and why not all of it was done, if so, before that is reported
 abbrev pub IsJobOutcome : {N V D : Type 0} → Network N V D → LinkFacts V → LoadFacts → Stated
     → (before after : Seen N) → Option Fault → Type 0
 IsJobOutcome {N} {V} {D} net wire Loads (snmptranslate words) before after fault =

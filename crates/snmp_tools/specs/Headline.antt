@@ -1,9 +1,10 @@
 -- What a job that asks an agent promises over a table file, on one page.
 --
--- `IsAsk` says what the words ask for: `AskFor` (Question) reads the words, by the names of the
--- modules that `AreLoaded` (Mib) states, `IsTableOf` (snmp_agent) reads the file, and `AreRowsOf`
--- (Answer) has the rows: of a Get by `AreGot`, of a walk by `walk_of` and `rest_of` (snmp_walk).
--- `AreLines` (Lines) are their lines, by `IsLine` (smi_show), and `count_text` is the count line.
+-- `IsAsk` says what the arguments ask for. `AskFor` (Question) reads the arguments, with names by
+-- the modules of `AreLoaded` (load/Loaded). `IsTableOf` (snmp_agent) reads the table file.
+-- `AreRowsOf` (Answer) has the rows: of a Get by `AreGot`, of a walk by `walk_of` and `rest_of`
+-- (snmp_walk). `AreLines` (Lines) has their lines, by `IsLine` (smi_show), and `count_text` the
+-- line of -Cp.
 use Rattle.std.specs.Prelude.{◌≡◌, ◌⊎◌, ◌++◌, ℕ, List, length, codes}
 use Rattle.std.specs.Str.Lines.{lines}
 use Rattle.snmp_tools.specs.{load.Warned.warning_lines, serve.TableFile.AreNamesIn}
@@ -18,7 +19,8 @@ use Rattle.snmp_tools.specs.Answer.{AreRowsOf, IsFeasible}
 use Rattle.snmp_tools.specs.Question.{AskFor, AskWords, Plan, counts_in}
 use Rattle.smi_tree.specs.{Tree.Contents}
 
--- the words ask for this over the table of a file, and these are its rows
+-- the arguments ask for `plan` over the table file at `path`, whose text is known, and `rows` is
+-- the answer
 pub record IsAsk (words : AskWords) (files : Holdings) (rows : List VarBind) : Type 0 where
   pub mib : Contents
   pub warnings : List Warning
@@ -35,12 +37,12 @@ pub record IsAsk (words : AskWords) (files : Holdings) (rows : List VarBind) : T
   pub table : IsTableOf names (lines text) view
   pub are_rows : AreRowsOf plan.question view rows
 
--- the lines of the rows, and with -Cp their number
+-- `text` is the lines of the rows, and with -Cp the line of their number
 abbrev pub IsWholeText : Contents → Plan → (rows : List VarBind) → List ℕ → Type 0
 IsWholeText mib plan rows text = (shown : List ℕ) × AreLines mib plan.letters rows shown
     × (text ≡ shown ++ count_text (counts_in plan.question) (length rows))
 
--- a front of the lines of the first of these rows is written, or of the whole text
+-- a prefix of the lines of the first rows was written, or of the whole text
 abbrev pub IsFrontWritten : Contents → Plan → (rows : List VarBind) → (before after : Stream)
     → Type 0
 IsFrontWritten mib plan rows before after =
@@ -48,34 +50,35 @@ IsFrontWritten mib plan rows before after =
     × (AreLines mib plan.letters first text ⊎ IsWholeText mib plan rows text)
     × TakesFront before text after
 
--- the whole text is
+-- the whole text was written
 abbrev pub IsWholeWritten : Contents → Plan → (rows : List VarBind) → (before after : Stream)
     → Type 0
 IsWholeWritten mib plan rows before after =
     (text : List ℕ) × IsWholeText mib plan rows text × (after ≡ extended before text)
 
--- The status is 1, and the output failed, or memory ran out, as is reported, and before that the
--- modules' warnings, if it was later: of each a front where standard error failed.
+-- The status is 1, and the output failed or memory ran out. The latter is reported on standard
+-- error, after the warnings about the modules if these were loaded before. If standard error
+-- fails, it takes a prefix of each.
 abbrev pub IsMishap : List Warning → (before after err_before err_after : Stream) → ℕ → Type 0
 IsMishap warnings before after err_before err_after status = (status ≡ 1)
     × (HasRisen before.faults after.faults
     ⊎ ((warned : Stream) × IsWritten warned (codes "Out of memory.\n") err_after
     × ((warned ≡ err_before) ⊎ IsWritten err_before (warning_lines warnings) warned)))
 
--- what is written of the rows that the words ask for, and the status
+-- what is written of the rows that the arguments ask for, and the status
 pub record WritesRows (words : AskWords) (files : Holdings) (rows : List VarBind)
     (ask : IsAsk words files rows) (before after err_before err_after : Stream) (status : ℕ)
     : Type 0 where
-  -- Whatever fails, a front of the lines of the first rows is written, or of the whole text, and
+  -- Whatever fails, a prefix of the lines of the first rows is written, or of the whole text, and
   -- nothing else.
   pub front_written : IsFrontWritten ask.mib ask.plan rows before after
-  -- At status 0 the whole text is.
+  -- At status 0 the whole text is written.
   pub all_written_at_status_0 : status ≡ 0 → IsWholeWritten ask.mib ask.plan rows before after
-  -- What is feasible ends at status 0, unless the output fails or memory runs out.
+  -- If the plan is feasible, the status is 0, unless the output fails or memory runs out.
   pub ends_at_status_0 : IsFeasible ask.plan ask.view
       → (status ≡ 0) ⊎ IsMishap ask.warnings before after err_before err_after status
 
--- that is written of whatever rows the words ask for
+-- `WritesRows` holds of any rows that the arguments ask for over a table file
 abbrev pub WritesRowsOf : AskWords → Holdings → (before after err_before err_after : Stream) → ℕ
     → Type 0
 WritesRowsOf words files before after err_before err_after status =

@@ -9,13 +9,14 @@ use Rattle.snmp_walk.specs.declared.mode.Method.TheVariants as method
 use Rattle.snmp_walk.specs.declared.mode.Mode.TheVariants as mode
 
 -- what the letters of -C choose: `i` includes the root, `p` counts what is printed, snmpwalk's `I`
--- leaves out the last Get, and snmpbulkwalk's `r` has the number of repetitions after it
+-- leaves out the last Get, and snmpbulkwalk's `r` is followed by the number of repetitions
 pub record Choices : Type 0 where
   pub includes_root : Bool
   pub leaves_last_get : Bool
   pub counts : Bool
   pub repetitions : ℕ
 
+-- the defaults: what applies if -C isn't used
 abbrev pub no_choices : Choices
 no_choices = record {
   includes_root = false;
@@ -26,37 +27,38 @@ no_choices = record {
 
 -- ---- letters
 
--- the text is these letters in order, each with the digits after it
+-- `text` is these letters in order, each with the digits after it
 abbrev pub AreLettersIn : (text : List ℕ) → (letters : List (ℕ × List ℕ)) → Type 0
 AreLettersIn text [] = text ≡ []
 AreLettersIn text ((letter, digits) ∷ more) = (rest : List ℕ)
     × (text ≡ letter ∷ (digits ++ rest)) × (is_ascii_digit letter ≡ false)
     × (list_all is_ascii_digit digits ≡ true) × AreLettersIn rest more
 
--- `i`, `p` and snmpwalk's `I`, which have no digits after them
+-- the letter has a meaning without digits after it: `i`, `p` or, for snmpwalk, `I`
 abbrev pub IsPlain : (bulk : Bool) → (letter : ℕ) → Type 0
 IsPlain bulk letter = (letter ≡ 105) ⊎ ((letter ≡ 112) ⊎ ((bulk ≡ false) × (letter ≡ 73)))
 
--- the digits after snmpbulkwalk's `r` state a number of repetitions: 1 to 2147483647
+-- `digits`, after snmpbulkwalk's `r`, spell `n`, a number of repetitions: 1 to 2147483647
 abbrev pub AreRepetitions : (digits : List ℕ) → ℕ → Type 0
 AreRepetitions digits n = (n ≡ digits_value 10 digits) × (1 ≤ n) × (n ≤ 2147483647)
 
--- a letter, with the digits after it, has a meaning
+-- the letter has a meaning with the digits after it
 abbrev pub IsKnown : (bulk : Bool) → ℕ × List ℕ → Type 0
 IsKnown bulk (letter, digits) = (IsPlain bulk letter × (digits ≡ []))
     ⊎ ((bulk ≡ true) × (letter ≡ 114) × ((n : ℕ) × AreRepetitions digits n))
 
--- It has none, and this octet is reported: the first digit after a plain letter, or the letter.
+-- The letter has no meaning with the digits after it, and `octet` is reported: the first digit
+-- after a plain letter, otherwise the letter itself.
 abbrev pub IsUnknown : (bulk : Bool) → ℕ × List ℕ → (octet : ℕ) → Type 0
 IsUnknown bulk (letter, digits) octet =
     (IsPlain bulk letter × ((more : List ℕ) × (digits ≡ octet ∷ more)))
     ⊎ ((IsPlain bulk letter → ⊥) × (IsKnown bulk (letter, digits) → ⊥) × (octet ≡ letter))
 
--- whether a letter is among them
+-- whether the letter is among the letters
 abbrev pub has : (letter : ℕ) → List (ℕ × List ℕ) → Bool
 has letter letters = list_any (λ part. part.0 == letter) letters
 
--- the number of repetitions after the last `r`: 10 where there is none
+-- `n` is the number of repetitions after the last `r`, or 10 if there is none
 abbrev pub IsLastNumber : List (ℕ × List ℕ) → ℕ → Type 0
 IsLastNumber letters n =
     ((has 114 letters ≡ false) × (n ≡ 10))
@@ -64,7 +66,7 @@ IsLastNumber letters n =
     × (letters ≡ before ++ (114, digits) ∷ after) × (has 114 after ≡ false)
     × AreRepetitions digits n)
 
--- all letters of a text have a meaning, and choose this
+-- all letters of `text` have a meaning, and `choices` is what they choose
 pub record HaveChosen (bulk : Bool) (text : List ℕ) (choices : Choices) : Type 0 where
   pub letters : List (ℕ × List ℕ)
   pub order : AreLettersIn text letters
@@ -74,15 +76,15 @@ pub record HaveChosen (bulk : Bool) (text : List ℕ) (choices : Choices) : Type
   pub leaves_last_get : choices.leaves_last_get ≡ has 73 letters
   pub repetitions : IsLastNumber letters choices.repetitions
 
--- The octet that is reported where not all have a meaning: a digit at the front of the text, or
--- that of the first letter that has none.
+-- `octet` is reported since not all letters have a meaning: a digit that `text` begins with, or
+-- the octet that is reported of the first letter without a meaning
 abbrev pub IsFirstUnknown : (bulk : Bool) → (text : List ℕ) → (octet : ℕ) → Type 0
 IsFirstUnknown bulk text octet =
     ((rest : List ℕ) × (text ≡ octet ∷ rest) × (is_ascii_digit octet ≡ true))
     ⊎ ((letters : List (ℕ × List ℕ)) × AreLettersIn text letters
     × IsFirstToFail letters (IsKnown bulk) (IsUnknown bulk) octet)
 
--- ---- what a walk gives, and by which requests it asks
+-- ---- what a walk returns, and the requests with which it asks
 
 abbrev pub mode_of : Choices → Mode
 mode_of choices = if choices.includes_root then mode.Include
@@ -93,7 +95,7 @@ method_of bulk choices = if bulk then method.Bulk (pos choices.repetitions) else
 
 -- ---- for private functions
 
--- a fact of a method has one proof at most
+-- `IsMethod m` has at most one proof
 pub IsMethod-prop : (m : Method) → IsProp (IsMethod m)
 IsMethod-prop method.Next = hlevel
 IsMethod-prop (method.Bulk repetitions) = hlevel props

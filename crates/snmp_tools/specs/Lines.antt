@@ -11,15 +11,15 @@ use Rattle.snmp_io.specs.Output.{FailsWithin, Stream, extended}
 use Rattle.snmp_tools.specs.{Message.Fault, Message.no_output, Message.out_of_memory}
 use Rattle.smi_tree.specs.{Tree.Contents}
 
--- the lines of bindings by the letters of -O, one after the other
+-- `text` is the lines of the bindings by the letters of -O, one after the other
 abbrev pub AreLines : Contents → Letters → List VarBind → List ℕ → Type 0
 AreLines mib letters [] text = text ≡ []
 AreLines mib letters (binding ∷ more) text =
     (line : List ℕ) × (rest : List ℕ) × IsLine mib letters binding.name binding.value line
     × AreLines mib letters more rest × (text ≡ line ++ rest)
 
--- The lines of the rows were written, whole, and where the output ended the walk a front of the
--- line of the row that it refused.
+-- The lines of the rows were written whole. If the run ended because the output failed, a prefix
+-- of the line of the refused row was written too.
 abbrev pub IsPrintedUpTo : Contents → Letters → Stream → (rows refused : List VarBind) → WalkEnd
     → Stream → Type 0
 IsPrintedUpTo mib letters before rows refused (ending.Sink fault.Output) after =
@@ -28,14 +28,15 @@ IsPrintedUpTo mib letters before rows refused (ending.Sink fault.Output) after =
 IsPrintedUpTo mib letters before rows refused _ after =
     (text : List ℕ) × AreLines mib letters rows text × (after ≡ extended before text)
 
--- a text isn't printed, or only a front of it: memory for it ran out, or the output failed
+-- `text` isn't printed because memory ran out, or only a prefix of it because the output failed;
+-- `fault` says which
 abbrev pub StopsAtText : (before : Stream) → (text : List ℕ) → (after : Stream) → Option Fault
     → Type 0
 StopsAtText before text after fault =
     ((after ≡ before) × (fault ≡ Some out_of_memory))
     ⊎ (FailsWithin before text after × (fault ≡ Some no_output))
 
--- the text is printed, or it stops there
+-- `text` is printed, or not all of it for the reason `fault`
 abbrev pub IsTextPrinted : (before : Stream) → (text : List ℕ) → (after : Stream) → Option Fault
     → Type 0
 IsTextPrinted before text after fault =
@@ -45,14 +46,14 @@ IsTextPrinted before text after fault =
 abbrev pub count_line : ℕ → List ℕ
 count_line count = codes "Variables found: " ++ decimal count ++ codes "\n"
 
--- the line of -Cp, where it is asked for
+-- the line of -Cp if it is asked for (`counts`), otherwise nothing
 abbrev pub count_text : Bool → ℕ → List ℕ
 count_text counts count = if counts then count_line count else []
 
 -- ---- for private functions
 
--- what the output took of the line of a binding: the whole, a front where the output failed, and
--- nothing where memory for the line ran out
+-- what the output took of the line of `binding`, by the result: all of it (`Ok`); a prefix (`Err
+-- Output`: a write failed); nothing (`Err Memory`: there was no memory for the line)
 abbrev pub TakesLine : Contents → Letters → Stream → VarBind → Result (Unit {0}) SinkFault → Stream
     → Type 0
 TakesLine mib letters before binding (Ok _) after = (line : List ℕ)
@@ -61,7 +62,8 @@ TakesLine mib letters before binding (Err fault.Output) after = (line : List ℕ
     × IsLine mib letters binding.name binding.value line × FailsWithin before line after
 TakesLine mib letters before binding (Err fault.Memory) after = after ≡ before
 
--- rows of which these facts hold were given, and their lines printed, until it ended in this way
+-- the lines of `rows` were printed until the run ended with `end`, and `Facts` holds of them and
+-- of the row that was refused, if one was
 pub record ArePrinted (mib : Contents) (letters : Letters) (before after : Stream) (end : WalkEnd)
     (Facts : (rows refused : List VarBind) → Type 0) : Type 0 where
   pub rows : List VarBind

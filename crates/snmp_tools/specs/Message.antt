@@ -1,4 +1,4 @@
--- Why a job isn't done, and the line on standard error that says so.
+-- Why a job wasn't done, and the line on standard error that says so.
 use Rattle.std.specs.Prelude.{ℕ, ℤ, pos, negsuc, List, [], ◌∷◌, ◌++◌, codes, decimal, Err, Ok, None}
 use Rattle.std.specs.Prelude.{Option, Result, Some, slice_index_or}
 use Rattle.std.specs.Fmt.{signed_decimal}
@@ -15,7 +15,7 @@ use Rattle.snmp_walk.specs.declared.end.WalkEnd.TheVariants as walk_end
 use Rattle.snmp_walk.specs.declared.end.SinkFault.TheVariants as sink
 use Rattle.snmp_tools.specs.declared.failure.Failure.TheVariants as failure
 
--- why a job isn't done, with the words that its message repeats
+-- why a job wasn't done, with the arguments that its message repeats
 pub data Fault : Type 0 where
   bad_version : List ℕ → Fault
   bad_letter : ℕ → Fault
@@ -47,17 +47,17 @@ fault_of (failure.Ended agent why) = ended agent.now why
 fault_of failure.Output = no_output
 fault_of failure.Memory = out_of_memory
 
--- why module files can't be had
+-- the fault of a job whose module files can't be loaded
 abbrev pub modules_fault : Refusal → Fault
 modules_fault files.no_memory = out_of_memory
 modules_fault why = bad_modules why
 
--- the exit status: 2 where an agent replied with an error status
+-- the exit status: 2 if the agent replied with an error status, otherwise 1
 abbrev pub status_of : Fault → ℕ
 status_of (ended agent (walk_end.Fault status index)) = 2
 status_of _ = 1
 
--- the name of an error status (RFC 3416, section 3)
+-- the name of an error status (RFC 3416, section 3), or `unknown`
 abbrev pub status_name : ℤ → List ℕ
 status_name (pos n) = slice_index_or (
     codes "noError" ∷ codes "tooBig" ∷ codes "noSuchName" ∷ codes "badValue" ∷ codes "readOnly"
@@ -68,14 +68,14 @@ status_name (pos n) = slice_index_or (
     n (codes "unknown")
 status_name (negsuc n) = codes "unknown"
 
--- what is wrong with the text of a name
+-- the start of the message about a name, which says what is wrong with it
 abbrev pub name_fault : NameError → List ℕ
 name_fault name.Unknown = codes "Unknown name: "
 name_fault name.BadIndex = codes "Bad index: "
 name_fault name.BadNumber = codes "Bad number: "
 name_fault name.TooLong = codes "Name too long: "
 
--- a fault of the table file at a path
+-- the message about a fault in the table file at a path
 abbrev pub table_message : List ℕ → TableError → List ℕ
 table_message path (table.BadLine line) = path ++ codes ":" ++ decimal line ++ codes ": bad line"
 table_message path (table.BadName line) = path ++ codes ":" ++ decimal line ++ codes ": bad name"
@@ -83,12 +83,12 @@ table_message path (table.BadValue line) = path ++ codes ":" ++ decimal line ++ 
 table_message path (table.Double line) = path ++ codes ":" ++ decimal line ++ codes ": double name"
 table_message path table.Memory = codes "Out of memory."
 
--- an error status and error index
+-- the message about an error status and error index
 abbrev pub error_status_text : ℤ → ℤ → List ℕ
 error_status_text status index = codes "Error in packet: " ++ status_name status ++ codes " ("
     ++ signed_decimal status ++ codes "), index " ++ signed_decimal index
 
--- how a walk ended before all of it was given
+-- the message about a walk or a Get that ended early; nothing for one that is done
 abbrev pub end_message : List ℕ → WalkEnd → List ℕ
 end_message agent (walk_end.Done count) = []
 end_message agent (walk_end.Fault status index) = error_status_text status index
@@ -103,7 +103,7 @@ end_message agent walk_end.Link = codes "The link failed."
 end_message agent (walk_end.Sink sink.Output) = codes "The output failed."
 end_message agent (walk_end.Sink sink.Memory) = codes "Out of memory."
 
--- the line of a fault, without its newline
+-- the message about a fault, without its newline
 abbrev pub fault_message : Fault → List ℕ
 fault_message (bad_version word) = codes "Unknown version: " ++ word
 fault_message (bad_letter letter) = codes "Unknown letter: " ++ letter ∷ []
@@ -121,7 +121,7 @@ fault_message out_of_memory = codes "Out of memory."
 
 -- ---- for private functions
 
--- the fault of what was tried, if it failed
+-- the fault of a result, if it is an error
 abbrev pub outcome_of : {T : Type 0} → Result T Failure → Option Fault
 outcome_of (Ok _) = None
 outcome_of (Err failure) = Some (fault_of failure)

@@ -1,5 +1,6 @@
 -- What a job that asks an agent writes, and what it reports.
-use Rattle.std.specs.Prelude.{◌≡◌, ◌⊎◌, ◌+◌, ◌++◌, ℕ, Bool, true, false, List, codes, Option, Some, None}
+use Rattle.std.specs.Prelude.{◌≡◌, ◌⊎◌, ◌+◌, ◌++◌, ℕ, Bool, true, false, List, codes, Option}
+use Rattle.std.specs.Prelude.{Some, None}
 use Rattle.snmp_tools.specs.{load.Loaded.LoadFacts, load.Warned.warning_lines}
 use Rattle.snmp_tools.specs.{serve.TableFile.HasTable, load.Loaded.AreLoaded, Seen.Seen}
 use Rattle.smi_names.specs.declared.nodes.warning.Warning.{Warning}
@@ -18,7 +19,8 @@ use Rattle.smi_tree.specs.{Tree.Contents}
 
 -- ---- what is written
 
--- what follows the lines, with -Cp, and the fault that is reported, if any is
+-- What follows the lines of a run that ended with `end`: the line of -Cp, if it is asked for
+-- (`counts`). `fault` is what is reported, if anything is.
 abbrev pub IsFinished : (agent : List ℕ) → WalkEnd → (counts : Bool) → (before after : Stream)
     → Option Fault → Type 0
 IsFinished agent (ending.Done count) true before after fault =
@@ -27,8 +29,9 @@ IsFinished agent (ending.Done count) false before after fault = (after ≡ befor
 IsFinished agent end counts before after fault =
     (after ≡ before) × (fault ≡ Some (ended agent end))
 
--- what a run gave to the question of a plan was printed, of which such facts hold, and why not all
--- of it, if not all was
+-- A run asked the question of `plan`, and the lines of its bindings were printed. `fault` is why
+-- not all of them were, if so. `Facts` holds of the bindings that the sink was given and refused,
+-- and of how the run ended.
 pub record IsShown (Facts : (given refused : List VarBind) → WalkEnd → Type 0) (mib : Contents)
     (plan : Plan) (agent : List ℕ) (before after : Stream) (fault : Option Fault) : Type 0 where
   pub given : List VarBind
@@ -39,15 +42,15 @@ pub record IsShown (Facts : (given refused : List VarBind) → WalkEnd → Type 
   pub lines : IsPrintedUpTo mib plan.letters before given refused end between
   pub finish : IsFinished agent end (counts_in plan.question) between after fault
 
--- One link was opened to a host and port, and closed: `link` is its state when it was opened, and
--- `last` when it was closed. Nothing else changed the network between.
+-- One link was opened to `port` of `host`, and closed. `link` is its state when it was opened, and
+-- `last` when it was closed. Nothing else changed the network from `before` to `after`.
 pub record IsLinked {N V D : Type 0} (net : Network N V D) (host : List ℕ) (port seconds : ℕ)
     (before : N) (link last : V) (after : N) : Type 0 where
   pub between : N
   pub opened : net.opens before host port seconds link between
   pub closed : net.closes between last after
 
--- One link was opened to a host and port, and closed as it was: nothing was sent or received over
+-- One link was opened to `port` of `host`, and closed as it was: nothing was sent or received over
 -- it. The network counted no fault, and nothing else changed.
 pub record HasOpened {N V D : Type 0} (net : Network N V D) (host : List ℕ) (port seconds : ℕ)
     (before after : Seen N) : Type 0 where
@@ -56,8 +59,8 @@ pub record HasOpened {N V D : Type 0} (net : Network N V D) (host : List ℕ) (p
   pub count : net.fault_count after.links ≡ net.fault_count before.links
   pub unchanged : after ≡ record before { links = after.links }
 
--- The question of the plan was asked over a link to this host and port, which was opened for it and
--- closed as the run left it, and the bindings were printed.
+-- The question of the plan was asked over a link to `port` of `host`, and the bindings were
+-- printed. The link was opened for this, and closed as the run left it.
 abbrev pub IsShownOver : {N V D : Type 0} → Network N V D → LinkFacts V → AskWords → Contents
     → Plan → (host : List ℕ) → (port : ℕ) → (before after : Seen N) → Option Fault → Type 0
 IsShownOver {N} {V} {D} net wire words mib plan host port before after fault = IsShown
@@ -65,14 +68,14 @@ IsShownOver {N} {V} {D} net wire words mib plan host port before after fault = I
     (λ link last. IsLinked net host port words.asking.seconds before.links link last after.links)
     wire (words.asking.retries + 1) plan) mib plan words.asking.agent before.out after.out fault
 
--- What a job wrote by the names and types of its modules, and why it wasn't done, if it wasn't.
--- Where no agent is reached, or the agent is over a table, the network is left as it was. If a name
--- can't be sent, nothing is.
+-- What a job wrote, by the names and types of `mib`, and why not all of it was done, if so
+-- (`fault`). If it was refused before it opened a link, or the agent is over a table, the network
+-- stays as it was. If a name can't be sent, nothing is sent.
 pub data IsOutcomeBy {N V D : Type 0} (net : Network N V D) (wire : LinkFacts V) (words : AskWords)
     (mib : Contents) (before after : Seen N) (fault : Option Fault) : Type 0 where
   refused : (why : Fault) → IsLateRefusal words before.files mib why → after ≡ before
       → fault ≡ Some why → IsOutcomeBy net wire words mib before after fault
-  -- the table was read, or the link opened, and then the start was refused
+  -- the table was read, or a link was opened, and then the question was refused
   not_begun : (why : Fault) → IsLastRefusal words before.files mib why → (plan : Plan)
       → IsPlanFor words before.files mib plan
       → ((path : List ℕ) × (plan.agent ≡ table path) × (after ≡ before))
@@ -86,22 +89,23 @@ pub data IsOutcomeBy {N V D : Type 0} (net : Network N V D) (wire : LinkFacts V)
       fault
       → after ≡ record before { out = after.out }
       → IsOutcomeBy net wire words mib before after fault
-  -- a call of the network failed, which it counted, and nothing was printed
+  -- no link was opened: a call of the network failed, which it counted, and nothing was printed
   not_linked : (plan : Plan) (host : List ℕ) (port : ℕ) → IsPlanFor words before.files mib plan
       → plan.agent ≡ udp host port → net.fails before.links after.links
       → HasRisen (net.fault_count before.links) (net.fault_count after.links)
       → after.out ≡ before.out → fault ≡ Some (ended words.asking.agent ending.Link)
       → IsOutcomeBy net wire words mib before after fault
-  -- one link was opened, asked over, and closed as the run left it
+  -- one link was opened, the question was asked over it, and it was closed as the run left it
   asked_over : (plan : Plan) (host : List ℕ) (port : ℕ) → IsPlanFor words before.files mib plan
       → plan.agent ≡ udp host port → CanBeSent plan.question
       → IsShownOver net wire words mib plan host port before after fault
       → net.fault_count after.links ≡ net.fault_count before.links
       → IsOutcomeBy net wire words mib before after fault
 
--- What a job wrote on its output and, of the warnings of its modules, on standard error: nothing
--- where it was refused before these were loaded; else their lines, or a front of them where that
--- failed, before anything else, and what is asked by them.
+-- What a job wrote on its output, and what it wrote of the warnings about its modules on standard
+-- error. If it was refused before the modules were loaded, it wrote nothing. Otherwise it first
+-- wrote the lines of the warnings, or a prefix of them if standard error failed. Then it asked,
+-- with names by these modules.
 pub data IsOutcome {N V D : Type 0} (net : Network N V D) (wire : LinkFacts V) (Loads : LoadFacts)
     (words : AskWords) (before after : Seen N) (fault : Option Fault) : Type 0 where
   not_loaded : (why : Fault) → IsEarlyRefusal words before.files why → after ≡ before
@@ -115,8 +119,9 @@ pub data IsOutcome {N V D : Type 0} (net : Network N V D) (wire : LinkFacts V) (
 
 -- ---- what is reported
 
--- The status, and the line of a fault on standard error; where memory for the line runs out, that
--- is reported. Where standard error fails, it has a front of that.
+-- The status, and the line of a fault on standard error, or `Out of memory.` if there was no
+-- memory for the line. If standard error fails, it takes a prefix of that. Without a fault, the
+-- status is 0 and nothing is written.
 abbrev pub IsReported : Option Fault → Stream → Stream → ℕ → Type 0
 IsReported None before after status = (status ≡ 0) × (after ≡ before)
 IsReported (Some why) before after status =
@@ -124,11 +129,11 @@ IsReported (Some why) before after status =
     × (IsWritten before (fault_message why ++ codes "\n") after
     ⊎ IsWritten before (codes "Out of memory.\n") after)
 
--- the outcome of a job, which is reported
+-- how a job that asks an agent ended, and what it reported
 pub record IsRun {N V D : Type 0} (net : Network N V D) (wire : LinkFacts V) (Loads : LoadFacts)
     (words : AskWords) (before after : Seen N) (status : ℕ) : Type 0 where
   pub fault : Option Fault
-  -- what was written of warnings comes before what is reported
+  -- standard error with the warnings, before anything is reported
   pub warned : Stream
   pub outcome : IsOutcome net wire Loads words before (record after { err = warned }) fault
   pub reported : IsReported fault warned after.err status

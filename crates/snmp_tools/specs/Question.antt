@@ -1,4 +1,4 @@
--- What the words of a job that asks an agent ask for, and why they may be refused.
+-- What the arguments of a job that asks an agent ask for, and why they can be refused.
 use Rattle.std.specs.Prelude.{◌≡◌, ◌≤◌, ◌⊎◌, ◌++◌, ℕ, Bool, false, List, [], ◌∷◌, length, map}
 use Rattle.std.specs.Prelude.{Option, Some, None, Ok, codes, unwrap_or}
 use Rattle.std.specs.List.{AllZip}
@@ -19,15 +19,15 @@ use Rattle.snmp_io.specs.{Files.Holdings, Files.MayHold, Steps.AreDone, Steps.Is
 use Rattle.snmp_tools.specs.load.Loaded.{IsMibOf}
 use Rattle.smi_tree.specs.{Tree.Contents}
 
--- ---- the words
+-- ---- the arguments
 
--- what is to be asked of the agent: the instances of names, or a walk
+-- what to ask an agent for, with texts as they were passed: the instances of names, or a walk
 pub data Request : Type 0 where
   get : (texts : List (List ℕ)) → Request
-  -- by GetBulk or not: its letters of -C, and the texts of its names
+  -- with GetBulk or not: the letters of -C, the name to continue after, and the root's name
   walk : (bulk : Bool) → (letters : List ℕ) → (after name : Option (List ℕ)) → Request
 
--- the words of a job that asks an agent
+-- the arguments of a job that asks an agent
 pub record AskWords : Type 0 where
   pub asking : AskingWords
   pub request : Request
@@ -35,21 +35,21 @@ pub record AskWords : Type 0 where
 abbrev pub of_get : GetWords → AskWords
 of_get words = record { asking = words.asking; request = get words.names }
 
--- of snmpwalk, or of snmpbulkwalk
+-- the arguments of snmpbulkwalk if `bulk`, otherwise of snmpwalk
 abbrev pub of_walk : (bulk : Bool) → WalkWords → AskWords
 of_walk bulk words =
     record { asking = words.asking; request = walk bulk words.letters words.after words.name }
 
--- the text of the root's name
+-- the root's name: the one that was passed, or mib-2 (RFC 1213)
 abbrev pub root_text : Option (List ℕ) → List ℕ
 root_text name = unwrap_or name (codes "1.3.6.1.2.1")
 
--- the letters of -C choose this, where there are any
+-- the letters of -C choose `choices`; for a Get, which has none, these are the defaults
 abbrev pub HasChosen : Request → Choices → Type 0
 HasChosen (get texts) choices = choices ≡ no_choices
 HasChosen (walk bulk letters after name) choices = HaveChosen bulk letters choices
 
--- the first octet of them that has no meaning
+-- `octet` is the first octet of the letters of -C that has no meaning
 abbrev pub HasUnknown : Request → (octet : ℕ) → Type 0
 HasUnknown (get texts) octet = ⊥
 HasUnknown (walk bulk letters after name) octet = IsFirstUnknown bulk letters octet
@@ -59,11 +59,11 @@ HasUnknown (walk bulk letters after name) octet = IsFirstUnknown bulk letters oc
 -- a walk
 pub record Walk : Type 0 where
   pub root : List ℕ
-  -- the name after which it goes on, if one is given
+  -- the name after which it continues, if one is given
   pub after : Option (List ℕ)
   pub mode : Mode
   pub method : Method
-  -- the number of bindings is printed after them
+  -- whether the number of bindings is printed after their lines
   pub counts : Bool
 
 -- a Get of these names, or a walk
@@ -71,7 +71,7 @@ pub data Question : Type 0 where
   names : List (List ℕ) → Question
   subtree : Walk → Question
 
--- a question, to whom, and how the answer is shown
+-- a question, the agent to ask, and how the answer is shown
 pub record Plan : Type 0 where
   pub agent : Address
   pub community : List ℕ
@@ -84,11 +84,12 @@ abbrev pub counts_in : Question → Bool
 counts_in (names os) = false
 counts_in (subtree w) = w.counts
 
--- the names that texts state, each at its text's place
+-- `os` are the identifiers that the names `texts` mean, in the same order
 abbrev pub AreNames : Contents → (texts os : List (List ℕ)) → Type 0
 AreNames mib texts os = AllZip (λ text o. TextMeans mib text (Ok o)) texts os
 
--- the words of snmpwalk, or of snmpbulkwalk, state this walk
+-- `w` is the walk that the arguments ask for, those of snmpbulkwalk if `bulk`, otherwise of
+-- snmpwalk
 pub record IsWalkOf (bulk : Bool) (choices : Choices) (after name : Option (List ℕ))
     (mib : Contents) (w : Walk) : Type 0 where
   pub mode : w.mode ≡ mode_of choices
@@ -97,14 +98,14 @@ pub record IsWalkOf (bulk : Bool) (choices : Choices) (after name : Option (List
   pub root : TextMeans mib (root_text name) (Ok w.root)
   pub goes_on : IsNameIfGiven mib after w.after
 
--- the words state this question
+-- the request asks this question, if its letters of -C choose `choices`
 abbrev pub IsQuestionOf : Request → Choices → Contents → Question → Type 0
 IsQuestionOf (get texts) choices mib (names os) = AreNames mib texts os
 IsQuestionOf (walk bulk letters after name) choices mib (subtree w) =
     IsWalkOf bulk choices after name mib w
 IsQuestionOf request choices mib _ = ⊥
 
--- the words ask for this, by these names
+-- the arguments ask for `plan`, with names by `mib`
 pub record AskFor (words : AskWords) (mib : Contents) (plan : Plan) : Type 0 where
   pub version : words.asking.protocol ≡ codes "2c"
   pub letters : AreShown words.asking.letters plan.letters
@@ -116,92 +117,97 @@ pub record AskFor (words : AskWords) (mib : Contents) (plan : Plan) : Type 0 whe
   pub agent : IsAgent words.asking.agent plan.agent
   pub question : IsQuestionOf words.request choices mib plan.question
 
--- the words ask for this plan, by names that the job knows, and for no other agent
+-- the arguments ask for `plan`, with names by `mib`, the tree that the job loads, and for no other
+-- agent
 pub record IsPlanFor (words : AskWords) (files : Holdings) (mib : Contents) (plan : Plan) : Type 0
   where
     pub known : IsMibOf (MayHold files) words.asking mib
     pub asked : AskFor words mib plan
     pub only : HasAgent words.asking.agent plan.agent
 
--- ---- why not
+-- ---- why the arguments are refused
 
--- the work up to the modules
+-- the steps up to loading the modules
 pub data LoadingStep : Type 0 where
   asking : AskingStep → LoadingStep
   choices_step : LoadingStep
   mibs_step : LoadingStep
 
--- in its order
+-- these steps, in order
 abbrev pub loading_steps : List LoadingStep
 loading_steps = asking version_step ∷ asking letters_step ∷ choices_step ∷ asking community_step
     ∷ asking agent_step ∷ mibs_step ∷ []
 
--- the work before the first request, by the names of the modules that were loaded
+-- The later steps, before the first request. `name_step`: a name is looked up. `reach_step`: the
+-- agent is reached. `sent_step`: a name is tested for an encoding. `below_step`: the name to
+-- continue after is tested for being the root or below it.
 pub data LaterStep : Type 0 where
   name_step : (text : List ℕ) → LaterStep
   reach_step : LaterStep
   sent_step : (text : List ℕ) → LaterStep
   below_step : (root_text text : List ℕ) → LaterStep
 
+-- the steps for the name to continue after, if there is one
 abbrev pub goes_on_after : {T : Type 0} → (List ℕ → List T) → Option (List ℕ) → List T
 goes_on_after {T} steps None = []
 goes_on_after {T} steps (Some text) = steps text
 
--- each name is looked up
+-- the steps that look up each name
 abbrev pub name_steps : Request → List LaterStep
 name_steps (get texts) = map name_step texts
 name_steps (walk bulk letters after name) =
     name_step (root_text name) ∷ goes_on_after (λ text. name_step text ∷ []) after
 
--- up to the agent
+-- the later steps up to reaching the agent
 abbrev pub reaching_steps : Request → List LaterStep
 reaching_steps request = name_steps request ++ (reach_step ∷ [])
 
--- each is to have an encoding, and that to go on after is to be the root or below it
+-- the last steps: each name must have an encoding, and the name to continue after must be the root
+-- or below it
 abbrev pub sent_steps : Request → List LaterStep
 sent_steps (get texts) = map sent_step texts
 sent_steps (walk bulk letters after name) = sent_step (root_text name)
     ∷ goes_on_after (λ text. below_step (root_text name) text ∷ sent_step text ∷ []) after
 
--- the text states a name
+-- the name `text` means an identifier
 abbrev pub HasMeaning : Contents → (text : List ℕ) → Type 0
 HasMeaning mib text = (name : List ℕ) × TextMeans mib text (Ok name)
 
--- the text states a name that can be sent
+-- the name `text` means an identifier that can be sent
 abbrev pub HasSendable : Contents → (text : List ℕ) → Type 0
 HasSendable mib text =
     (name : List ℕ) × TextMeans mib text (Ok name) × IsWire (wire name)
 
--- the text states a name that can't be sent
+-- the name `text` means an identifier that can't be sent, and `why` says so
 abbrev pub HasUnsendable : Contents → (text : List ℕ) → Fault → Type 0
 HasUnsendable mib text why = (name : List ℕ) × TextMeans mib text (Ok name)
     × IsUnsendable name × (why ≡ unsendable text)
 
--- the texts state a root and a name of which this is true
+-- `Is root after` holds of the identifiers that the names `root_text` and `text` mean
 abbrev pub HaveNames : Contents → (root_text text : List ℕ) → (List ℕ → List ℕ → Type 0) → Type 0
 HaveNames mib root_text text Is =
     (root : List ℕ) × (after : List ℕ) × TextMeans mib root_text (Ok root)
     × TextMeans mib text (Ok after) × Is root after
 
--- this is true of the agent of the words
+-- `Is agent` holds of the address that AGENT says
 abbrev pub OfAgent : AskWords → (Address → Type 0) → Type 0
 OfAgent words Is = (agent : Address) × HasAgent words.asking.agent agent × Is agent
 
--- the step up to the modules is done: what it looks for is there
+-- the step, one up to loading the modules, is done: it finds nothing to refuse
 abbrev pub IsDoneFor : AskWords → Holdings → LoadingStep → Type 0
 IsDoneFor words files (asking step) = IsAskingDone words.asking step
 IsDoneFor words files choices_step =
     (choices : Choices) × HasChosen words.request choices
 IsDoneFor words files mibs_step = (mib : Contents) × IsMibOf (MayHold files) words.asking mib
 
--- it fails for this reason
+-- the step, one up to loading the modules, fails for the reason `why`
 abbrev pub FailsFor : AskWords → Holdings → LoadingStep → Fault → Type 0
 FailsFor words files (asking step) why = AskingFails words.asking step why
 FailsFor words files choices_step why =
     (letter : ℕ) × HasUnknown words.request letter × (why ≡ bad_letter letter)
 FailsFor words files mibs_step why = MibsFail files words.asking.mibs why
 
--- by the names that were loaded, the later step is done: what it looks for is there
+-- the later step is done, with names by `mib`: it finds nothing to refuse
 abbrev pub IsDoneBy : AskWords → Holdings → Contents → LaterStep → Type 0
 IsDoneBy words files mib (name_step text) = HasMeaning mib text
 IsDoneBy words files mib reach_step = OfAgent words (IsReached files mib)
@@ -209,7 +215,7 @@ IsDoneBy words files mib (sent_step text) = HasSendable mib text
 IsDoneBy words files mib (below_step root_text text) =
     HaveNames mib root_text text (λ root after. IsAtOrBelow after root)
 
--- by the names that were loaded, it fails for this reason
+-- the later step fails for the reason `why`, with names by `mib`
 abbrev pub FailsBy : AskWords → Holdings → Contents → LaterStep → Fault → Type 0
 FailsBy words files mib (name_step text) why = NameFails mib text why
 FailsBy words files mib reach_step why = OfAgent words (λ agent. ReachFails files mib agent why)
@@ -218,14 +224,14 @@ FailsBy words files mib (below_step root_text text) why =
     HaveNames mib root_text text
     (λ root after. (IsAtOrBelow after root → ⊥) × (why ≡ outside_root text))
 
--- why no modules were loaded: memory ran out, or a step up to them failed
+-- `why` is why no modules were loaded: memory ran out, or a step up to loading them failed
 abbrev pub IsEarlyRefusal : AskWords → Holdings → Fault → Type 0
 IsEarlyRefusal words files why =
     (why ≡ out_of_memory)
     ⊎ IsFirstToFail loading_steps (IsDoneFor words files) (FailsFor words files) why
 
--- why no agent is reached by the names that were loaded, after all steps up to the modules: memory
--- ran out, or a later step up to the agent failed
+-- `why` is why no agent is reached, after the modules were loaded: memory ran out, or a later step
+-- up to reaching the agent failed
 pub record IsLateRefusal (words : AskWords) (files : Holdings) (mib : Contents) (why : Fault)
     : Type 0 where
   pub loaded : AreDone (IsDoneFor words files) loading_steps
@@ -233,8 +239,7 @@ pub record IsLateRefusal (words : AskWords) (files : Holdings) (mib : Contents) 
       ⊎ IsFirstToFail (reaching_steps words.request) (IsDoneBy words files mib)
       (FailsBy words files mib) why
 
--- why the agent that was reached by these names isn't asked: the first of the last steps that
--- fails
+-- `why` is why the agent isn't asked, after it was reached: the first of the last steps that fails
 pub record IsLastRefusal (words : AskWords) (files : Holdings) (mib : Contents) (why : Fault)
     : Type 0 where
   pub loaded : AreDone (IsDoneFor words files) loading_steps

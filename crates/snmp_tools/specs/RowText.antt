@@ -1,4 +1,4 @@
--- The line of a row, `.NUMBERS = TYPE: VALUE`, as `-On` shows it where no module is loaded.
+-- The line of a row, `.NUMBERS = TYPE: VALUE`, as `-On` shows it if no module is loaded.
 use Rattle.std.specs.Prelude.{ℕ, ◌/◌, if◌then◌else◌, List, [], ◌∷◌, ◌++◌, codes, decimal}
 use Rattle.std.specs.{List.flat_map, List.list_all, Fmt.signed_decimal}
 use Rattle.snmp_oid.specs.Numeric.{numeric_text}
@@ -9,7 +9,7 @@ use Rattle.snmp_wire.specs.Message.{VarBind}
 use Rattle.smi_value.specs.Texts.{address_text, clock_text, days_text, escaped, hexadecimal_text}
 use Rattle.smi_value.specs.Texts.{is_printable}
 
--- a string: between quotes where each octet is printable, otherwise in hexadecimal
+-- a string: in quotes if each octet is printable, otherwise in hexadecimal
 abbrev pub string_text : List ℕ → List ℕ
 string_text [] = codes "\"\""
 string_text (octet ∷ more) =
@@ -17,7 +17,7 @@ string_text (octet ∷ more) =
     then codes "STRING: \"" ++ flat_map escaped (octet ∷ more) ++ codes "\""
     else codes "Hex-STRING: " ++ hexadecimal_text (octet ∷ more)
 
--- a value after the word of its type, or what is said where there is none
+-- a value after the name of its type, or what NULL and the exceptions say
 abbrev pub value_text : Datum → List ℕ
 value_text (integer_value n) = codes "INTEGER: " ++ signed_decimal n
 value_text (octet_string octets) = string_text octets

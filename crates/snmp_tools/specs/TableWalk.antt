@@ -1,9 +1,9 @@
--- What `snmpwalk -On table:PATH ROOT` prints, where no module files are given and the root is in
--- numbers: the rows of the table file that are below the root, in the order of their names, or what
--- a Get of the root gives where there are none. This is the page to begin at.
+-- What `snmpwalk -On table:PATH ROOT` prints, without module files and with the root in numbers:
+-- the rows of the table file that are below the root, in the order of their names. If there are
+-- none, it prints what a Get of the root returns. This is the page to begin at.
 --
--- `table.Text` (snmp_agent) says what the lines of the file state, `RowText` which line a row has,
--- and `Output` (snmp_io) what an output took.
+-- `table.Text` (snmp_agent) says what the lines of the file define, `RowText` what the line of a
+-- row is, and `Output` (snmp_io) what an output took.
 use Rattle.std.specs.Prelude.{◌≡◌, ◌≢◌, ◌⊎◌, ◌↔◌, ◌++◌, ◌≤◌, ℕ, List, [], ◌∷◌, length, codes}
 use Rattle.std.specs.Prelude.{AllPairs, Contains}
 use Rattle.std.specs.{List.flat_map, Str.Lines.lines}
@@ -19,15 +19,15 @@ use Rattle.snmp_tools.specs.RowText.{row_line}
 
 -- ---- what is asked for
 
--- the words of the command line
+-- the arguments of the command line, the first of which is the program's name
 abbrev pub table_walk : (path root : List ℕ) → List (List ℕ)
 table_walk path root =
     codes "snmp" ∷ codes "snmpwalk" ∷ codes "-On" ∷ (codes "table:" ++ path) ∷ numeric_text root
     ∷ []
 
--- The file at the path holds this text, whose lines are those of a table, without the mark of the
--- second format. The root can be sent: it has two numbers at least, the first from 0 to 2, and the
--- second below 40 after a first of 0 or 1.
+-- The file at `path` is known to hold `text`. Its lines define a table, and don't have the mark of
+-- the second format. The root can be sent: it has at least two numbers, the first is from 0 to 2,
+-- and after 0 or 1 the second is below 40.
 pub record HoldsTableFile (files : Holdings) (path root text : List ℕ) : Type 0 where
   pub named : path ≢ []
   pub held : Holds files path text
@@ -36,16 +36,18 @@ pub record HoldsTableFile (files : Holdings) (path root text : List ℕ) : Type 
   pub identifier : IsIdentifier root
   pub sendable : IsWire root
 
--- ---- what there is below the root
+-- ---- what is below the root
 
--- the rows of the lines that are below the root, and no others, each once: names rise
+-- `rows` are the rows of the lines that are below the root, and no others, in increasing order of
+-- names, so each is there once
 pub record AreRowsBelow (lines : List (List ℕ)) (root : List ℕ) (rows : List VarBind) : Type 0 where
   pub ordered : AllPairs (λ row later. Precedes row.name later.name) rows
   pub exact : (row : VarBind)
       → Contains rows row ↔ (HasRow first_format lines row × IsBelow row.name root)
 
--- What a Get of a name gives (RFC 3416, section 4.2.1): the row of that name; where no row has it,
--- that there is no such instance of an object whose prefix begins the name, or no such object.
+-- `got` is what a Get of the name `o` returns (RFC 3416, section 4.2.1): the row of that name. If
+-- there is none, it is noSuchInstance if an object prefix of the table begins the name, otherwise
+-- noSuchObject.
 pub data IsGot (lines : List (List ℕ)) (o : List ℕ) (got : VarBind) : Type 0 where
   variable : got.name ≡ o → HasRow first_format lines got → IsGot lines o got
   unknown_object : ((row : VarBind) → HasRow first_format lines row → row.name ≢ o)
@@ -55,7 +57,7 @@ pub data IsGot (lines : List (List ℕ)) (o : List ℕ) (got : VarBind) : Type 0
       → (object rest : List ℕ) → HasPrefix first_format lines object → o ≡ object ++ rest
       → got ≡ record { name = o; value = no_such_instance } → IsGot lines o got
 
--- the rows below the root; where there are none, what a Get of the root gives
+-- `rows` are the rows below the root or, if there are none, what a Get of the root returns
 pub data AreWalked (lines : List (List ℕ)) (root : List ℕ) (rows : List VarBind) : Type 0 where
   below : rows ≢ [] → AreRowsBelow lines root rows → AreWalked lines root rows
   none_below : (got : VarBind) → AreRowsBelow lines root [] → IsGot lines root got → rows ≡ got ∷ []
@@ -68,13 +70,13 @@ pub record PrintsRows (lines : List (List ℕ)) (root : List ℕ)
     (before after err_before err_after : Stream) (status : ℕ) : Type 0 where
   pub rows : List VarBind
   pub are_walked : AreWalked lines root rows
-  -- whatever fails, a front of their lines is written, and nothing else
+  -- whatever fails, a prefix of their lines is written, and nothing else
   pub front : TakesFront before (flat_map row_line rows) after
-  -- at status 0 all of them are
+  -- at status 0 all of their lines are written
   pub all : status ≡ 0 → after ≡ extended before (flat_map row_line rows)
-  -- Where strings are short and there are fewer rows than ids of requests, it is 0, unless the
-  -- output fails, or memory runs out: standard error was given no octet, and then that, or a front
-  -- of that where it failed.
+  -- If strings are short and there are fewer rows than ids of requests, the status is 0, unless
+  -- the output fails or memory runs out. If memory runs out, standard error takes no octet for
+  -- warnings, and then the line that says so, or a prefix of that line if it fails.
   pub ends : ((row : VarBind) → HasRow first_format lines row → IsShort row.value)
       → length rows ≤ 2147483644
       → (status ≡ 0)

@@ -1,4 +1,4 @@
--- The modules that files hold, and why they can't be had.
+-- The modules that files hold, and why module files can't be loaded.
 use Rattle.std.specs.Prelude.{◌≡◌, ◌≢◌, ◌⊎◌, ◌++◌, ℕ, List, [], ◌∷◌, map}
 use Rattle.std.specs.Borrow.{Bor}
 use Rattle.snmp_io.specs.{Files.Holdings, Files.MayHold, Files.MayHoldNone, Steps.IsFirstToFail}
@@ -6,17 +6,18 @@ use Rattle.smi_text.specs.{declared.trees.tree.Module.Module, declared.error.Par
 use Rattle.smi_text.specs.Text.{HasNoDoubles, IsCause, AreSpelledBy}
 use Rattle.smi_text.specs.declared.error.ParseError.TheVariants as error
 
--- the texts that references lead to
+-- the texts that the references point to
 abbrev pub texts : List (Bor (List ℕ)) → List (List ℕ)
 texts paths = map (λ path. path.now) paths
 
--- The text of a file spells these modules. `Held path text` says that the file holds it.
+-- The text of the file at `path` spells the modules `ms`, none of which defines a name twice.
+-- `Held path text` says that the file at the path holds the text.
 abbrev pub AreModulesIn : (Held : (path text : List ℕ) → Type 0) → (path : List ℕ) → List Module
     → Type 0
 AreModulesIn Held path ms = (text : List ℕ) × Held path text × AreSpelledBy ms text
     × HasNoDoubles ms
 
--- these are the modules of the files, one file after the other
+-- `ms` are the modules of the files at `paths`, one file after the other
 abbrev pub AreModulesOf : (Held : (path text : List ℕ) → Type 0) → (paths : List (List ℕ))
     → List Module → Type 0
 AreModulesOf Held [] ms = ms ≡ []
@@ -24,27 +25,28 @@ AreModulesOf Held (path ∷ more) ms =
     (first : List Module) × (rest : List Module) × AreModulesIn Held path first
     × AreModulesOf Held more rest × (ms ≡ first ++ rest)
 
--- the file at a path holds modules, as far as it is known what it holds
+-- the file at the path holds modules, as far as it is known what it holds
 abbrev pub MayHoldModules : Holdings → (path : List ℕ) → Type 0
 MayHoldModules files path = (modules : List Module) × AreModulesIn (MayHold files) path modules
 
--- why the modules of files can't be had
+-- why module files can't be loaded
 pub data Refusal : Type 0 where
   unreadable : (path : List ℕ) → Refusal
   faulty : (path : List ℕ) → ParseError → Refusal
   no_memory : Refusal
 
--- the file has no text, or its text spells no modules
+-- `why` is that the file can't be read, or that its text has a fault, as far as it is known what
+-- the file holds
 abbrev pub FileFails : Holdings → (path : List ℕ) → Refusal → Type 0
 FileFails files path why =
     (MayHoldNone files path × (why ≡ unreadable path))
     ⊎ ((text : List ℕ) × (fault : ParseError) × MayHold files path text
     × (fault ≢ error.Memory) × IsCause fault text × (why ≡ faulty path fault))
 
--- the first file that fails, after those that hold modules
+-- `why` is that of the first file that fails; the files before it hold modules
 abbrev pub FilesFail : Holdings → (paths : List (List ℕ)) → Refusal → Type 0
 FilesFail files paths why = IsFirstToFail paths (MayHoldModules files) (FileFails files) why
 
--- memory ran out, or a file failed
+-- `why` is that memory ran out, or that a file failed
 abbrev pub IsFilesRefusal : Holdings → (paths : List (List ℕ)) → Refusal → Type 0
 IsFilesRefusal files paths why = (why ≡ no_memory) ⊎ FilesFail files paths why

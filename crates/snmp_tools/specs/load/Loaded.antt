@@ -1,4 +1,4 @@
--- The tree of names of module files. By it a job reads names and shows lines.
+-- The tree of names of module files. A job looks up names in it and shows lines by it.
 use Rattle.std.specs.Prelude.{ℕ, List}
 use Rattle.smi_text.specs.declared.trees.tree.Module.{Module}
 use Rattle.smi_names.specs.declared.nodes.warning.Warning.{Warning}
@@ -7,33 +7,33 @@ use Rattle.snmp_io.specs.Output.{Stream, IsWritten}
 use Rattle.snmp_words.specs.Words.{AskingWords}
 use Rattle.snmp_tools.specs.{load.Files.AreModulesOf, load.Warned.warning_lines}
 
--- The modules of the files have this tree, with these warnings. `Held path text` says that the file
--- at the path holds the text.
+-- The modules of the files at `paths` have the tree `tree`, with these warnings. `Held path text`
+-- says that the file at the path holds the text.
 pub record AreLoaded (Held : (path text : List ℕ) → Type 0) (paths : List (List ℕ))
     (tree : Contents) (warnings : List Warning) : Type 0 where
   pub modules : List Module
   pub read : AreModulesOf Held paths modules
   pub loads : IsTree modules tree warnings
 
--- the tree that a job knows: that of the modules of --mib, and of the built-in roots
+-- `mib` is the tree that a job loads: it has the modules of --mib and the built-in roots
 abbrev pub IsMibOf : (Held : (path text : List ℕ) → Type 0) → AskingWords → Contents → Type 0
 IsMibOf Held words mib = (warnings : List Warning) × AreLoaded Held words.mibs mib warnings
 
--- The tree is loaded, and an output took the line of each of its warnings, in order, or a front of
--- them before a write failed.
+-- The tree was loaded, and an output took the line of each of its warnings, in order, or a prefix
+-- of these lines before a write failed.
 pub record IsLoaded (Held : (path text : List ℕ) → Type 0) (paths : List (List ℕ))
     (tree : Contents) (before after : Stream) : Type 0 where
   pub warnings : List Warning
   pub loaded : AreLoaded Held paths tree warnings
   pub told : IsWritten before (warning_lines warnings) after
 
--- How a load of the module files at these paths relates the states of the error output before and
--- after it. Inside this crate, only the contract of a load gives this relation, of the states just
--- before and after, and if a load fails a job must have done nothing else. So a job that promises
--- the relation loads its modules before it asks, prints or serves.
+-- How a load of the module files at `paths` relates the states of the error output just before and
+-- after it. Inside this crate, only the contract of a load ensures this relation. If a load fails,
+-- a job must have done nothing else. So a job that promises the relation loads its modules before
+-- it asks, prints or serves.
 abbrev pub LoadFacts : Type 1
 LoadFacts = (paths : List (List ℕ)) → (before after : Stream) → Type 0
 
--- says nothing: what a public contract has for `Loads`
+-- the relation that says nothing: public contracts have it for `Loads`
 abbrev pub any_load : LoadFacts
 any_load paths before after = Unit {0}

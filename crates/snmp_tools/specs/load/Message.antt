@@ -1,4 +1,4 @@
--- What is reported of module files that can't be had.
+-- What is reported of module files that can't be loaded.
 use Rattle.std.specs.Prelude.{ℕ, List, ◌++◌, codes, decimal}
 use Rattle.smi_text.specs.declared.lexer.token.LexError.TheVariants as lex
 use Rattle.smi_text.specs.declared.error.ParseError.{ParseError}
@@ -7,16 +7,17 @@ use Rattle.snmp_tools.specs.declared.load.error.FilesError.{FilesError}
 use Rattle.snmp_tools.specs.declared.load.error.FilesError.TheVariants as error
 use Rattle.snmp_tools.specs.load.Files.{Refusal, faulty, no_memory, unreadable}
 
--- what an error of the code means
+-- the reason that an error of the code stands for
 abbrev pub refusal_of : FilesError → Refusal
 refusal_of (error.Unreadable path) = unreadable path.now
 refusal_of (error.Text path fault) = faulty path.now fault
 refusal_of error.Memory = no_memory
 
--- what is wrong in a line of the file at a path
+-- the message that something is wrong in a line of the file at `path`
 abbrev pub at_line : (path : List ℕ) → (line : ℕ) → List ℕ → List ℕ
 at_line path line what = path ++ codes ":" ++ decimal line ++ codes ": " ++ what
 
+-- the message about a fault in the text of the file at `path`
 abbrev pub fault_text : (path : List ℕ) → ParseError → List ℕ
 fault_text path (parse.Lex (lex.BadByte line)) = at_line path line (codes "bad character")
 fault_text path (parse.Lex (lex.OpenString line)) = at_line path line (codes "open string")

@@ -1,13 +1,13 @@
--- What is reported of modules that are loaded.
+-- The warnings about loaded modules, as they are reported.
 use Rattle.std.specs.{Prelude.ℕ, Prelude.List, Prelude.◌++◌, Prelude.codes, List.flat_map}
 use Rattle.smi_names.specs.declared.nodes.warning.Warning.{Warning}
 use Rattle.smi_names.specs.declared.nodes.warning.Warning.TheVariants as W
 
--- a definition by its module and label
+-- a definition, as its module and its label
 abbrev pub symbol : (home label : List ℕ) → List ℕ
 symbol home label = home ++ codes "::" ++ label
 
--- what is wrong
+-- the text of a warning
 abbrev pub warning_text : Warning → List ℕ
 warning_text (W.DoubleModule home) = home ++ codes " is loaded twice"
 warning_text (W.MissingModule home from) =

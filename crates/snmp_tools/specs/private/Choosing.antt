@@ -1,19 +1,22 @@
--- The letters in a text, computed, and what one letter of -C chooses, for private clauses.
+-- The letters in a text, as they are computed, and what one letter of -C chooses, for clauses of
+-- private functions.
 use Rattle.std.specs.Prelude.{◌≡◌, ◌⊎◌, ℕ, false, ◌||◌, ◌==◌, if◌then◌else◌, List, [], ◌∷◌}
 use Rattle.std.specs.{Char.is_ascii_digit}
 use Rattle.snmp_tools.specs.Letters.{AreRepetitions, Choices}
 
--- one more octet before the digits at the front and the letters after them
+-- the parts of a text, with one more octet before it
 abbrev pub put : ℕ → List ℕ × List (ℕ × List ℕ) → List ℕ × List (ℕ × List ℕ)
 put octet parts = if is_ascii_digit octet then (octet ∷ parts.0, parts.1)
     else ([], (octet, parts.0) ∷ parts.1)
 
--- the digits at the front of a text, and then its letters, each with the digits after it
+-- the parts of a text: the digits that it begins with, and its letters, each with the digits after
+-- it
 abbrev pub letter_parts : List ℕ → List ℕ × List (ℕ × List ℕ)
 letter_parts [] = ([], [])
 letter_parts (octet ∷ text) = put octet (letter_parts text)
 
--- what is chosen with one letter more
+-- `new` is what is chosen if `part`, a letter with the digits after it, follows the letters that
+-- chose `old`
 pub record OneMore (part : ℕ × List ℕ) (old new : Choices) : Type 0 where
   pub includes_root : new.includes_root ≡ ((part.0 == 105) || old.includes_root)
   pub counts : new.counts ≡ ((part.0 == 112) || old.counts)

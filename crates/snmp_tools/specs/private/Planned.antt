@@ -1,5 +1,5 @@
--- The request and the plan that the program keeps, and what it has read of the words before, for
--- private clauses.
+-- The requests, judged arguments and plans of the code, as definitions see them, for clauses of
+-- private functions.
 use Rattle.std.specs.Prelude.{◌≡◌, ◌≤◌, ◌⊎◌, length, Some, codes, ℕ, List, [], Option, drop}
 use Rattle.std.specs.Prelude.{option_map, unwrap_or}
 use Rattle.snmp_oid.specs.Numeric.{numeric_text}
@@ -22,7 +22,7 @@ use Rattle.smi_tree.specs.{Tree.Contents}
 
 -- ---- what is asked for
 
--- what the letters of -C choose
+-- what the letters of -C choose, as the code stores it
 abbrev pub chosen : Choices → letters.Choices
 chosen c = record {
   includes_root = c.includes_root;
@@ -39,7 +39,7 @@ request_of (request.Walk bulk letters after name) = question.walk bulk letters.n
 abbrev pub ask_words : AskJob → AskWords
 ask_words job = record { asking = asking_words job.asking.now; request = request_of job.request }
 
--- the words, before names are looked up, say this
+-- `orders` is what the arguments say before names are looked up, none of which is refused
 pub record AreOrdersOf (words : AskWords) (orders : Orders) : Type 0 where
   pub version : words.asking.protocol ≡ codes "2c"
   pub letters : AreShown words.asking.letters orders.letters
@@ -49,20 +49,20 @@ pub record AreOrdersOf (words : AskWords) (orders : Orders) : Type 0 where
   pub max_size : orders.max_size ≡ words.asking.max_size
   pub agent : HasAgent words.asking.agent (address_of orders.agent)
 
--- the version or the letters of -O have no meaning
+-- `why` is that the version isn't 2c or, if it is, that the letters of -O have no meaning
 abbrev pub ShowingFails : AskingWords → Fault → Type 0
 ShowingFails words why =
     AskingFails words version_step why
     ⊎ (IsAskingDone words version_step × AskingFails words letters_step why)
 
--- the community is too long, or the agent's word is none
+-- `why` is that the community is too long or, if it isn't, that AGENT isn't a valid address
 abbrev pub AgentFails : AskingWords → Fault → Type 0
 AgentFails words why =
     AskingFails words community_step why
     ⊎ (IsAskingDone words community_step × AskingFails words agent_step why)
 
--- memory ran out, or a name has no meaning: of a walk the root's, or that of the name to go on
--- after
+-- `why` is that a name has no meaning: the first such name of a Get, the root of a walk, or then
+-- the name to continue after. For a Get it can also be that memory ran out.
 abbrev pub NamesFail : question.Request → Contents → Fault → Type 0
 NamesFail (question.get texts) mib why =
     (why ≡ out_of_memory) ⊎ IsFirstToFail texts (HasMeaning mib) (NameFails mib) why
@@ -81,7 +81,7 @@ abbrev pub question_of : Question → question.Question
 question_of (planned.Get names) = question.names names.oids.items
 question_of (planned.Walk w) = question.subtree (walk_of w)
 
--- the texts that it keeps are those of the request
+-- the question stores the texts of the request
 abbrev pub HasTextsOf : question.Request → Question → Type 0
 HasTextsOf (question.get texts) (planned.Get names) = texts_at names.texts.now ≡ texts
 HasTextsOf (question.walk bulk letters after name) (planned.Walk w) =
@@ -97,6 +97,6 @@ plan_of p = record {
   question = question_of p.question;
 }
 
--- what is stated by the words of a walk of a table file, the root being in numbers
+-- the arguments of a walk of the table file at `path`, with the root in numbers
 abbrev pub numeric_walk : (path root : List ℕ) → WalkWords
 numeric_walk path root = words_of_walk path (drop 1 (numeric_text root))

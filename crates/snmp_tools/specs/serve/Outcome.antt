@@ -1,4 +1,4 @@
--- What snmpd does and prints, and why it ends.
+-- What snmpd does and prints, and how it ends.
 use Rattle.std.specs.Prelude.{◌≡◌, ◌⊎◌, ◌+◌, ◌++◌, ℕ, List, Option, Some, codes, decimal}
 use Rattle.snmp_agent.specs.{Reply.Agent, declared.server.Served.Served, table.Table.MibView}
 use Rattle.snmp_io.specs.{Count.HasRisen, Files.MayHold, Output.Stream, Output.extended}
@@ -12,18 +12,20 @@ use Rattle.snmp_tools.specs.load.Loaded.{IsLoaded, LoadFacts}
 use Rattle.snmp_tools.specs.Lines.{IsTextPrinted, StopsAtText}
 use Rattle.snmp_walk.specs.declared.end.WalkEnd.TheVariants as ending
 
--- where requests are received, in the word's own octets
+-- the line that says where requests are received; `word` is the argument of --listen
 abbrev pub listening_line : (word : List ℕ) → List ℕ
 listening_line word = codes "listening on " ++ word ++ codes "\n"
 
--- how many requests were replied to, and how many dropped
+-- the line that says how many requests were replied to, and how many dropped
 abbrev pub counts_line : Served → List ℕ
 counts_line served = decimal served.replies ++ codes " replies, " ++ decimal served.dropped
     ++ codes " dropped\n"
 
--- The place isn't printed, and nothing was served; or it is, then the table is served, and after
--- that the line of the counts is printed, which add up to the turns. `Serves agent turns served`
--- says what may have been served.
+-- Either the line that says where requests are received was printed, then the table was served,
+-- and then the line of the counts was printed, or not all of it for the reason `fault`. All four
+-- counts add up to the turns. Or the first line wasn't printed whole, for the reason `fault`, and
+-- nothing was served, as `Unserved` says. `Serves agent turns served`: serving `agent` for `turns`
+-- turns can return `served`.
 abbrev pub IsServing : (Serves : Agent → ℕ → Served → Type 0) → (Unserved : Type 0) → ServeWords
     → MibView → (before after : Stream) → Option Fault → Type 0
 IsServing Serves Unserved words view before after fault =
@@ -33,30 +35,31 @@ IsServing Serves Unserved words view before after fault =
     × IsTextPrinted (extended before (listening_line words.listen)) (counts_line served) after
     fault)
 
--- what may be served at the door by one call, which leads from one state of the network to
--- another
+-- one call that serves `agent` at `door` for `turns` turns can return `served`, and takes the
+-- network from the state `before` to the state `after`
 abbrev pub ServesAt : {N V D : Type 0} → Network N V D → (before : N) → D → (after : N) → Agent → ℕ
     → Served → Type 0
 ServesAt {N} {V} {D} net before door after agent turns served =
     (later : D) × net.serves before door agent turns served after later
 
--- What snmpd did by the nodes of its modules, for this port of this host, and why it stopped, if
--- it stopped before its turns were done. Where the table file is refused, the network is left as
--- it was. Its count of faults rises only where a call of it failed.
+-- What snmpd did at `port` of `host`, with names by `tree`. `fault` is why not all of it was done,
+-- if so. If the table file is refused, the network stays as it was. The network's count of faults
+-- increases only if a call of it failed.
 pub data IsServedBy {N V D : Type 0} (net : Network N V D) (words : ServeWords) (host : List ℕ)
     (port : ℕ) (tree : Contents) (before after : Seen N) (fault : Option Fault) : Type 0 where
-  -- memory ran out, or the table file can't be read or states none
+  -- memory ran out, or the table file can't be read or doesn't define a table
   refused : (why : Fault)
       → (why ≡ out_of_memory) ⊎ TableFails before.files tree words.table why → after ≡ before
       → fault ≡ Some why → IsServedBy net words host port tree before after fault
-  -- a call of the network failed, which it counted, and else nothing changed
+  -- no door was opened: a call of the network failed, which it counted, and nothing else changed
   not_bound : (view : MibView) → HasTable before.files tree words.table view
       → net.fails before.links after.links
       → HasRisen (net.fault_count before.links) (net.fault_count after.links)
       → after ≡ record before { links = after.links }
       → fault ≡ Some (ended words.listen ending.Link)
       → IsServedBy net words host port tree before after fault
-  -- one door was opened, and once the place was printed, the table was served at it
+  -- one door (server socket) was opened, and the table was served there after the line that says
+  -- where requests are received
   bound : (view : MibView) (door : D) (opened : N)
       → HasTable before.files tree words.table view
       → net.binds before.links host port door opened
@@ -65,9 +68,9 @@ pub data IsServedBy {N V D : Type 0} (net : Network N V D) (words : ServeWords) 
       before.out after.out fault
       → IsServedBy net words host port tree before after fault
 
--- What snmpd did and, of the warnings of its modules, wrote on standard error, and why it stopped,
--- if it stopped before its turns were done: nothing where it was refused before the modules were
--- loaded; else their warnings were written, before anything else.
+-- What snmpd did, what it wrote of the warnings about its modules to standard error, and why not
+-- all of it was done, if so (`fault`). If it was refused before the modules were loaded, it did
+-- nothing. Otherwise the warnings were written before anything else was done.
 pub data IsServeOutcome {N V D : Type 0} (net : Network N V D) (Loads : LoadFacts)
     (words : ServeWords) (before after : Seen N) (fault : Option Fault) : Type 0 where
   not_loaded : (why : Fault) → IsServeRefusal words before.files why → after ≡ before

@@ -1,4 +1,4 @@
--- What the words of snmpd ask for, and why it may be refused.
+-- What the arguments of snmpd ask for, and why they can be refused.
 use Rattle.std.specs.Prelude.{◌≡◌, ◌<◌, ◌≤◌, ◌⊎◌, ℕ, List, [], ◌∷◌, length}
 use Rattle.smi_text.specs.declared.trees.tree.Module.{Module}
 use Rattle.snmp_agent.specs.{Reply.Agent, table.Table.MibView}
@@ -8,27 +8,27 @@ use Rattle.snmp_words.specs.Words.{ServeWords}
 use Rattle.snmp_tools.specs.{Asking.MibsFail, load.Files.AreModulesOf}
 use Rattle.snmp_tools.specs.Message.{Fault, bad_agent, long_community, out_of_memory}
 
--- the agent that the words ask for, over a table
+-- the agent that the arguments ask for, with the table `view`
 abbrev pub served_agent : ServeWords → MibView → Agent
 served_agent words view =
     record { view = view; community = words.community; max_size = words.max_size }
 
--- the words can be served, with this place for requests
+-- the community is short enough, and --listen says that requests are received at `port` of `host`
 pub record IsPlaced (words : ServeWords) : Type 0 where
   pub short_community : length words.community ≤ 255
   pub host : List ℕ
   pub port : ℕ
   pub place : IsHostAndPort words.listen host port
 
--- ---- why not
+-- ---- why the arguments are refused
 
--- the work before the table file is read, in its order
+-- the steps before the table file is read, in order
 pub data ServeStep : Type 0 where
   community_step : ServeStep
   place_step : ServeStep
   modules_step : ServeStep
 
--- the step is done: what it looks for is there
+-- the step is done: it finds nothing to refuse
 abbrev pub IsDoneForService : ServeWords → Holdings → ServeStep → Type 0
 IsDoneForService words files community_step = length words.community ≤ 255
 IsDoneForService words files place_step =
@@ -36,7 +36,7 @@ IsDoneForService words files place_step =
 IsDoneForService words files modules_step =
     (modules : List Module) × AreModulesOf (MayHold files) words.mibs modules
 
--- the step fails for this reason
+-- the step fails for the reason `why`
 abbrev pub FailsForService : ServeWords → Holdings → ServeStep → Fault → Type 0
 FailsForService words files community_step why =
     (255 < length words.community) × (why ≡ long_community)
@@ -45,12 +45,12 @@ FailsForService words files place_step why =
     × (why ≡ bad_agent words.listen)
 FailsForService words files modules_step why = MibsFail files words.mibs why
 
--- the first step that fails, after those that are done
+-- `why` is the reason of the first step that fails; the steps before it are done
 abbrev pub ServiceFails : ServeWords → Holdings → Fault → Type 0
 ServiceFails words files why =
     IsFirstToFail (community_step ∷ place_step ∷ modules_step ∷ []) (IsDoneForService words files)
     (FailsForService words files) why
 
--- why no table file is read: memory ran out, or a step failed
+-- `why` is why no table file is read: memory ran out, or a step failed
 abbrev pub IsServeRefusal : ServeWords → Holdings → Fault → Type 0
 IsServeRefusal words files why = (why ≡ out_of_memory) ⊎ ServiceFails words files why

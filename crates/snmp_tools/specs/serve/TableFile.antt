@@ -1,4 +1,4 @@
--- The table that a file states, by the nodes of modules, or why it states none.
+-- The table that a file defines, with names by the tree of modules, or why it doesn't define one.
 use Rattle.std.specs.Prelude.{◌≡◌, ◌⊎◌, ◌↔◌, ℕ, List, Some, Ok}
 use Rattle.std.specs.{Result.result_ok, Str.Lines.lines}
 use Rattle.snmp_io.specs.Files.{Holdings, MayHold, MayHoldNone}
@@ -9,18 +9,18 @@ use Rattle.smi_show.specs.{name.Meaning.meaning, name.Meant.TextMeans}
 use Rattle.snmp_tools.specs.Message.{Fault, bad_table, unreadable}
 use Rattle.smi_tree.specs.{Tree.Contents}
 
--- a text of the second format names what it means by these nodes
+-- in the second format of table files, a text names the identifier that it means by `tree`
 abbrev pub AreNamesIn : Contents → Names → Type 0
 AreNamesIn tree (names_by look_up) =
     (text o : List ℕ) → (look_up text ≡ Some o) ↔ TextMeans tree text (Ok o)
 AreNamesIn tree numeric_names = ⊥
 
--- the file at a path states this table, as far as it is known what the file holds
+-- the file at `path` defines the table `view`, as far as it is known what the file holds
 abbrev pub HasTable : Holdings → Contents → (path : List ℕ) → MibView → Type 0
 HasTable files tree path view = (names : Names) × AreNamesIn tree names
     × (text : List ℕ) × MayHold files path text × IsTableOf names (lines text) view
 
--- the file at a path can't be read, or its text states no table
+-- `why` is that the file at `path` can't be read, or that its text doesn't define a table
 abbrev pub TableFails : Holdings → Contents → (path : List ℕ) → Fault → Type 0
 TableFails files tree path why =
     (MayHoldNone files path × (why ≡ unreadable path))
@@ -30,6 +30,6 @@ TableFails files tree path why =
 
 -- ---- for private functions
 
--- the names of a table file, computed
+-- the names of a table file, as they are computed
 abbrev pub names_in : Contents → Names
 names_in tree = names_by (λ text. result_ok (meaning tree text))

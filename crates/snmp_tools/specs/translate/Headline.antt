@@ -9,32 +9,35 @@ use Rattle.snmp_io.specs.{Files.Holdings, Files.Holds, Output.Stream, Output.Tak
 use Rattle.snmp_words.specs.Words.{TranslateWords}
 use Rattle.snmp_tools.specs.translate.Text.{AreTextsOf}
 
--- the words ask for names in this style, by the modules of files whose texts are known
+-- the arguments ask for names in the style `style`, by `modules`: those of files whose texts are
+-- known
 pub record AskForTranslation (words : TranslateWords) (files : Holdings) (style : Style)
     (modules : List Module) : Type 0 where
   pub styled : IsStyleOf words style
   pub read : AreModulesOf (Holds files) words.mibs modules
 
--- by the tree of the modules, this was printed
+-- `Printed` holds of the tree of the modules
 pub record IsByTree (modules : List Module) (Printed : Contents → Type 0) : Type 0 where
   pub tree : Contents
   pub warnings : List Warning
   pub loads : IsTree modules tree warnings
   pub printed : Printed tree
 
--- a front of the texts of the first names
+-- a prefix of the texts of the first names was printed
 abbrev pub IsFront : Style → (names : List (List ℕ)) → (before after : Stream) → Contents → Type 0
 IsFront style names before after mib =
     (first : List (List ℕ)) × (rest : List (List ℕ)) × (text : List ℕ) × (names ≡ first ++ rest)
     × AreTextsOf mib style first text × TakesFront before text after
 
--- Where the job ends well, the texts of all names are printed, and nothing else.
+-- If the texts of the module files are known, the texts of all names are printed, and nothing
+-- else. The job promises this at status 0.
 abbrev pub PrintsAll : TranslateWords → Holdings → (before after : Stream) → Type 0
 PrintsAll words files before after =
     (style : Style) (modules : List Module) → AskForTranslation words files style modules
     → IsByTree modules (λ mib. AreNamesPrinted mib style words.names before after)
 
--- Whatever fails, nothing is printed, or a front of the texts of the first names.
+-- If the texts of the module files are known, nothing is printed, or a prefix of the texts of the
+-- first names. The job promises this whatever fails.
 abbrev pub PrintsFront : TranslateWords → Holdings → (before after : Stream) → Type 0
 PrintsFront words files before after =
     (style : Style) (modules : List Module) → AskForTranslation words files style modules

@@ -1,4 +1,4 @@
--- Why nothing is printed: the words or their module files are refused.
+-- Why snmptranslate prints nothing: its arguments or its module files are refused.
 use Rattle.std.specs.Prelude.{◌≡◌, ◌⊎◌, ℕ, List, [], ◌∷◌, Some, None}
 use Rattle.snmp_tools.specs.{load.Files.AreModulesOf, Asking.MibsFail}
 use Rattle.smi_value.specs.Letters.{first_other}
@@ -8,20 +8,20 @@ use Rattle.snmp_words.specs.Words.{TranslateWords}
 use Rattle.snmp_tools.specs.Message.{Fault, bad_letter, out_of_memory}
 use Rattle.snmp_tools.specs.translate.Style.{first_other_of_t}
 
--- the work before anything is printed, in its order
+-- the steps before anything is printed, in order
 pub data TranslateStep : Type 0 where
   letters_step : TranslateStep
   details_step : TranslateStep
   modules_step : TranslateStep
 
--- the step is done: what it looks for is there
+-- the step is done: it finds nothing to refuse
 abbrev pub IsDoneForTranslation : TranslateWords → Holdings → TranslateStep → Type 0
 IsDoneForTranslation words files letters_step = first_other words.letters ≡ None
 IsDoneForTranslation words files details_step = first_other_of_t words.details ≡ None
 IsDoneForTranslation words files modules_step =
     (modules : List Module) × AreModulesOf (MayHold files) words.mibs modules
 
--- the step fails for this reason
+-- the step fails for the reason `why`
 abbrev pub FailsForTranslation : TranslateWords → Holdings → TranslateStep → Fault → Type 0
 FailsForTranslation words files letters_step why =
     (octet : ℕ) × (first_other words.letters ≡ Some octet) × (why ≡ bad_letter octet)
@@ -29,12 +29,12 @@ FailsForTranslation words files details_step why =
     (octet : ℕ) × (first_other_of_t words.details ≡ Some octet) × (why ≡ bad_letter octet)
 FailsForTranslation words files modules_step why = MibsFail files words.mibs why
 
--- the first step that fails, after those that are done
+-- `why` is the reason of the first step that fails; the steps before it are done
 abbrev pub TranslationFails : TranslateWords → Holdings → Fault → Type 0
 TranslationFails words files why =
     IsFirstToFail (letters_step ∷ details_step ∷ modules_step ∷ [])
     (IsDoneForTranslation words files) (FailsForTranslation words files) why
 
--- why nothing is printed: memory ran out, or a step failed
+-- `why` is why nothing is printed: memory ran out, or a step failed
 abbrev pub IsTranslateRefusal : TranslateWords → Holdings → Fault → Type 0
 IsTranslateRefusal words files why = (why ≡ out_of_memory) ⊎ TranslationFails words files why

@@ -4,11 +4,12 @@ use Rattle.smi_value.specs.Letters.{AreLetters, first_other, has_letter}
 use Rattle.snmp_words.specs.Words.{TranslateWords}
 use Rattle.snmp_tools.specs.declared.translate.Style.{Style}
 
--- the first octet that is not d, the one letter of -T
+-- the first octet that isn't `d`, the only letter of -T
 abbrev pub first_other_of_t : List ℕ → Option ℕ
 first_other_of_t text = find (λ octet. not (octet == 100)) text
 
--- all octets are letters, and this is what they say: with d, the details of a name are printed
+-- all octets of -O and -T are letters, and `style` is what they say; if -T has `d`, the details of
+-- a name are printed
 pub record IsStyleOf (words : TranslateWords) (style : Style) : Type 0 where
   pub known : first_other words.letters ≡ None
   pub letters : AreLetters words.letters style.letters

@@ -1,4 +1,4 @@
--- What is printed of names.
+-- What snmptranslate prints of names.
 use Rattle.std.specs.Prelude.{◌≡◌, ◌++◌, ℕ, List, [], ◌∷◌, MatchBool, Option, Ok, codes}
 use Rattle.smi_show.specs.details.Detail.{IsDetail}
 use Rattle.smi_text.specs.declared.trees.tree.Def.{Def}
@@ -6,7 +6,7 @@ use Rattle.smi_show.specs.{name.Meant.TextMeans, name.Name.IsName}
 use Rattle.smi_tree.specs.{Naming.nearest_definition, Tree.Contents}
 use Rattle.snmp_tools.specs.declared.translate.Style.{Style}
 
--- what is printed of an identifier: its details, or its name and a newline
+-- `text` is what is printed of the identifier `o`: its details, or its name and a newline
 abbrev pub IsShown : Contents → Style → (o text : List ℕ) → Type 0
 IsShown mib style o text =
     MatchBool style.details
@@ -14,12 +14,12 @@ IsShown mib style o text =
     ((name : List ℕ) × IsName mib style.letters.names style.letters.numeric_index o name
     × (text ≡ name ++ codes "\n"))
 
--- what is printed of a name that means an identifier
+-- `name` means an identifier, and `text` is what is printed of it
 abbrev pub IsTextOf : Contents → Style → (name text : List ℕ) → Type 0
 IsTextOf mib style name text =
     (o : List ℕ) × TextMeans mib name (Ok o) × IsShown mib style o text
 
--- what is printed of names, one after the other
+-- each of `names` means an identifier, and `text` is what is printed of them, one after the other
 abbrev pub AreTextsOf : Contents → Style → (names : List (List ℕ)) → (text : List ℕ) → Type 0
 AreTextsOf mib style [] text = text ≡ []
 AreTextsOf mib style (name ∷ more) text =
