@@ -1,4 +1,5 @@
--- What a run gave of one table, and how one over the agent in memory ended.
+-- What a walk over one table gave (`walk_rows`), and how a run over the agent in memory ended
+-- (`is_asked`).
 use Rattle.std.proofs.{lemmas.List.Elements.All-contains, lemmas.List.Elements.filter_passes}
 use Rattle.std.proofs.Common.{◌≡◌, ◌⊎◌, inl, inr, ◌++◌, ◌<◌, ◌≤◌, ℕ, zero, suc, Bool, true, List, [], ◌∷◌, length, Option, Some, None, refl, sym, ◌∙◌}
 use Rattle.std.proofs.Common.{ap, arith, subst}
@@ -31,7 +32,8 @@ own_end (ending.Sink fault) s = tt
 own_end ending.Link s = tt
 own_end end s = absurd s
 
--- what is true of an end is true of the one that is reported, if it is in place of a link's failure
+-- what holds of an end holds of `end_in_memory` of it, if for a failed link it holds of the lack
+-- of memory that is reported instead
 in_memory : (P : WalkEnd → Type 0) → (P ending.Link → P (ending.Sink sink.Memory)) → (end : WalkEnd) → P end → P (end_in_memory end)
 in_memory P moved ending.Link h = moved h
 in_memory P moved end h = h
@@ -47,18 +49,18 @@ no_link : (end : WalkEnd) → end_in_memory end ≡ ending.Link → ⊥
 no_link ending.Link h = cc
 no_link end h = cc
 
--- an end tells of the number of rows given
+-- if a walk is done, its end holds the number of rows given
 counts_rows : (plan : Plan) (view : MibView) (first : Walker) (rows : List VarBind) (end : WalkEnd)
     → IsLawfulEnd (agent_over plan view) (HasNone (agent_over plan view)) first rows end → Counts end (length rows)
 counts_rows plan view first rows (ending.Done n) h = h.5.0
 counts_rows plan view first rows end h = tt
 
--- no deliveries lose nothing
+-- if no deliveries are ahead, none were used
 none_used : (used left : List (Option ℕ)) (ahead : List (Option ℕ)) → ahead ≡ used ++ left → ahead ≡ [] → used ≡ []
 none_used [] left ahead e none = refl
 none_used (d ∷ used) left ahead e none = let no : ⊥ = cc in absurd no
 
--- where a question counts, its end tells of the number of rows given
+-- if a question counts and its run is done, the end holds the number of rows given
 pub counted : (question : Question) (plan : Plan) (view : MibView) (given : List VarBind) (end : WalkEnd) → HasReason question plan view given end
     → counts_in question ≡ true → Counts end (length given)
 counted (names os) plan view given end reason e = let no : ⊥ = cc in absurd no
@@ -69,7 +71,7 @@ all_pass test [] each = refl
 all_pass test (row ∷ more) each =
     rw (each row (inl refl)) (ap (λ (s : List VarBind). row ∷ s) (all_pass test more (λ other one. each other (inr one))))
 
--- an instance below the root comes after the root as it is sent
+-- an instance below the root comes after the wire form of the root
 after_wire : (root o : List ℕ) → 3 ≤ length o → IsBelow o root → Precedes (wire root) o
 after_wire (a ∷ b ∷ root) o long below = inl below
 after_wire [] o long ([], some, e) = absurd (some refl)
@@ -86,13 +88,14 @@ after_wire (a ∷ []) o long (zero ∷ z ∷ rest, some, e) = inl (z ∷ rest, �
 after_wire (a ∷ []) o long (suc k ∷ z ∷ rest, some, e) =
     inr record { front = a ∷ []; smaller = 0; larger = suc k; after = []; behind = z ∷ rest; this = refl; that = e; is_smaller = omega arith }
 
--- which rows are left below the root after a name
+-- `rest_of` has just the rows that are below the root and after the name `o`
 abbrev pub LeftAreRows : Type 0
 LeftAreRows = (view : MibView) (root o : List ℕ) (p : VarBind) → IsMibView view
     → (OneOf (rest_of root o (variables view)) p → IsRow view p × IsBelow p.name root × Precedes o p.name)
     × (IsRow view p × IsBelow p.name root × Precedes o p.name → OneOf (rest_of root o (variables view)) p)
 
--- the rows given are a front of those that a question asks for, and all of them where that is done
+-- the rows given and refused are a prefix of the answer to the question, and the rows given are
+-- all of it if the run is done
 pub record GivesRows (question : Question) (view : MibView) (given refused : List VarBind) (end : WalkEnd) : Type 0 where
   pub front : (rows : List VarBind) → AreRowsOf question view rows → (more : List VarBind) × (rows ≡ (given ++ refused) ++ more)
   pub whole : (rows : List VarBind) → AreRowsOf question view rows → IsDone end → given ≡ rows
@@ -115,13 +118,14 @@ module _ (below : BelowAreRows) (left : LeftAreRows) (one_get : (view : MibView)
   from_root mode.Include root got = ap (λ (s : List VarBind). rows_named (wire root) (variables view) ++ s) (rest_is root)
   from_root mode.NoLast root got = rest_is root
 
-  -- what a walk gives of the table, with the answer to a Get of the name that it begins from
+  -- the answer to a walk is `walk_at` of the table, with the result of a Get of the name that the
+  -- walk begins from
   begun_rows : (after : Option (List ℕ)) (community : List ℕ) (w : Walk) (rows : List VarBind) → AreRowsAfter after w view rows
       → (got : VarBind) × IsGet view (first_after after community w).asked got × (rows ≡ walk_at (first_after after community w) view got)
   begun_rows None community w rows are = (are.0, are.1, are.2 ∙ sym (from_root w.mode w.root are.0))
   begun_rows (Some after) community w rows are = let one = one_get view (wire after) in (one.0, one.1, are)
 
-  -- what agents of the table gave to a walk
+  -- a walk over agents that have only this table gives rows of it
   pub walk_rows : (agents : Agents) → agents.tables ≡ view ∷ [] → (Silent : Walker → Type 0) (community : List ℕ) (w : Walk) (given refused : List VarBind)
       (end : WalkEnd) → GivenFacts agents Silent (first_of community w) given refused end → GivesRows (subtree w) view given refused end
   walk_rows agents single Silent community w given refused end facts = record {
@@ -190,7 +194,7 @@ module _ (below : BelowAreRows) (left : LeftAreRows) (one_get : (view : MibView)
         complete = λ room. own_end end (facts.done_unless_stopped _ (of_table view refl refl) (in_each room.0) room.1 none);
       }
 
-  -- the run of a question over a link in memory
+  -- a run that asks a question over a link in memory satisfies `IsAsked` (`is_asked`)
   module _ {W : Type 0} (facts : LinkFacts W) (link after : W) (tries : ℕ) (some : 0 < tries) (plan : Plan)
       (honest : facts.honest link × ((facts.traffic link).sent ≡ [])) (agents : facts.agents link ≡ agent_over plan view)
       (none : (facts.traffic link).ahead ≡ []) (given refused : List VarBind) (end : WalkEnd) where

@@ -1,4 +1,5 @@
--- The names and types that a job knows without module files.
+-- The tree of a job without module files is `bare` (`bare_is_loaded`), which has no syntaxes
+-- (`bare_has_no_syntax`).
 use Rattle.std.proofs.Common.{◌≡◌, refl, sym, subst, ap, ℕ, zero, suc, List, [], ◌∷◌, Option, Some, None}
 use Rattle.std.specs.{Prelude.slice_index_or, Prelude.option_map, Option.option_and_then}
 use Rattle.smi_names.specs.nodes.Nodes.{roots}
@@ -10,7 +11,7 @@ use Rattle.smi_tree.specs.{Tree.Contents}
 use Rattle.smi_tree.specs.Naming.{nearest_syntax}
 use Rattle.snmp_tools.proofs.RowLines.{HasNoSyntax}
 
--- no module files are loaded, whatever files hold
+-- without module files `bare` is loaded, whatever files hold
 pub bare_is_loaded : IsTree [] bare [] → (files : Holdings) (paths : List (List ℕ)) → paths ≡ [] → AreLoaded (Holds files) paths bare []
 bare_is_loaded loads files paths none =
     subst (λ (ps : List (List ℕ)). AreLoaded (Holds files) ps bare []) (sym none)

@@ -1,4 +1,5 @@
--- What is printed of a table file that snmpd serves, where the network between makes nothing up.
+-- What is printed of a table file that snmpd serves, if the network between neither invents nor
+-- alters datagrams (`prints_served`).
 use Rattle.std.proofs.lemmas.Grind.{common_steps}
 use Rattle.std.proofs.Common.{◌≡◌, ◌≢◌, ◌⊎◌, inl, inr, ◌+◌, ◌≤◌, ℕ, Bool, true, false, List, [], ◌∷◌, length, Option, Some, None, refl, sym, ◌∙◌, ap}
 use Rattle.std.proofs.Common.{subst, arith, append-nil}
@@ -28,7 +29,7 @@ use Rattle.snmp_tools.proofs.{Asked.GivesRows, Asked.LeftAreRows, Asked.walk_row
 use Rattle.snmp_tools.proofs.{TableWalks.BelowAreRows, Outcomes.IsFrontOf, Outcomes.finished, Outcomes.no_fault_at_0}
 use Rattle.snmp_tools.proofs.Plans.{OneList, OneTree, held_is, one_load, one_plan}
 
--- ---- the greatest size that a command line states
+-- ---- the greatest size in a command line
 
 number_fits : (text : Option (List ℕ)) (n : ℕ)
     → MatchOption text (n ≡ 1472) (λ t. StatesNumber 1 65507 t n ⊎ (((m : ℕ) → StatesNumber 1 65507 t m → ⊥) × (n ≡ 1472))) → n ≤ 65507
@@ -41,17 +42,19 @@ picked true x y job f g e = f e
 picked false x y job f g e = g e
 
 module _ (words : ServeWords) (line : List (List ℕ)) (s : StateJob line (snmpd words)) where
-  -- what the words state where they name none of so many commands
+  -- the job that the arguments ask for, if they name none of the first `k` commands
   abbrev later : ℕ → Option Stated
   later k = stated_among (drop k (readings s.numbers)) (s.command, s.rows)
 
-  -- only snmpd's words state a service, and its number of octets is read within 1 and 65507
+  -- only arguments of snmpd ask for a service, and its greatest size is read as a number from 1 to
+  -- 65507
   size_fits : words.max_size ≤ 65507
   size_fits = grind (arith, common_steps, picked, number_fits)
 
--- ---- what a walk or a Get heard
+-- ---- what a walk or a Get received
 
--- what happened at a link, and what was given where replies of the agent of one table are all that came
+-- what happened at a link, and what was given if all that arrived are replies of agents with this
+-- one table
 record Heard {W : Type 0} (facts : LinkFacts W) (link later : W) (question : Question) (view : MibView) (given refused : List VarBind) (end : WalkEnd)
     (events : List (Event (Unit {0}))) : Type 0 where
   in_turn : InTurn (Happens facts) link events later
@@ -83,7 +86,7 @@ module _ (below : BelowAreRows) (left : LeftAreRows) (one_get : (view : MibView)
 -- ---- the table that is served
 
 module _ (one_table : (names : Names) (ls : List (List ℕ)) (v w : MibView) → IsTableOf names ls v → IsTableOf names ls w → v ≡ w) where
-  -- a file that is known to hold a text states one table
+  -- a file that is known to hold a text defines at most one table
   one_view : (tree : Contents) (files : Holdings) (path text : List ℕ) (v w : MibView) → Holds files path text → HasTable files tree path v
       → HasTable files tree path w → v ≡ w
   one_view tree files path text v w held a b =
@@ -100,7 +103,7 @@ module _ (one_table : (names : Names) (ls : List (List ℕ)) (v w : MibView) →
 
 -- ---- the end of snmpd
 
--- the agent that it serves
+-- the agent that snmpd serves
 abbrev server_agents : ServeWords → MibView → Agents
 server_agents words view = record { tables = view ∷ []; community = words.community; max_size = words.max_size }
 
@@ -180,7 +183,7 @@ module _ (below : BelowAreRows) (left : LeftAreRows) (one_get : (view : MibView)
   abbrev Agent : Agents
   Agent = server_agents serving ask.view
 
-  -- the file is known, so the text that snmpd read is the one that the walk's words suppose
+  -- the table file is known, so for snmpd too it defines the table `ask.view`
   has_table : HasTable server_before.files ask.nodes serving.table ask.view
   has_table = grind (arith, common_steps)
 
@@ -234,7 +237,7 @@ module _ (below : BelowAreRows) (left : LeftAreRows) (one_get : (view : MibView)
     rows_are : AreRowsOf plan.question ask.view rows
     rows_are = subst (λ (p : Plan). AreRowsOf p.question ask.view rows) plan_is ask.are_rows
 
-    -- what is asked isn't asked of a table file
+    -- the agent isn't over a table file
     no_file : (path : List ℕ) → plan.agent ≡ table path → ⊥
     no_file path over = let agents : udp ask.host ask.port ≡ table path = sym ask.over ∙ ap (λ (p : Plan). p.agent) plan_is ∙ over in cc
 

@@ -1,5 +1,6 @@
--- The letters of -C, read one after the other, choose what the relations say, and these say one
--- thing.
+-- The letters of -C, read one after the other, choose what `HaveChosen` says (`none_read`,
+-- `goes_on`, `ends`), and that is unique (`one_choice`, `no_choice`). `among` and `both` are about
+-- lists of steps.
 use Rattle.std.proofs.{lemmas.Grind.common_steps, Math.Bool.or-false, Math.Bool.or_comm, lemmas.List.Folds.list_any-append}
 use Rattle.std.proofs.Common.{◌≡◌, ◌⊎◌, inl, inr, ◌∙◌, ◌+◌, ◌-◌, ◌++◌, ◌<◌, ◌≤◌, ℕ, Bool, true, false, List, [], ◌∷◌, drop, length, slice_index_or}
 use Rattle.std.proofs.Common.{take, refl, sym, ap, subst, arith, append_assoc, append-nil, length-append}
@@ -17,7 +18,7 @@ Part = ℕ × List ℕ
 
 -- ---- letters in a text
 
--- digits, and letters after them
+-- `parts` are the digits that `text` begins with, and the letters after them
 abbrev Parted : List ℕ → List ℕ × List Part → Type 0
 Parted text parts = (rest : List ℕ) × (text ≡ parts.0 ++ rest) × (list_all is_ascii_digit parts.0 ≡ true) × AreLettersIn rest parts.1
 
@@ -48,7 +49,7 @@ one_list text a b h k = ap (λ (p : List ℕ × List Part). p.1) (sym (parts_of 
 
 -- ---- all letters
 
--- what is true of each step is true of one
+-- what holds of each step holds of one of them
 pub among : {S : Type 0} (P : S → Type 0) (before : List S) (step : S) (after : List S) → AreDone P (before ++ step ∷ after) → P step
 among P [] step after h = h.0
 among P (s ∷ before) step after h = among P before step after h.1
@@ -61,7 +62,7 @@ joined : (front back : List ℕ) (a b : List Part) → AreLettersIn front a → 
 joined front back [] b e are = subst (λ (t : List ℕ). AreLettersIn (t ++ back) b) (sym e) are
 joined front back ((letter, digits) ∷ a) b (rest, e, none, all, more) are = grind (arith, common_steps, append_assoc, joined rest back a b more are)
 
--- a text that doesn't begin with a digit is letters
+-- a text that doesn't begin with a digit is a list of letters
 has_letters : (text : List ℕ) → NoDigitFirst text → (letters : List Part) × AreLettersIn text letters
 has_letters [] none = ([], refl)
 has_letters (octet ∷ text) none =
@@ -73,12 +74,13 @@ has_more x letters part =
     list_any-append (λ (p : Part). p.0 == x) letters (part ∷ []) ∙ or_comm (has x letters) ((part.0 == x) || false)
     ∙ ap (λ (b : Bool). b || has x letters) (or-false (part.0 == x))
 
--- the last number is that of the new part if its letter is r, else the one that it was
+-- if one more part follows, the last number is that of the part if its letter is `r`, otherwise it
+-- stays the same
 last_more : (letters : List Part) (part : Part) (old new : ℕ) → IsLastNumber letters old
     → ((part.0 ≡ 114) × AreRepetitions part.1 new) ⊎ (((part.0 == 114) ≡ false) × (new ≡ old)) → IsLastNumber (letters ++ part ∷ []) new
 last_more letters part old new last one = grind (arith, common_steps, append_assoc, has_more, or_from)
 
--- one letter more is read
+-- if `front` chose `old`, then `front` and one known letter with its digits choose `new`
 more_chosen : (bulk : Bool) (front : List ℕ) (letter : ℕ) (digits : List ℕ) (old new : Choices) → HaveChosen bulk front old
     → is_ascii_digit letter ≡ false → list_all is_ascii_digit digits ≡ true → IsKnown bulk (letter, digits) → OneMore (letter, digits) old new
     → HaveChosen bulk (front ++ letter ∷ digits) new
@@ -93,7 +95,7 @@ more_chosen bulk front letter digits old new h none all known one = record {
   repetitions = last_more h.letters (letter, digits) old.repetitions new.repetitions h.repetitions one.repetitions;
 }
 
--- ---- a digit is no letter
+-- ---- digits aren't letters
 
 plain_is_no_digit : (bulk : Bool) (letter : ℕ) → IsPlain bulk letter → is_ascii_digit letter ≡ false
 plain_is_no_digit bulk letter plain = grind (arith, common_steps)
@@ -106,16 +108,17 @@ digit_tells bulk letter digits octet digit unknown = grind (arith, common_steps,
 
 -- ---- a text, letter by letter
 
--- the letters up to a place of a text choose this, and no digit follows them
+-- the letters of `text` up to the offset `at` choose `choices`, and no digit follows them, except
+-- at offset 0
 pub record AreReadTo (bulk : Bool) (text : List ℕ) (at : ℕ) (choices : Choices) : Type 0 where
   pub chosen : HaveChosen bulk (take at text) choices
   pub next : (at ≡ 0) ⊎ NoDigitFirst (drop at text)
 
--- no letters were read, and nothing is chosen
+-- at offset 0, no letters were read, and the choices are the defaults
 pub none_read : (bulk : Bool) (text : List ℕ) → AreReadTo bulk text 0 no_choices
 none_read bulk text = grind (arith, common_steps)
 
--- a letter at a place, with the digits after it
+-- the letter at the offset `at`, with the `n` digits after it
 module _ (bulk : Bool) (text : List ℕ) (at n : ℕ) (old : Choices) (rest : List ℕ) (low : at < length text)
     (is : rest ≡ take (length text - (at + 1)) (drop (at + 1) text)) (within : n ≤ length rest) (all : list_all is_ascii_digit (take n rest) ≡ true)
     (maximal : n < length rest → is_ascii_digit (slice_index_or rest n 0) ≡ false) (read : AreReadTo bulk text at old) where
@@ -134,11 +137,12 @@ module _ (bulk : Bool) (text : List ℕ) (at n : ℕ) (old : Choices) (rest : Li
   none_after : NoDigitFirst (drop n rest)
   none_after = no_digit_at rest n maximal
 
-  -- behind a letter no digit comes, as its digits were read to their end
+  -- the octet at `at` isn't a digit, except at offset 0: the digits after the letter before it
+  -- were read to their end
   no_digit_or_first : (is_ascii_digit Letter ≡ false) ⊎ ((at ≡ 0) × (is_ascii_digit Letter ≡ true))
   no_digit_or_first = grind (arith, common_steps, at_place)
 
-  -- the text up to behind the digits is the text before, the letter and its digits: one part more
+  -- if the letter is known, the letters up to the end of its digits are read: one part more
   pub goes_on : (new : Choices) → IsKnown bulk (Letter, take n rest) → OneMore (Letter, take n rest) old new → AreReadTo bulk text (at + (1 + n)) new
   goes_on new known more = grind (arith, common_steps, parts, take_at, size, more_chosen, known_is_no_digit, drop_at, none_after)
 
@@ -161,9 +165,9 @@ module _ (bulk : Bool) (text : List ℕ) (at n : ℕ) (old : Choices) (rest : Li
           )
       by (inr (zero_at, digit)) fails = grind (arith, common_steps, digit_tells)
 
--- ---- one thing is chosen
+-- ---- what is chosen is unique
 
--- the number of repetitions after these letters, where it was n before
+-- the number of repetitions after these letters, if it was `n` before them
 abbrev number_in : (n : ℕ) → List Part → ℕ
 number_in n [] = n
 number_in n (part ∷ more) = number_in (if part.0 == 114 then digits_value 10 part.1 else n) more

@@ -1,4 +1,5 @@
--- The headline, of what a job wrote and reported.
+-- What `Headline` says of a job that asks an agent, by what it wrote and reported (`asked_done`),
+-- also if it was refused (`not_asked`).
 use Rattle.std.proofs.Common.{arith, ◌≡◌, ◌⊎◌, inl, inr, ◌++◌, ℕ, Bool, true, false, List, [], Option, Some, None, refl, sym, ◌∙◌, ap, subst, codes}
 use Rattle.std.proofs.lemmas.Grind.{common_steps}
 use Rattle.std.specs.Str.Lines.{lines}
@@ -26,7 +27,8 @@ use Rattle.snmp_tools.proofs.Plans.{IsWant, OneList, OneTree, held_is, one_load,
 use Rattle.smi_tree.specs.{Tree.Contents}
 use Rattle.snmp_tools.proofs.Plans.{wants_late}
 
--- the status is 1, and the output failed, or that memory ran out was reported after the warnings
+-- the status is 1, and the output failed, or it was reported after the warnings that memory ran
+-- out
 abbrev Stops : (before after warned err_after : Stream) → ℕ → Type 0
 Stops before after warned err_after status = (status ≡ 1) × (HasRisen before.faults after.faults ⊎ IsWritten warned (codes "Out of memory.\n") err_after)
 
@@ -51,7 +53,8 @@ want_told why before after err_before err_after status (table_want path e) told 
     line_told (bad_table path table_error.Memory) before after err_before err_after status refl refl (subst (λ (w : Fault). IsReported
     (Some w) err_before err_after status) e told)
 
--- a run that ended for no reason but its own, the output's or memory's
+-- if a run is done, or ended because the output failed or memory ran out, then the status is 0 or
+-- the job `Stops` (`own_told`)
 module _ (mib : Contents) (letters : Letters) (agent : List ℕ) (given turned : List VarBind) (before between after err_before err_after : Stream)
     (fault : Option Fault) (status : ℕ) (told : IsReported fault err_before err_after status) where
   told_of : (other : Option Fault) → fault ≡ other → IsReported other err_before err_after status
@@ -67,7 +70,8 @@ module _ (mib : Contents) (letters : Letters) (agent : List ℕ) (given turned :
   own_told counts (ending.Sink sink.Output) own printed finish = grind (arith, common_steps, told_of, counted)
   own_told counts end own printed finish = absurd own
 
--- nothing was asked, and of what is feasible only for want of memory
+-- if nothing was asked, and of a feasible plan only because memory ran out, then `WritesRows`
+-- holds
 pub not_asked : (words : AskWords) (files : Holdings) (rows : List VarBind) (ask : IsAsk words files rows) (before after err_before warned err_after : Stream)
     (fault : Option Fault) (status : ℕ) (why : Fault) → after ≡ before → fault ≡ Some why → IsReported fault warned err_after status
     → (IsFeasible ask.plan ask.view → IsWant why) → (warned ≡ err_before) ⊎ IsWritten err_before (warning_lines ask.warnings) warned
@@ -127,12 +131,12 @@ module _ (one_table : (names : Names) (ls : List (List ℕ)) (v w : MibView) →
             one_table ask.names (lines ask.text) ask.view view ask.table
             (subst (λ (n : Names). IsTableOf n (lines ask.text) view) names (subst (λ (t : List ℕ). IsTableOf states.0 (lines t) view) text states.4))
 
-        -- what is true of the plan and of the table
+        -- what holds of the plan and the table of `ask` holds of `plan` and `view`
         over_table : (P : Plan → MibView → Type 0) (path : List ℕ) (view : MibView) → plan.agent ≡ table path
             → HasTable before.files mib path view → P ask.plan ask.view → P plan view
         over_table P path view over states p = subst (P plan) (view_is path view over states) (subst (λ (q : Plan). P q ask.view) plan_is p)
 
-        -- what is asked isn't asked over the network
+        -- the agent isn't reached over the network
         no_net : (host : List ℕ) (port : ℕ) → plan.agent ≡ udp host port → ⊥
         no_net host port over = let agents : table ask.path ≡ udp host port = sym agent_is ∙ over in cc
 

@@ -1,4 +1,5 @@
--- What is promised of a job, by what it wrote and reported.
+-- What is promised of a job (`job_done`) and of a command line (`job_is_done`, `fault_is_told`),
+-- by what was written and reported.
 use Rattle.std.proofs.Common.{arith, ◌≡◌, ◌≢◌, ℕ, Bool, true, false, List, [], Option, Some, Result, Ok, Err, IfOk, IfErr, OnOk, refl, sym, subst, inl, inr, codes}
 use Rattle.std.proofs.lemmas.Grind.{common_steps}
 use Rattle.std.specs.{Prelude.String, declared.alloc.Global.Global}
@@ -20,13 +21,13 @@ use Rattle.snmp_tools.specs.Outcome.{IsOutcome, IsReported, not_loaded}
 use Rattle.snmp_tools.proofs.{Headlines.asked_done, Headlines.not_asked, Outcomes.no_fault_at_0, Plans.OneList, Plans.OneTree, Plans.plain_want}
 use Rattle.snmp_tools.proofs.{TableNames.OneMeaning, TranslationHeadlines.all_printed, TranslationHeadlines.front_printed}
 
--- a mistake, or a request for help, isn't that of words without a fault
+-- arguments without a fault have no mistake, and don't ask for help
 no_error : (words : List (List ℕ)) (text : String Global) (help : Bool) → (is_taken words ≡ true → Parse text help ≡ Memory)
     → HasFaultOf (Parse text help) (faults_of words) → AreFaultless words → ⊥
 no_error words text help taken refused (inl takes) = let memory = taken takes in let no : ⊥ = cc in no
 no_error words text help taken refused (inr none) = grind (arith, common_steps)
 
--- words state one job
+-- arguments ask for at most one job
 abbrev pub OneJob : Type 0
 OneJob = (words : List (List ℕ)) (job other : Stated) → StateJob words job → StateJob words other → job ≡ other
 
@@ -36,7 +37,8 @@ module _ {N V D : Type 0} (net : Network N V D) (wire : LinkFacts V) (Loads : Lo
   of_words before after status one words read stated h k done =
       subst (λ (s : Stated). IsJobDone net wire Loads s before after status) (one words read stated h k) done
 
-  -- the outcome of a job, and that of one that asks an agent, by the same words
+  -- the outcome of a job (`of_job`), or of one that asks an agent (`of_ask`), is the outcome of
+  -- the same job
   module _ (before after : Seen N) (fault : Option Fault) where
     pub of_job : (job other : Job) → job ≡ other → IsJobOutcome net wire Loads (job_words other) before after fault
         → IsJobOutcome net wire Loads (job_words job) before after fault
@@ -45,7 +47,7 @@ module _ {N V D : Type 0} (net : Network N V D) (wire : LinkFacts V) (Loads : Lo
     pub of_ask : (read words : AskWords) → read ≡ words → IsOutcome net wire Loads read before after fault → IsOutcome net wire Loads words before after fault
     of_ask read words is outcome = subst (λ (w : AskWords). IsOutcome net wire Loads w before after fault) is outcome
 
-  -- the outcome of a job was reported
+  -- if the outcome of a job was reported, then what is promised of the job holds (`job_done`)
   module _ (one_table : (names : Names) (ls : List (List ℕ)) (v w : MibView) → IsTableOf names ls v → IsTableOf names ls w → v ≡ w)
       (no_fault : (names : Names) (ls : List (List ℕ)) (view : MibView) (fault : TableError) → IsTableOf names ls view → IsFirstFault names ls fault → fault ≡ table_error.Memory)
       (one_list : OneList) (one_tree : OneTree) (one : OneMeaning) (before after : Seen N) (warned : Stream) (fault : Option Fault) (status : ℕ)
@@ -76,7 +78,7 @@ module _ {N V D : Type 0} (net : Network N V D) (wire : LinkFacts V) (Loads : Lo
     job_done (snmpbulkwalk words) outcome = ask_done (of_walk true words) outcome
     job_done (snmpd words) outcome = record { fault = fault; warned = warned; outcome = outcome; reported = told }
 
-  -- memory ran out before anything was done
+  -- if memory ran out before anything was done, then what is promised of any job holds (`undone`)
   module _ (files : Holdings) (links : N) (out err err_after : Stream) (told : IsWritten err (codes "Out of memory.\n") err_after) where
     abbrev Before : Seen N
     Before = seen files links out err
@@ -118,7 +120,8 @@ module _ {N V D : Type 0} (net : Network N V D) (wire : LinkFacts V) (Loads : Lo
       reported = (refl, inr told);
     }
 
-  -- the words were read as a job, which was done, or there was an error, which was shown
+  -- if the arguments were read as a job, which was done, or there was an error, which was shown,
+  -- then what is promised of a command line holds
   module _ (one : OneJob) (words : List (List ℕ)) (before : Seen N) (links : N) (out err : Stream) (status : ℕ) (read : Result Job UsageError)
       (states : IfOk read (λ job. StateJob words (job_words job))) (faultless : OnOk read (faults_of words ≡ []))
       (taken : IfErr read (λ e. is_taken words ≡ true → e ≡ Memory)) (refused : IfErr read (λ e. HasFaultOf e (faults_of words)))

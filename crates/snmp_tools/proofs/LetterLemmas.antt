@@ -1,4 +1,5 @@
--- The letters of -C, found place by place.
+-- The octet at an offset of a text (`at_place`, `no_digit_at`), and the digits of a number
+-- (`weight_at`, `grows`), for the letters of -C.
 use Rattle.std.proofs.{lemmas.Grind.common_steps, lemmas.Bool.Decides.nat_tests, lemmas.Str.digit_value_digit}
 use Rattle.std.proofs.Common.{◌≡◌, ◌+◌, ◌*◌, ◌<◌, ◌≤◌, ℕ, true, false, List, [], ◌∷◌, zero, suc, length, drop, slice_index_or, refl, drop-cons}
 use Rattle.std.proofs.Common.{add-one, arith, drop_of_length-le}
@@ -25,7 +26,7 @@ weight_at [] i all low = absurd (omega (arith, low))
 weight_at (c ∷ more) zero all low = digit_weight c (and_parts (is_ascii_digit c) (list_all is_ascii_digit more) all).0
 weight_at (c ∷ more) (suc i) all low = weight_at more i (and_parts (is_ascii_digit c) (list_all is_ascii_digit more) all).1 (omega (arith, low))
 
--- more digits only make a number larger
+-- more digits never make a number smaller
 pub grows : (n : ℕ) (digits : List ℕ) → n ≤ digits_value_after 10 n digits
 grows n [] = omega arith
 grows n (d ∷ digits) = omega (arith, grows (n * 10 + digit_value d) digits)

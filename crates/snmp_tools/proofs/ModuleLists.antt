@@ -1,4 +1,5 @@
--- The modules of one file more, and that there is one list of them.
+-- The modules of files: those of one file more (`AreModulesOf-more`), that files which are known
+-- have one list of modules (`one_list`), and the first file that fails (`refused_at`).
 use Rattle.std.proofs.Common.{arith, ◌≡◌, ◌∙◌, ◌⊎◌, inl, inr, ◌++◌, ◌+◌, ◌<◌, ap, ap₂, refl, sym, subst, ℕ, List, [], ◌∷◌, Bor, Option, Some, take}
 use Rattle.std.proofs.Common.{drop, length, get_or, unwrap_or, append_assoc, append-nil}
 use Rattle.std.proofs.lemmas.Grind.{common_steps}
@@ -41,12 +42,13 @@ one_list lexing reading files (path ∷ paths) ms ns (first, rest, is, more, who
     whole ∙ ap₂ (λ (xs ys : List Module). xs ++ ys) (one_in lexing reading files path first first' is is')
     (one_list lexing reading files paths rest rest' more more') ∙ sym whole'
 
--- each of the files whose modules were read holds modules
+-- if the modules of files were read, each of the files may hold modules
 are_read : (files : Holdings) (paths : List (List ℕ)) (ms : List Module) → AreModulesOf (MayHold files) paths ms → AreDone (MayHoldModules files) paths
 are_read files [] ms none = tt
 are_read files (path ∷ paths) ms (first, rest, is, more, whole) = ((first, is), are_read files paths rest more)
 
--- the file that fails is the first
+-- if the modules of the first `i` files were read and the file at index `i` fails, it is the first
+-- that fails
 pub refused_at : (files : Holdings) (paths : List (Bor (List ℕ))) (i : ℕ) (d : Bor (List ℕ)) (ms : List Module) (why : Refusal) → i < length paths
     → AreModulesOf (MayHold files) (texts (take i paths)) ms → (why ≡ no_memory) ⊎ FileFails files (get_or paths i d).now why
     → IsFilesRefusal files (texts paths) why
@@ -60,7 +62,7 @@ refused_at files paths i d ms why inside read (inr fails) = inr (record {
   fails = fails;
 })
 
--- each of the files is known to hold modules where all are
+-- if the files are known to hold modules, then each of them is
 pub held_at : (files : Holdings) (before : List (List ℕ)) (path : List ℕ) (left : List (List ℕ)) (ms : List Module)
     → AreModulesOf (Holds files) (before ++ path ∷ left) ms → (first : List Module) × AreModulesIn (Holds files) path first
 held_at files [] path left ms (first, rest, is, more, whole) = (first, is)

@@ -1,4 +1,5 @@
--- What a job wrote of what its words ask for.
+-- What a job wrote of the answer to its question: a prefix of the whole text, and all of it if no
+-- fault is reported (`finished`). At status 0 no fault is reported (`no_fault_at_0`).
 use Rattle.std.proofs.Common.{arith, ◌≡◌, ◌⊎◌, inl, inr, ◌++◌, ℕ, Bool, true, false, length, List, [], Option, Some, None, refl, sym, ◌∙◌, subst}
 use Rattle.std.proofs.Common.{append_assoc, append-nil}
 use Rattle.std.proofs.lemmas.Grind.{common_steps}
@@ -13,7 +14,7 @@ use Rattle.snmp_tools.specs.{Message.Fault, Message.ended, Message.status_of, An
 use Rattle.smi_tree.specs.{Tree.Contents}
 use Rattle.snmp_tools.proofs.Printed.{lines_of_both}
 
--- a front of the lines of some first rows
+-- a prefix of the lines of the first rows was written
 abbrev pub IsFront : Contents → Letters → List VarBind → (before after : Stream) → Type 0
 IsFront mib letters rows before after =
     (first : List VarBind) × (rest : List VarBind) × (text : List ℕ) × (rows ≡ first ++ rest) × AreLines mib letters first text × TakesFront before text after
@@ -22,7 +23,8 @@ all_front : (mib : Contents) (letters : Letters) (before after : Stream) (rows t
     → ((text : List ℕ) × AreLines mib letters rows text × (after ≡ extended before text)) → IsFront mib letters (rows ++ turned) before after
 all_front mib letters before after rows turned h = (rows, turned, h.0, refl, h.1, whole_taken before after h.0 h.2)
 
--- the lines of what was given, and a front of the next
+-- if the lines of the rows given were written, and perhaps a prefix of the line of the refused
+-- one, then a prefix of the lines of all of these was
 pub printed_front : (mib : Contents) (letters : Letters) (before after : Stream) (rows turned : List VarBind) (end : WalkEnd)
     → IsPrintedUpTo mib letters before rows turned end after → IsFront mib letters (rows ++ turned) before after
 printed_front mib letters before after rows turned (ending.Sink sink.Output) h = (
@@ -35,12 +37,12 @@ printed_front mib letters before after rows turned (ending.Sink sink.Output) h =
 )
 printed_front mib letters before after rows turned end h = all_front mib letters before after rows turned h
 
--- the lines of the rows, and where that is asked for their number
+-- `text` is the lines of the rows and, if it is asked for (`counts`), the line of their number
 abbrev pub IsWhole : Contents → Letters → (counts : Bool) → List VarBind → List ℕ → Type 0
 IsWhole mib letters counts rows text =
     (shown : List ℕ) × AreLines mib letters rows shown × (text ≡ shown ++ count_text counts (length rows))
 
--- a front of the lines of some first rows, or of the whole text
+-- a prefix of the lines of the first rows, or of the whole text, was written
 abbrev pub IsFrontOf : Contents → Letters → (counts : Bool) → List VarBind → (before after : Stream) → Type 0
 IsFrontOf mib letters counts rows before after =
     (first : List VarBind) × (rest : List VarBind) × (text : List ℕ) × (rows ≡ first ++ rest)
@@ -61,7 +63,7 @@ module _ (mib : Contents) (letters : Letters) (agent : List ℕ) (before : Strea
   abbrev Whole : Bool → Stream → Type 0
   Whole counts after = (text : List ℕ) × IsWhole mib letters counts rows text × (after ≡ extended before text)
 
-  -- a front of the whole text was written, and all of it where no fault is reported
+  -- a prefix was written as `IsFrontOf` says, and the whole text if no fault is reported
   abbrev Finished : Bool → Stream → Option Fault → Type 0
   Finished counts after fault = IsFrontOf mib letters counts rows before after × (fault ≡ None → Whole counts after)
 
@@ -73,7 +75,7 @@ module _ (mib : Contents) (letters : Letters) (agent : List ℕ) (before : Strea
   all_finished counts after fault (text, whole, taken) =
       (front_of_all counts after text (inr whole) (whole_taken before after text taken), λ none. (text, whole, taken))
 
-  -- where it was done, what follows is the count line, or a front of it
+  -- if the run is done, what follows is the line of the count, or a prefix of it
   done_finished : (counts : Bool) (given : List VarBind) (count : ℕ) (between after : Stream) (fault : Option Fault) → given ≡ rows
       → (counts ≡ true → count ≡ length given) → Lines given between → IsFinished agent (ending.Done count) counts between after fault
       → Finished counts after fault
@@ -94,7 +96,8 @@ module _ (mib : Contents) (letters : Letters) (agent : List ℕ) (before : Strea
       all_finished false after fault
       (text, (text, subst (λ (ps : List VarBind). AreLines mib letters ps text) whole lines, sym (append-nil text)), finish.0 ∙ printed)
 
-  -- what an early end printed are the lines of the rows given, and those are the first of all
+  -- a run that ended early printed a prefix of the lines of its rows, which are the first rows of
+  -- the answer
   end_front : (counts : Bool) (given turned : List VarBind) (end : WalkEnd) (between after : Stream) → IsPrintedUpTo mib letters before given turned end between
       → after ≡ between → ((more : List VarBind) × (rows ≡ (given ++ turned) ++ more)) → IsFrontOf mib letters counts rows before after
   end_front counts given turned end between after printed same left = grind (arith, common_steps, printed_front, append_assoc)

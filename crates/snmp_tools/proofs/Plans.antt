@@ -1,4 +1,6 @@
--- The words ask for one plan, and the steps before its question fail for want of memory alone.
+-- Arguments ask for at most one plan (`one_plan`). Over a table file whose text is known, the
+-- steps before its question fail only for want of memory (`wants_early`, `wants_late`,
+-- `wants_last`).
 use Rattle.std.proofs.{lemmas.Grind.common_steps, lemmas.List.Elements.All-head, lemmas.List.Elements.All-tail}
 use Rattle.std.proofs.Common.{◌≡◌, ◌⊎◌, inl, inr, ℕ, arith, List, [], ◌∷◌, All, map, Option, Some, None, Ok, refl, sym, ◌∙◌, ap, subst}
 use Rattle.std.specs.Str.Lines.{lines}
@@ -30,7 +32,7 @@ pub held_is : (held : Option (Option (List ℕ))) (text other : List ℕ) → Ho
 held_is None text other h e = let no : ⊥ = cc in absurd no
 held_is (Some x) text other h e = cc
 
--- a file that is known to hold a text isn't without one
+-- if a file is known to hold a text, it can't be that it holds none
 pub is_readable : (text : List ℕ) (held : Option (Option (List ℕ))) → held ≡ Some (Some text) → HoldsIfKnown held None → ⊥
 is_readable text None e k = let no : ⊥ = cc in no
 is_readable text (Some x) e k = let no : ⊥ = cc in no
@@ -45,14 +47,14 @@ OneList = (files : Holdings) (paths : List (List ℕ)) (ms ns : List Module) →
 abbrev pub OneTree : Type 0
 OneTree = (modules : List Module) (t u : Contents) (v w : List Warning) → IsTree modules t v → IsTree modules u w → (t ≡ u) × (v ≡ w)
 
--- a job knows the same names, and its modules have the same warnings, where its files are known
+-- if it is known what the module files hold, they have one tree and one list of warnings
 pub one_load : OneList → OneTree → (files : Holdings) (paths : List (List ℕ)) (a b : Contents) (v w : List Warning)
     → AreLoaded (Holds files) paths a v → AreLoaded (MayHold files) paths b w → (a ≡ b) × (v ≡ w)
 one_load one_list one_tree files paths a b v w e f =
     let same : e.modules ≡ f.modules = one_list files paths e.modules f.modules e.read f.read in
     one_tree f.modules a b v w (subst (λ (ms : List Module). IsTree ms a v) same e.loads) f.loads
 
--- a text of letters says one thing
+-- letters of -O have one meaning
 pub one_reading : (text : List ℕ) (a b : Letters) → AreLetters text a → AreLetters text b → a ≡ b
 one_reading text a b p q = grind (arith, common_steps)
 
@@ -68,7 +70,7 @@ one_after : OneMeaning → (mib : Contents) (text a b : Option (List ℕ)) → I
 one_after one mib None a b e f = e ∙ sym f
 one_after one mib (Some text) a b e f = e.2 ∙ ap Some (one_name one mib text e.0 f.0 e.1 f.1) ∙ sym f.2
 
--- texts state just one list of names
+-- texts mean at most one list of identifiers
 pub one_names : OneMeaning → (mib : Contents) (texts a b : List (List ℕ)) → AreNames mib texts a → AreNames mib texts b → a ≡ b
 one_names one mib [] [] [] e f = refl
 one_names one mib [] [] (y ∷ b) e f = absurd f
@@ -78,7 +80,7 @@ one_names one mib (text ∷ texts) (x ∷ a) [] e f = absurd f
 one_names one mib (text ∷ texts) (x ∷ a) (y ∷ b) e f =
     ap (λ (n : List ℕ). n ∷ a) (one_name one mib text x y e.0 f.0) ∙ ap (λ (ns : List (List ℕ)). y ∷ ns) (one_names one mib texts a b e.1 f.1)
 
--- a request asks for one question
+-- a request asks at most one question
 one_question : OneMeaning → (request : Request) (choices : Choices) (mib : Contents) (a b : Question) → IsQuestionOf request choices mib a → IsQuestionOf request choices mib b
     → a ≡ b
 one_question one (get texts) choices mib (names a) (names b) p q = ap names (one_names one mib texts a b p q)
@@ -91,11 +93,11 @@ one_question one (walk bulk letters after name) choices mib (subtree v) (subtree
     let goes_on = one_after one mib after v.after w.after p.goes_on q.goes_on in
     grind (arith, common_steps, p.mode, q.mode, p.method, q.method, p.counts, q.counts)
 
--- words and names ask for one plan: each field is stated by one of its clauses
+-- arguments, with names by one tree, ask for at most one plan: a clause determines each field
 pub one_plan : OneMeaning → (words : AskWords) (mib : Contents) (p q : Plan) → AskFor words mib p → AskFor words mib q → HasAgent words.asking.agent q.agent → p ≡ q
 one_plan one words mib p q a b only = grind (arith, common_steps, one_chosen, one_question, one_reading)
 
--- a fault whose message says that memory ran out
+-- the message of the fault `why` says that memory ran out
 pub data IsWant (why : Fault) : Type 0 where
   plain_want : why ≡ out_of_memory → IsWant why
   table_want : (path : List ℕ) → why ≡ bad_table path table_error.Memory → IsWant why
@@ -128,11 +130,11 @@ module _ (one : OneMeaning)
   no_loading_failure choices_step f = no_chosen words.request ask.asked.choices f.0 ask.asked.chosen f.1
   no_loading_failure mibs_step f = f.3 ask.known.modules ask.known.read
 
-  -- why it wouldn't be asked is that memory ran out
+  -- if the step fails, `why` is that memory ran out
   abbrev Wants : LaterStep → Type 0
   Wants step = FailsBy words files ask.mib step why → IsWant why
 
-  -- names mean what they mean to the question
+  -- the step of a name that means an identifier doesn't fail
   name_want : (text o : List ℕ) → TextMeans ask.mib text (Ok o) → Wants (name_step text)
   name_want text o means f = absurd (no_name one ask.mib text o f.0 means f.1)
 

@@ -1,4 +1,4 @@
--- What a printer writes of the rows that it is given.
+-- What a printer writes of the rows that it is given (`are_printed`).
 use Rattle.std.proofs.Common.{arith, ◌≡◌, ◌++◌, ℕ, List, [], ◌∷◌, Result, Ok, Err, sym, refl, ◌∙◌, ap, subst, append-nil, append_assoc}
 use Rattle.std.proofs.lemmas.Grind.{common_steps}
 use Rattle.smi_value.specs.declared.letters.Letters.{Letters}
@@ -16,7 +16,8 @@ lines_of_both mib letters [] more a b h k = subst (λ (t : List ℕ). AreLines m
 lines_of_both mib letters (row ∷ rows) more a b h k =
     (h.0, h.1 ++ b, h.2, lines_of_both mib letters rows more h.1 b h.3 k, ap (λ (t : List ℕ). t ++ b) h.4 ∙ append_assoc h.0 h.1 b)
 
--- a sink that stays what it is, and whose states are seen as what is known of an output
+-- a sink of which `Is` holds in each state, and which writes the line of each row to its output;
+-- `stream` is what is known of the output
 module _ {S : Type 0} (takes : S → VarBind → Result (Unit {0}) SinkFault → S → Type 0) (stream : S → Stream) (Is : S → Type 0) (mib : Contents) (letters : Letters)
     (stays : (old new : S) (binding : VarBind) (result : Result (Unit {0}) SinkFault) → Is old → takes old binding result new → Is new)
     (writes : (old new : S) (binding : VarBind) (result : Result (Unit {0}) SinkFault) → Is old → takes old binding result new
@@ -34,7 +35,8 @@ module _ {S : Type 0} (takes : S → VarBind → Result (Unit {0}) SinkFault →
       let now = rest.2 ∙ ap (λ (s : Stream). extended s rest.0) first.2 ∙ extended-twice (stream old) first.0 rest.0 in
       (first.0 ++ rest.0, (first.0, rest.0, first.1, rest.1, refl), now)
 
-  -- the lines that the sink took stay; of the refused one a part at most, where the output failed
+  -- the lines of the rows that the sink took were written; of the refused row a prefix of its
+  -- line, if the output failed, otherwise nothing
   refused : (old between new : S) (rows turned : List VarBind) (why : SinkFault) → Is old → Given takes old rows between → Refused takes between turned why new
       → IsPrintedUpTo mib letters (stream old) rows turned (ending.Sink why) (stream new)
   refused old between new rows turned fault.Output is given refusal = grind (arith, common_steps, printed, stayed, append-nil)
@@ -49,7 +51,7 @@ module _ {S : Type 0} (takes : S → VarBind → Result (Unit {0}) SinkFault →
   printed_up_to old new rows turned (ending.Sink why) is h = refused old h.0 new rows turned why is h.1 h.2
   printed_up_to old new rows turned why is h = printed old new rows is h.0
 
--- a printer: it keeps its tree, its letters and its output
+-- a printer: its tree, its letters and its output stay the same
 module _ {S N : Type 0} (tree : S → Contents) (letters : S → Letters) (name : S → N) (stream : S → Stream) where
   abbrev pub prints : S → VarBind → Result (Unit {0}) SinkFault → S → Type 0
   prints old binding result new =

@@ -1,4 +1,5 @@
--- The lines of a reply are written at once, as if the line of each binding was written by itself.
+-- The lines of a reply are written at once, which for the sink is as if the line of each binding
+-- was written by itself (`given_if`, `refused_next`, `refused_at`, `refused_if`).
 use Rattle.std.proofs.Common.{arith, ◌≡◌, ◌∙◌, ◌++◌, ◌⊎◌, ℕ, List, [], ◌∷◌, Result, Ok, Err, OnOk, OnErr, IfErr, true, false, inl, inr, ap, refl}
 use Rattle.std.proofs.Common.{subst, sym, append-nil, append_assoc}
 use Rattle.std.proofs.lemmas.Grind.{common_steps}
@@ -13,7 +14,7 @@ use Rattle.snmp_tools.specs.Lines.{AreLines}
 use Rattle.smi_tree.specs.{Tree.Contents}
 use Rattle.snmp_tools.proofs.Printed.{lines_of_both, prints}
 
--- a front of two texts ends within the first or takes the whole of it
+-- `front`, a prefix of two texts, ends within the first or contains the whole of it
 abbrev Ends : (line rest front left : List ℕ) → Type 0
 Ends line rest front left = ((cut : List ℕ) × (line ≡ front ++ cut)) ⊎ ((more : List ℕ) × (front ≡ line ++ more) × (rest ≡ more ++ left))
 
@@ -22,7 +23,7 @@ where_it_ends [] rest front left e = inr (front, refl, e)
 where_it_ends (x ∷ line) rest [] left e = inl (x ∷ line, refl)
 where_it_ends (x ∷ line) rest (y ∷ front) left e = grind (arith, common_steps, where_it_ends line rest front left)
 
--- a write of two texts fails within the first or, after it, within the second
+-- if a write of two texts fails, it fails within the first or, after that, within the second
 fails_in_one : (before after : Stream) (a b : List ℕ) → FailsWithin before (a ++ b) after
     → FailsWithin before a after ⊎ FailsWithin (extended before a) b after
 fails_in_one before after a b f =
@@ -42,24 +43,24 @@ fails_in_one before after a b f =
       }
     ]
 
--- the line of one more, by what is the tree and are the letters from the start: lines of a list are
--- those of its first part and of its last
+-- if the line of one more row is appended to the lines of `rows`, these are the lines of all.
+-- `tree` and `letters` are those from the start.
 pub next_line : (tree first : Contents) (letters from : Letters) (rows : List VarBind) (p : VarBind) (text line all : List ℕ)
     → tree ≡ first → letters ≡ from → AreLines first from rows text → IsLine tree letters p.name p.value line → all ≡ text ++ line
     → AreLines first from (rows ++ p ∷ []) all
 next_line tree first letters from rows p text line all same_tree same_letters lines is e = grind (arith, common_steps, lines_of_both, append-nil)
 
--- what holds where memory didn't run out
+-- if the result isn't an error, then what is promised at `Ok` holds
 pub at_ok : {E P : Type 0} (result : Result (Unit {0}) E) → false ≡ is_err result → OnOk result P → P
 at_ok (Ok done) e h = h
 at_ok (Err why) e h = let no : ⊥ = cc in absurd no
 
--- and where it did
+-- if the result is an error, then what is promised at an error holds
 pub at_err : {E P : Type 0} (result : Result (Unit {0}) E) → true ≡ is_err result → OnErr result P → P
 at_err (Ok done) e h = let no : ⊥ = cc in absurd no
 at_err (Err why) e h = h
 
--- a printer, which has a state after each text
+-- a printer: `later s text` is its state after its output took `text`, from the state `s`
 module _ {S N : Type 0} (tree : S → Contents) (letters : S → Letters) (name : S → N) (stream : S → Stream) (later : S → List ℕ → S)
     (same : (s : S) (text : List ℕ) → (tree (later s text) ≡ tree s) × (letters (later s text) ≡ letters s) × (name (later s text) ≡ name s))
     (reaches : (s : S) (text : List ℕ) → stream (later s text) ≡ extended (stream s) text) where
@@ -73,7 +74,7 @@ module _ {S N : Type 0} (tree : S → Contents) (letters : S → Letters) (name 
       → AreLines (tree (later old line)) (letters (later old line)) rows text
   lines_later old rows line text lines = grind (arith, common_steps)
 
-  -- all lines were written
+  -- if all lines were written, the sink took all rows
   pub given_all : (old new : S) (p : VarBind) (more : List VarBind) (text : List ℕ) → IsLike new old
       → AreLines (tree old) (letters old) (p ∷ more) text → stream new ≡ extended (stream old) text
       → Given (prints tree letters name stream) old (p ∷ more) new
@@ -87,7 +88,7 @@ module _ {S N : Type 0} (tree : S → Contents) (letters : S → Letters) (name 
         given_all (later old line) new q more rest (like_later new old line is) (lines_later old (q ∷ more) line rest lines) now,
       )
 
-  -- a write failed: the binding whose line isn't whole was refused
+  -- the sink took the first rows, and refused the row after them with the fault `why`
   abbrev IsCutOff : S → List VarBind → SinkFault → S → Type 0
   IsCutOff old rows why new =
       (front : List VarBind) × (p : VarBind) × (back : List VarBind) × (rows ≡ front ++ p ∷ back) × (between : S)
@@ -125,12 +126,13 @@ module _ {S N : Type 0} (tree : S → Contents) (letters : S → Letters) (name 
             (subst (λ s. FailsWithin s rest (stream new)) (sym (reaches old line)) fails))
       ]
 
-  -- as much of bindings that others may follow: the refused one is left where it was
+  -- if a row of `rows` was refused, it is the refused one of all rows, which begin with these
   pub refused_before : (old new : S) (rows left all : List VarBind) (why : SinkFault) → all ≡ rows ++ left → IsCutOff old rows why new
       → IsCutOff old all why new
   refused_before old new rows left all why parts (front, p, back, order, between, given, refused) = grind (arith, common_steps, append_assoc)
 
-  -- The text of the lines was handed to the output, which is as it was before.
+  -- The lines of `p ∷ more`, which are `text`, were passed to the output, whose stream was `start`
+  -- before, the stream of `old`.
   module _ (old new : S) (p : VarBind) (more left all : List VarBind) (text sent : List ℕ) (start : Stream) (is : IsLike new old)
       (lines : AreLines (tree old) (letters old) (p ∷ more) text) (parts : all ≡ (p ∷ more) ++ left) (whole : sent ≡ text)
       (first : start ≡ stream old) where
@@ -145,7 +147,7 @@ module _ {S N : Type 0} (tree : S → Contents) (letters : S → Letters) (name 
         subst P (sym is_all) (given_all old new p more text is lines (taken e))
     given_if (Err why) none e = tt
 
-    -- memory ran out for the next line
+    -- if memory ran out for the next line, its row was refused
     pub refused_next : (q : VarBind) (more_left : List VarBind) → left ≡ q ∷ more_left → stream new ≡ extended start sent
         → IsCutOff old all fault.Memory new
     refused_next q more_left next e = (

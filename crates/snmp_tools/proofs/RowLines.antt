@@ -1,4 +1,4 @@
--- The lines of rows where no object has a syntax: those of `RowText`.
+-- If no object has a syntax, the lines of rows are those of `RowText` (`lines_are`).
 use Rattle.std.proofs.Common.{arith, ◌≡◌, refl, ap, ◌∙◌, ℕ, Bool, true, false, List, [], ◌∷◌, ◌++◌, None, append-nil}
 use Rattle.std.proofs.{lemmas.Grind.common_steps, lemmas.Bool.and_parts}
 use Rattle.std.specs.{Prelude.codes, Prelude.if◌then◌else◌, Prelude.decimal, Fmt.signed_decimal, List.flat_map, List.list_all}
@@ -15,7 +15,7 @@ use Rattle.snmp_tools.specs.{Lines.AreLines, RowText.row_line, RowText.string_te
 use Rattle.smi_tree.specs.{Tree.Contents}
 use Rattle.smi_tree.specs.{Naming.nearest_syntax}
 
--- what `-On` says of lines
+-- the letters of `-On`
 abbrev pub numeric_letters : Letters
 numeric_letters = record {
   names = names.Numeric;
@@ -37,7 +37,7 @@ HasNoSyntax mib = (o : List ℕ) → nearest_syntax mib o ≡ None
 
 -- ---- strings
 
--- no dots are written where each octet is printable
+-- if each octet is printable, no dots are written
 without_dots : (xs : List ℕ) → list_all is_printable xs ≡ true → flat_map (λ x. escaped (dotted x)) xs ≡ flat_map escaped xs
 without_dots [] e = refl
 without_dots (x ∷ xs) e = grind (arith, common_steps, and_parts, without_dots xs)
@@ -54,7 +54,7 @@ string_is (x ∷ xs) = text_is (x ∷ xs) (list_all is_printable (x ∷ xs)) ref
 
 -- ---- values
 
--- a number after the word of its type
+-- a number after the name of its type
 number_is : (word shown number text : List ℕ) → shown ≡ number → text ≡ word ++ shown ++ [] → text ≡ word ++ number
 number_is word shown number text e whole = whole ∙ append-nil (word ++ shown) ∙ ap (λ (t : List ℕ). word ++ t) e
 
@@ -71,7 +71,7 @@ value_is names same value text shows = shows
 
 -- ---- lines
 
--- without a syntax both parts of a line are the stated ones: the name in numbers, and the value
+-- without a syntax, the line of a row has its name in numbers and the text of its value
 line_is : (mib : Contents) → HasNoSyntax mib → (row : VarBind) (line : List ℕ) → IsLine mib numeric_letters row.name row.value line → line ≡ row_line row
 line_is mib none row line is = grind (arith, common_steps, value_is)
 

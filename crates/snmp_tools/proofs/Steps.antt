@@ -1,4 +1,5 @@
--- The first step that fails, after those that are done.
+-- The first step that fails, after those that are done: why a job that asks an agent is refused
+-- (`at_showing`, `at_choices`, `at_agent`, `at_mibs`, `names_refused`, `unreached`, `unsent`).
 use Rattle.std.proofs.{lemmas.Grind.common_steps, lemmas.List.Elements.All-head, lemmas.List.Elements.All-tail, lemmas.List.Elements.AllZip-push}
 use Rattle.std.proofs.Common.{◌≡◌, ◌⊎◌, inl, inr, ◌++◌, ◌+◌, ◌<◌, ℕ, zero, suc, List, [], ◌∷◌, All, Bor, Option, Some, None, Ok, length, map, take}
 use Rattle.std.proofs.Common.{drop, get_or, option_map, unwrap_or, refl, sym, ◌∙◌, ap, subst, append_assoc, arith}
@@ -21,7 +22,7 @@ use Rattle.snmp_tools.specs.declared.plan.Question.TheVariants as questions
 use Rattle.smi_tree.specs.{Tree.Contents}
 use Rattle.snmp_tools.proofs.Texts.{texts-more, texts-parts}
 
--- the text of a reference that may be there, or another's
+-- the text of an optional reference, or of a default if there is none
 pub text_or : (o : Option (Bor (List ℕ))) (d r : Bor (List ℕ)) → r ≡ unwrap_or o d → r.now ≡ unwrap_or (option_map (λ s. s.now) o) d.now
 text_or None d r e = ap (λ (s : Bor (List ℕ)). s.now) e
 text_or (Some t) d r e = ap (λ (s : Bor (List ℕ)). s.now) e
@@ -40,18 +41,18 @@ module _ {S : Type 0} (IsDone : S → Type 0) (Fails : S → Fault → Type 0) (
     fails = h.fails;
   }
 
--- steps that are all done, before others
+-- if steps that are all done come before, the first step that fails is the same
 after_all : {S : Type 0} (IsDone : S → Type 0) (Fails : S → Fault → Type 0) (why : Fault) (done steps : List S) → AreDone IsDone done
     → IsFirstToFail steps IsDone Fails why → IsFirstToFail (done ++ steps) IsDone Fails why
 after_all IsDone Fails why [] steps d h = h
 after_all IsDone Fails why (step ∷ done) steps d h = later IsDone Fails why step (done ++ steps) d.0 (after_all IsDone Fails why done steps d.1 h)
 
--- the first step that fails, with more after
+-- if more steps come after, the first step that fails is the same
 before_more : {S : Type 0} (IsDone : S → Type 0) (Fails : S → Fault → Type 0) (why : Fault) (steps more : List S) → IsFirstToFail steps IsDone Fails why
     → IsFirstToFail (steps ++ more) IsDone Fails why
 before_more {S} IsDone Fails why steps more h = grind (arith, common_steps, append_assoc)
 
--- steps that stand for others
+-- steps that a function maps to other steps
 module _ {S T : Type 0} (f : S → T) where
   map_parts : (done : List S) (failed : S) (left : List S) → map f (done ++ failed ∷ left) ≡ map f done ++ f failed ∷ map f left
   map_parts [] failed left = refl
@@ -73,13 +74,13 @@ module _ {S T : Type 0} (f : S → T) where
       fails = fail h.failed h.fails;
     }
 
--- texts that state names are done
+-- if texts mean identifiers, each of them has a meaning
 pub are_named : (mib : Contents) (texts os : List (List ℕ)) → AreNames mib texts os → AreDone (HasMeaning mib) texts
 are_named mib [] os e = tt
 are_named mib (text ∷ texts) [] e = absurd e
 are_named mib (text ∷ texts) (name ∷ os) e = ((name, e.0), are_named mib texts os e.1)
 
--- what is true of the step of each text that states a name is true of all steps of a request's names
+-- what holds of the step of each name with a meaning holds of all steps of a request's names
 module _ (mib : Contents) (P : LaterStep → Type 0) (one : (text o : List ℕ) → TextMeans mib text (Ok o) → P (name_step text)) where
   each_text : (texts os : List (List ℕ)) → AreNames mib texts os → AreDone P (map name_step texts)
   each_text [] os e = tt
@@ -95,13 +96,14 @@ module _ (mib : Contents) (P : LaterStep → Type 0) (one : (text o : List ℕ) 
   each_name (walk bulk letters after name) choices (subtree w) q = (one (root_text name) w.root q.root, each_after after w.after q.goes_on)
   each_name request choices question q = absurd q
 
--- one more text that states a name
+-- if the first `i` texts mean `os`, and the next one means `o`, then the first `i + 1` texts mean
+-- both
 pub more_names : (mib : Contents) (texts : List (Bor (List ℕ))) (i : ℕ) (d : Bor (List ℕ)) (os : List (List ℕ)) (o : List ℕ) → i < length texts
     → AreNames mib (texts_at (take i texts)) os → TextMeans mib (get_or texts i d).now (Ok o)
     → AreNames mib (texts_at (take (i + 1) texts)) (os ++ o ∷ [])
 more_names mib texts i d os o inside are means = grind (arith, common_steps, texts-more, AllZip-push)
 
--- the first text that states none
+-- if the first `i` texts mean identifiers and the next one doesn't, it is the first that fails
 pub first_unnamed : (mib : Contents) (texts : List (Bor (List ℕ))) (i : ℕ) (d : Bor (List ℕ)) (os : List (List ℕ)) (why : Fault) → i < length texts
     → AreNames mib (texts_at (take i texts)) os → NameFails mib (get_or texts i d).now why
     → IsFirstToFail (texts_at texts) (HasMeaning mib) (NameFails mib) why
@@ -114,7 +116,7 @@ first_unnamed mib texts i d os why inside are fails = record {
   fails = fails;
 }
 
--- the name that can't be sent is the first
+-- if the first `i` names can be sent and the next one can't, it is the first that fails
 pub first_unsent : (mib : Contents) (texts : List (Bor (List ℕ))) (os : List (List ℕ)) (i : ℕ) (text d : Bor (List ℕ)) (o e : List ℕ)
     → AreNames mib (texts_at texts) os → i < length os → text ≡ get_or texts i d → o ≡ get_or os i e
     → All (λ n. IsWire (wire n)) (take i os) → (IsWire (wire o) → ⊥)
@@ -136,7 +138,7 @@ module _ (words : AskWords) (files : Holdings) (why : Fault) where
   abbrev Refused : List LoadingStep → Type 0
   Refused steps = IsFirstToFail steps Done Fails why
 
-  -- before any module file is read
+  -- the job is refused before any module file is read
   pub at_showing : ShowingFails words.asking why → IsEarlyRefusal words files why
   at_showing (inl f) = inr (first Done Fails why (asking version_step) _ f)
   at_showing (inr f) = inr (later Done Fails why (asking version_step) _ f.0 (first Done Fails why (asking letters_step) _ f.1))
@@ -210,7 +212,7 @@ module _ (words : AskWords) (files : Holdings) (why : Fault) where
           → AreDone DoneBy (name_steps request)
       names_done = each_name mib DoneBy (λ text o means. (o, means))
 
-      -- the name to go on after isn't below the root, or can't be sent
+      -- the name to continue after is neither the root nor below it, or can't be sent
       resumed : (root after : List ℕ) (text : List ℕ) (given planned : Option (List ℕ)) → IsNameIfGiven mib given planned → planned ≡ Some after
           → TextMeans mib text (Ok root) → ResumeFails root after (unwrap_or given []) why
           → RefusedBy (goes_on_after (λ t. below_step text t ∷ sent_step t ∷ []) given)
@@ -249,7 +251,7 @@ module _ (words : AskWords) (files : Holdings) (why : Fault) where
             loaded (inr (after_all DoneBy FailsLater why (name_steps words.request) (reach_step ∷ [])
             (names_done words.request asked.choices (question_of plan.question) asked.question) (first DoneBy FailsLater why reach_step [] (agent, only_agent, f))))
 
-        -- a name can't be sent, or the walk can't go on after it
+        -- a name can't be sent, or the walk can't continue after it
         pub unsent : HasTextsOf words.request plan.question → IsReached files mib agent → BeginFails plan.question why → IsLastRefusal words files mib why
         unsent are reached f = record {
           loaded = loading_done;

@@ -1,4 +1,5 @@
--- Names of a table file by the nodes of a tree.
+-- The names of a table file, looked up in a tree, are what their texts mean (`names_are_meant`,
+-- `front_named`, `front_unnamed`).
 use Rattle.std.proofs.Common.{◌≡◌, ◌∙◌, ℕ, List, Option, Some, None, Result, Ok, Err, ap, refl, sym, subst}
 use Rattle.std.specs.Result.{result_ok}
 use Rattle.snmp_oid.specs.Identifier.{IsIdentifier}
@@ -8,7 +9,7 @@ use Rattle.smi_show.specs.declared.name.error.NameError.{NameError}
 use Rattle.snmp_tools.specs.{serve.TableFile.names_in, serve.TableFile.AreNamesIn}
 use Rattle.smi_tree.specs.{Tree.Contents}
 
--- a text means one thing
+-- a text has at most one meaning
 abbrev pub OneMeaning : Type 0
 OneMeaning = (tree : Contents) (text : List ℕ) (a b : Result (List ℕ) NameError) → TextMeans tree text a → TextMeans tree text b → a ≡ b
 
@@ -18,7 +19,7 @@ one_name one tree text a b h k = let same = one tree text (Ok a) (Ok b) h k in c
 pub no_name : OneMeaning → (tree : Contents) (text a : List ℕ) (error : NameError) → TextMeans tree text (Ok a) → TextMeans tree text (Err error) → ⊥
 no_name one tree text a error h k = let same = one tree text (Ok a) (Err error) h k in cc
 
--- a look-up that gives the same names is the same
+-- two look-ups by the same tree are equal
 pub one_look_up : (tree : Contents) (a b : Names) → AreNamesIn tree a → AreNamesIn tree b → a ≡ b
 one_look_up tree numeric_names b h k = absurd h
 one_look_up tree (names_by f) numeric_names h k = absurd k

@@ -1,4 +1,5 @@
--- What the headline says of a walk of a table file in numbers: which lines are printed.
+-- What `Headline` says of a walk of a table file in numbers: which lines are printed
+-- (`prints_rows`); and what such a walk asks for if snmpd serves the file (`asked_in_numbers`).
 use Rattle.std.proofs.{lemmas.Grind.common_steps, lemmas.List.Concat.flat_map-append, lemmas.List.Kept.AllPairs-cons}
 use Rattle.std.proofs.Common.{◌≡◌, ◌≢◌, ◌⊎◌, inl, inr, refl, sym, ◌∙◌, subst, ℕ, zero, suc, ◌+◌, ◌<◌, ◌≤◌, Bool, false, List, [], ◌∷◌, ◌↔◌, ◌++◌, ap}
 use Rattle.std.proofs.Common.{length, None, Ok, Option, Some, arith, append-nil, append_assoc}
@@ -31,9 +32,9 @@ use Rattle.snmp_tools.proofs.BareNames.{bare_has_no_syntax, bare_is_loaded}
 use Rattle.smi_tree.specs.{Tree.Contents}
 use Rattle.snmp_tools.proofs.RowLines.{HasNoSyntax, lines_are, numeric_are, numeric_letters}
 
--- ---- the words
+-- ---- the arguments
 
--- a dot stands before an identifier in numbers
+-- an identifier in numbers begins with a dot
 begins_with_dot : (o : List ℕ) → codes "." ++ drop 1 (numeric_text o) ≡ numeric_text o
 begins_with_dot [] = refl
 begins_with_dot (n ∷ more) = refl
@@ -53,7 +54,7 @@ walk_plan words root agent = record {
   question = subtree (plain_walk root);
 }
 
--- that of a table file
+-- the plan of a walk of a table file
 abbrev file_plan : (path root : List ℕ) → Plan
 file_plan path root = walk_plan (numeric_walk path root) root (table_at path)
 
@@ -61,7 +62,7 @@ file_plan path root = walk_plan (numeric_walk path root) root (table_at path)
 abbrev pub NumbersAreRead : Type 0
 NumbersAreRead = (tree : Contents) (o : List ℕ) → IsIdentifier o → TextMeans tree (numeric_text o) (Ok o)
 
--- no letters of -C choose nothing: none is unknown, and each choice is the one without letters
+-- without letters of -C, the choices are the defaults
 nothing_chosen : HaveChosen false [] no_choices
 nothing_chosen = grind (arith, common_steps)
 
@@ -123,7 +124,7 @@ got_is ls view o got is (table.unknown_object none lacks e) = page.unknown_objec
 got_is ls view o got is (table.unknown_instance none (object, rest, has, parts) e) =
     page.unknown_instance (free_name ls view o is none) object rest ((is.objects object).0 has) parts e
 
--- what a walk gives below its root
+-- `rows_below` has just the rows of the table that are below the root
 abbrev pub BelowAreRows : Type 0
 BelowAreRows = (view : MibView) (root : List ℕ) (p : VarBind) → IsMibView view
     → (OneOf (rows_below root (variables view)) p → IsRow view p × IsBelow p.name root)
@@ -149,7 +150,8 @@ are_walked ls root got (row ∷ more) are is_got = page.below (λ e. cc) are
 
 -- ---- what is written
 
--- the text begins the lines of all rows: it is the lines of the first of them, or of all
+-- if a prefix of the lines of the first rows, or of all rows, was written, then a prefix of the
+-- lines of all rows was
 front_is : (mib : Contents) (before after : Stream) (rows first rest : List VarBind) (text : List ℕ) → HasNoSyntax mib → rows ≡ first ++ rest
     → AreLines mib numeric_letters first text ⊎ ((shown : List ℕ) × AreLines mib numeric_letters rows shown × (text ≡ shown ++ []))
     → TakesFront before text after → TakesFront before (flat_map row_line rows) after
@@ -161,7 +163,7 @@ all_are : (mib : Contents) (before after : Stream) (rows : List VarBind) (text :
     → after ≡ extended before (flat_map row_line rows)
 all_are mib before after rows text none (shown, are, whole) written = grind (arith, common_steps, append-nil, lines_are)
 
--- no warnings are no octets
+-- if there are no warnings, no octets were written for them
 no_warnings : (before now : Stream) → (now ≡ before) ⊎ IsWritten before [] now → IsWritten before [] now
 no_warnings before now (inl same) = inl (same ∙ sym (extended-nil before))
 no_warnings before now (inr written) = written
@@ -173,7 +175,7 @@ mishap_is before after err_before err_after status (inl zero_status) = inl zero_
 mishap_is before after err_before err_after status (inr (one, inl risen)) = inr (one, inl risen)
 mishap_is before after err_before err_after status (inr (one, inr (now, told, same))) = grind (arith, common_steps, no_warnings)
 
--- ---- what is needed
+-- ---- what the walk needs
 
 wire_is : (o : List ℕ) → IsWire o → wire o ≡ o
 wire_is [] h = absurd h
@@ -187,7 +189,7 @@ only_is_long : (got : VarBind) (rows : List VarBind) → length rows ≤ length 
 only_is_long got [] = omega arith
 only_is_long got (row ∷ more) = omega arith
 
--- where strings are short there is room for each row
+-- if strings are short, there is room for each row
 abbrev pub ShortHaveRoom : Type 0
 ShortHaveRoom = (agents : Agents) (view : MibView) (first : Walker) → first.community ≡ agents.community → length agents.community ≤ 30
     → 1472 ≤ agents.max_size → length first.asked ≤ 128 → IsMibView view → ((p : VarBind) → IsRow view p → IsShort p.value)
@@ -214,7 +216,7 @@ feasible ls path root view got identifier sendable is is_view room short few = r
 
 -- ---- the walk
 
--- the table of lines, and what a walk of it gives
+-- the table that lines define, and what a walk of it returns
 record Walked (ls : List (List ℕ)) (root : List ℕ) : Type 0 where
   view : MibView
   by_names : IsTableOf (names_in bare) ls view
@@ -286,7 +288,7 @@ module _ (loads : IsTree [] bare []) (read : NumbersAreRead) (named : AreNamesIn
             (written.ends_at_status_0 (feasible (lines text) path root w.view w.got holds.identifier holds.sendable w.in_lines w.is_view room short few));
       }
 
-  -- of a table file that snmpd serves
+  -- what a walk asks for if snmpd serves the table file
   pub asked_in_numbers : (words : WalkWords) (files : Holdings) (serving : ServeWords) (server_files : Holdings) (line : List (List ℕ)) (root text : List ℕ)
       → IsWalkInNumbers words root → StateJob line (snmpd serving) → serving.mibs ≡ [] → HoldsTableFile server_files serving.table root text
       → IsAskInNumbers words files serving server_files (lines text) root

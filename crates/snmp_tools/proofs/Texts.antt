@@ -6,20 +6,20 @@ use Rattle.snmp_io.specs.{Draft.Written, Draft.Adds, Output.Stream, Output.exten
 use Rattle.snmp_words.specs.Words.{texts_at}
 use Rattle.snmp_tools.specs.{Lines.IsTextPrinted, Lines.StopsAtText, Message.Fault}
 
--- two texts one after the other are added as one
+-- if `a` is appended and then `b`, then `a ++ b` is
 pub adds_both : (old middle new : Written) (a b : List ℕ) → Adds old a middle → Adds middle b new → Adds old (a ++ b) new
 adds_both old middle new a b one two = grind (arith, common_steps, append_assoc)
 
--- a text, and then one of two pieces
+-- if `a` is appended and then `b ++ c`, then `a ++ b ++ c` is
 pub adds_after : (old middle new : Written) (a b c : List ℕ) → Adds old a middle → Adds middle (b ++ c) new → Adds old (a ++ b ++ c) new
 adds_after old middle new a b c one two = grind (arith, common_steps, append_assoc, adds_both)
 
--- the texts behind references, up to a place and one more
+-- the texts of the first `i + 1` references are those of the first `i`, and the one at index `i`
 pub texts-more : (texts : List (Bor (List ℕ))) (i : ℕ) (d : Bor (List ℕ)) → i < length texts
     → texts_at (take (i + 1) texts) ≡ texts_at (take i texts) ++ (get_or texts i d).now ∷ []
 texts-more texts i d inside = grind (arith, common_steps, take_more, map-append)
 
--- all of them, about a place
+-- the texts of all references are those before index `i`, the one there, and those after it
 pub texts-parts : (texts : List (Bor (List ℕ))) (i : ℕ) (d : Bor (List ℕ)) → i < length texts
     → texts_at texts ≡ texts_at (take i texts) ++ (get_or texts i d).now ∷ texts_at (drop (i + 1) texts)
 texts-parts texts i d inside =
@@ -27,14 +27,14 @@ texts-parts texts i d inside =
     ∙ map-append (λ (p : Bor (List ℕ)). p.now) (take i texts) (drop i texts)
     ∙ ap (λ (rest : List (Bor (List ℕ))). texts_at (take i texts) ++ texts_at rest) (drop_more texts i d inside)
 
--- a text that was printed
+-- if no fault is reported, the text was printed
 pub printed : (before after : Stream) (text line : List ℕ) (fault : Option Fault) → text ≡ line → fault ≡ None → IsTextPrinted before text after fault
     → after ≡ extended before line
 printed before after text line fault same none (inl (is, e)) = is ∙ ap (extended before) same
 printed before after text line fault same none (inr (inl (kept, e))) = let no : ⊥ = cc in absurd no
 printed before after text line fault same none (inr (inr (fails, e))) = let no : ⊥ = cc in absurd no
 
--- a text at which it stopped, as the exit of a `?` returns
+-- if a text wasn't printed, and a `?` returns the reason, then `StopsAtText` holds
 pub stopped : (before after : Stream) (text line : List ℕ) (fault returned : Option Fault) (why : Fault) → text ≡ line → fault ≡ Some why
     → returned ≡ Some why → IsTextPrinted before text after fault → StopsAtText before line after returned
 stopped before after text line fault returned why same some is (inl (taken, e)) = let no : ⊥ = cc in absurd no

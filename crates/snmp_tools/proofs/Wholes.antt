@@ -1,4 +1,5 @@
--- What a job that asks an agent was told, and what it wrote.
+-- What an exit by `?` returns (`outcome_err`, `outcome_as`, `if_err`), and what is known of a load
+-- of a job's module files, by equal lists of paths (`loads_from`, `loads_of`, `mibs_fail`).
 use Rattle.std.proofs.Common.{arith, ◌≡◌, ◌⊎◌, inl, inr, refl, ap, ℕ, List, Bor, Option, Some, Result, Ok, Err, subst, sym}
 use Rattle.std.proofs.lemmas.Grind.{common_steps}
 use Rattle.std.specs.{Prelude.IfErr, Result.IsErrAnd}
@@ -10,12 +11,12 @@ use Rattle.snmp_tools.specs.load.Loaded.{IsLoaded, LoadFacts}
 use Rattle.snmp_tools.specs.{Asking.MibsFail, load.Loaded.AreLoaded, declared.failure.Failure.Failure}
 use Rattle.snmp_tools.specs.Message.{Fault, bad_modules, fault_of, modules_fault, out_of_memory, outcome_of}
 
--- what the exit of a `?` returns
+-- if a `?` returns the failure `f`, the outcome is its fault
 pub outcome_err : {T : Type 0} (r : Result T Failure) (f : Failure) → IsErrAnd r (λ e. e ≡ f) → outcome_of r ≡ Some (fault_of f)
 outcome_err (Ok x) f h = absurd h
 outcome_err (Err e) f h = ap (λ (x : Failure). Some (fault_of x)) h
 
--- the same by the fault of what it returns
+-- the same, if only the fault of the failure is known
 pub outcome_as : {T : Type 0} (r : Result T Failure) (why : Fault) → IsErrAnd r (λ e. fault_of e ≡ why) → outcome_of r ≡ Some why
 outcome_as (Ok x) why h = absurd h
 outcome_as (Err e) why h = ap Some h
@@ -24,7 +25,7 @@ pub if_err : {T : Type 0} (P : Failure → Type 0) (r : Result T Failure) (f : F
 if_err P (Ok x) f h p = absurd h
 if_err P (Err e) f h p = subst P (sym h) p
 
--- a load of the same files
+-- a load of the files `given` is a load of the files `paths`, if the paths are the same
 pub loads_from : (files : Holdings) (given paths : List (Bor (List ℕ))) (tree : Contents) (before after : Stream) → given ≡ paths
     → IsLoaded (MayHold files) (texts given) tree before after → IsLoaded (MayHold files) (texts paths) tree before after
 loads_from files given paths tree before after same =
@@ -34,7 +35,7 @@ pub loads_of : (Loads : LoadFacts) (given paths : List (Bor (List ℕ))) (before
     → Loads (texts given) before after → Loads (texts paths) before after
 loads_of Loads given paths before after same = subst (λ (ps : List (Bor (List ℕ))). Loads (texts ps) before after) same
 
--- why module files can't be had
+-- if module files can't be loaded, memory ran out or `MibsFail` holds
 module _ (files : Holdings) (given paths : List (Bor (List ℕ))) (same : given ≡ paths) where
   abbrev HasOnly : Refusal → Type 0
   HasOnly why = (modules : List Module) → AreModulesOf (Holds files) (texts given) modules → why ≡ no_memory

@@ -1,4 +1,4 @@
--- Memory for the lines of warnings ran out.
+-- The goals if memory for the lines of warnings ran out.
 use Rattle.std.proofs.{Common.arith, lemmas.Grind.common_steps, lemmas.Result.err_from_is_err_and}
 use Rattle.snmp_tools.proofs.load.load_tree.Goals as goal
 

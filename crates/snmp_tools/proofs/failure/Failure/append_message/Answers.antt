@@ -3,7 +3,7 @@ use Rattle.snmp_io.specs.Draft.{Adds, Written}
 use Rattle.snmp_tools.specs.{Message.fault_of, Message.fault_message, declared.failure.Failure.Failure}
 use Rattle.snmp_tools.proofs.failure.Failure.append_message.Goals as goal
 
--- the message of a failure is that of the case that it is
+-- the message of a failure is the message of its case
 of_case : (old new : Written) (f g : Failure) → f ≡ g → Adds old (fault_message (fault_of g)) new → Adds old (fault_message (fault_of f)) new
 of_case old new f g e = subst (λ (x : Failure). Adds old (fault_message (fault_of x)) new) (sym e)
 

@@ -51,7 +51,7 @@ returns-in_ok-name_if_given-in-Walk-clause-stated c =
     } in
     subst (λ (r : Request). IsQuestionOf (request_of r) (chosen c.args.choices) mib (subtree w)) (sym c.in-Walk.is) is
 
--- the texts of a walk are those of the request that it is made of
+-- the texts that a walk stores are those of the request that it is made of
 of_walk : (request r : Request) (w : PlannedWalk) → request ≡ r → HasTextsOf (request_of r) (planned.Walk w) → HasTextsOf (request_of request) (planned.Walk w)
 of_walk request r w e = subst (λ (x : Request). HasTextsOf (request_of x) (planned.Walk w)) (sym e)
 

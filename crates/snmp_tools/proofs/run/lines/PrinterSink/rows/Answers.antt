@@ -7,7 +7,7 @@ use Rattle.snmp_tools.proofs.run.lines.PrinterSink.rows.Given.{Over}
 use Rattle.smi_tree.specs.Tree.{Contents}
 use Rattle.snmp_tools.proofs.run.lines.PrinterSink.rows.Goals as goal
 
--- the printer whose writer and output are these now
+-- the printer `s`, with this writer and this output
 abbrev with_output : (g : Over) → Printer g.row.O.Denot → Contents → g.row.O.Denot → Printer g.row.O.Denot
 with_output g s writer out = record {
   writer = writer;
@@ -16,7 +16,7 @@ with_output g s writer out = record {
   out = record { ref_ptr = s.out.ref_ptr; ghost_name = s.out.ghost_name; now = out };
 }
 
--- the printer when its output took a text more
+-- the printer `s`, after its output took `text` too
 abbrev later : (g : Over) → Printer g.row.O.Denot → List ℕ → Printer g.row.O.Denot
 later g s text = with_output g s s.writer (g.O.Output.after s.out.now text)
 
