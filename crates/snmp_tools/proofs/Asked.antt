@@ -175,7 +175,9 @@ module _ (below : BelowAreRows) (left : LeftAreRows) (one_get : (view : MibView)
 
     module _ (w : Walk) (facts : WalkFacts (agent_over plan view) tries old (first_of plan.community w) rows refused end new) where
       lawful : IsLawfulEnd (agent_over plan view) (HasNone (agent_over plan view)) (first_of plan.community w) rows (end_in_memory end)
-      lawful = in_memory (IsLawfulEnd (agent_over plan view) (HasNone (agent_over plan view)) (first_of plan.community w) rows) (λ h. h) end (facts.replied none)
+      lawful =
+          in_memory (IsLawfulEnd (agent_over plan view) (HasNone (agent_over plan view)) (first_of plan.community w) rows) (λ h. h) end
+          (facts.replied none)
 
       gave_walk : GivesRows (subtree w) view rows refused end
       gave_walk = walk_rows (agent_over plan view) refl _ plan.community w rows refused end facts.given

@@ -86,7 +86,8 @@ not_asked words files rows ask before after err_before warned err_after fault st
 }
 
 module _ (one_table : (names : Names) (ls : List (List ℕ)) (v w : MibView) → IsTableOf names ls v → IsTableOf names ls w → v ≡ w)
-    (no_fault : (names : Names) (ls : List (List ℕ)) (view : MibView) (fault : TableError) → IsTableOf names ls view → IsFirstFault names ls fault → fault ≡ table_error.Memory)
+    (no_fault : (names : Names) (ls : List (List ℕ)) (view : MibView) (fault : TableError) → IsTableOf names ls view → IsFirstFault names ls fault
+    → fault ≡ table_error.Memory)
     (one_list : OneList) (one_tree : OneTree) (one : OneMeaning) {N V D : Type 0} (net : Network N V D) (wire : LinkFacts V)
     (Loads : LoadFacts) (words : AskWords) (before after : Seen N) (status : ℕ) (run : IsRun net wire Loads words before after status) where
   module _ (rows : List VarBind) (ask : IsAsk words before.files rows) where
@@ -170,7 +171,8 @@ module _ (one_table : (names : Names) (ls : List (List ℕ)) (v w : MibView) →
 
     told_of_all : IsOutcome net wire Loads words before End run.fault → Told
     told_of_all (not_loaded why early same is) =
-        unasked why (ap (λ (s : Seen N). s.out) same) is (λ can. wants_early one no_fault words before.files rows ask why early) (inl (ap (λ (s : Seen N). s.err) same))
+        unasked why (ap (λ (s : Seen N). s.out) same) is (λ can. wants_early one no_fault words before.files rows ask why early)
+        (inl (ap (λ (s : Seen N). s.err) same))
     told_of_all (loaded mib warnings loading made written by) = told_by mib warnings loading written by
 
   pub asked_done : IsAskDone net wire Loads words before after status

@@ -1,6 +1,7 @@
 -- What is promised of a job (`job_done`) and of a command line (`job_is_done`, `fault_is_told`),
 -- by what was written and reported.
-use Rattle.std.proofs.Common.{arith, ◌≡◌, ◌≢◌, ℕ, Bool, true, false, List, [], Option, Some, Result, Ok, Err, IfOk, IfErr, OnOk, refl, sym, subst, inl, inr, codes}
+use Rattle.std.proofs.Common.{arith, ◌≡◌, ◌≢◌, ℕ, Bool, true, false, List, [], Option, Some, Result, Ok, Err, IfOk, IfErr, OnOk, refl, sym}
+use Rattle.std.proofs.Common.{subst, inl, inr, codes}
 use Rattle.std.proofs.lemmas.Grind.{common_steps}
 use Rattle.std.specs.{Prelude.String, declared.alloc.Global.Global}
 use Rattle.snmp_agent.specs.declared.table.error.TableError.{TableError}
@@ -49,7 +50,8 @@ module _ {N V D : Type 0} (net : Network N V D) (wire : LinkFacts V) (Loads : Lo
 
   -- if the outcome of a job was reported, then what is promised of the job holds (`job_done`)
   module _ (one_table : (names : Names) (ls : List (List ℕ)) (v w : MibView) → IsTableOf names ls v → IsTableOf names ls w → v ≡ w)
-      (no_fault : (names : Names) (ls : List (List ℕ)) (view : MibView) (fault : TableError) → IsTableOf names ls view → IsFirstFault names ls fault → fault ≡ table_error.Memory)
+      (no_fault : (names : Names) (ls : List (List ℕ)) (view : MibView) (fault : TableError) → IsTableOf names ls view → IsFirstFault names ls fault
+      → fault ≡ table_error.Memory)
       (one_list : OneList) (one_tree : OneTree) (one : OneMeaning) (before after : Seen N) (warned : Stream) (fault : Option Fault) (status : ℕ)
       (told : IsReported fault warned after.err status) where
     ask_done : (words : AskWords) → IsOutcome net wire Loads words before (record after { err = warned }) fault
@@ -131,7 +133,8 @@ module _ {N V D : Type 0} (net : Network N V D) (wire : LinkFacts V) (Loads : Lo
     job_is_done job without stated = by_reading read states taken refused done told
       where
         by_reading : (r : Result Job UsageError) → IfOk r (λ j. StateJob words (job_words j)) → IfErr r (λ e. is_taken words ≡ true → e ≡ Memory)
-            → IfErr r (λ e. HasFaultOf e (faults_of words)) → IfOk r (λ j. IsJobDone net wire Loads (job_words j) before (seen before.files links out err) status)
+            → IfErr r (λ e. HasFaultOf e (faults_of words))
+            → IfOk r (λ j. IsJobDone net wire Loads (job_words j) before (seen before.files links out err) status)
             → IfErr r (λ e. (links ≡ before.links) × ShowsError e before.out out before.err err status)
             → IsJobDone net wire Loads job before (seen before.files links out err) status
         by_reading (Ok j) s t f d e = of_words before (seen before.files links out err) status one words (job_words j) job s stated d
@@ -139,7 +142,8 @@ module _ {N V D : Type 0} (net : Network N V D) (wire : LinkFacts V) (Loads : Lo
             let P : N → Type 0 = λ n. IsJobDone net wire Loads job before (seen before.files n out err) status in
             let Q : Stream → Type 0 = λ o. IsJobDone net wire Loads job before (seen before.files before.links o err) status in
             let R : ℕ → Type 0 = λ k. IsJobDone net wire Loads job before (seen before.files before.links before.out err) k in
-            subst P (sym same_links) (subst Q (sym same_out) (subst R (sym one_status) (undone before.files before.links before.out before.err err written job)))
+            subst P (sym same_links) (subst Q (sym same_out) (subst R (sym one_status)
+            (undone before.files before.links before.out before.err err written job)))
         by_reading (Err (Parse text help)) s t f d e = absurd (no_error words text help t f without)
 
     pub fault_is_told : faults_of words ≢ [] → (links ≡ before.links) × IsHelpOrMistake words before.out out before.err err status

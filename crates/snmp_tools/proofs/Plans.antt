@@ -81,8 +81,8 @@ one_names one mib (text ∷ texts) (x ∷ a) (y ∷ b) e f =
     ap (λ (n : List ℕ). n ∷ a) (one_name one mib text x y e.0 f.0) ∙ ap (λ (ns : List (List ℕ)). y ∷ ns) (one_names one mib texts a b e.1 f.1)
 
 -- a request asks at most one question
-one_question : OneMeaning → (request : Request) (choices : Choices) (mib : Contents) (a b : Question) → IsQuestionOf request choices mib a → IsQuestionOf request choices mib b
-    → a ≡ b
+one_question : OneMeaning → (request : Request) (choices : Choices) (mib : Contents) (a b : Question)
+    → IsQuestionOf request choices mib a → IsQuestionOf request choices mib b → a ≡ b
 one_question one (get texts) choices mib (names a) (names b) p q = ap names (one_names one mib texts a b p q)
 one_question one (get texts) choices mib (names a) (subtree w) p q = absurd q
 one_question one (get texts) choices mib (subtree v) b p q = absurd p
@@ -94,7 +94,8 @@ one_question one (walk bulk letters after name) choices mib (subtree v) (subtree
     grind (arith, common_steps, p.mode, q.mode, p.method, q.method, p.counts, q.counts)
 
 -- arguments, with names by one tree, ask for at most one plan: a clause determines each field
-pub one_plan : OneMeaning → (words : AskWords) (mib : Contents) (p q : Plan) → AskFor words mib p → AskFor words mib q → HasAgent words.asking.agent q.agent → p ≡ q
+pub one_plan : OneMeaning → (words : AskWords) (mib : Contents) (p q : Plan) → AskFor words mib p → AskFor words mib q
+    → HasAgent words.asking.agent q.agent → p ≡ q
 one_plan one words mib p q a b only = grind (arith, common_steps, one_chosen, one_question, one_reading)
 
 -- the message of the fault `why` says that memory ran out
@@ -103,7 +104,8 @@ pub data IsWant (why : Fault) : Type 0 where
   table_want : (path : List ℕ) → why ≡ bad_table path table_error.Memory → IsWant why
 
 module _ (one : OneMeaning)
-    (no_fault : (names : Names) (ls : List (List ℕ)) (view : MibView) (fault : TableError) → IsTableOf names ls view → IsFirstFault names ls fault → fault ≡ table_error.Memory)
+    (no_fault : (names : Names) (ls : List (List ℕ)) (view : MibView) (fault : TableError) → IsTableOf names ls view → IsFirstFault names ls fault
+    → fault ≡ table_error.Memory)
     (words : AskWords) (files : Holdings) (rows : List VarBind) (ask : IsAsk words files rows) (why : Fault) where
   agent_is : (agent : Address) → HasAgent words.asking.agent agent → agent ≡ table ask.path
   agent_is agent has = sym (has.1 ask.plan.agent ask.asked.agent) ∙ ask.over

@@ -18,7 +18,8 @@ lines_of_both mib letters (row ∷ rows) more a b h k =
 
 -- a sink of which `Is` holds in each state, and which writes the line of each row to its output;
 -- `stream` is what is known of the output
-module _ {S : Type 0} (takes : S → VarBind → Result (Unit {0}) SinkFault → S → Type 0) (stream : S → Stream) (Is : S → Type 0) (mib : Contents) (letters : Letters)
+module _ {S : Type 0} (takes : S → VarBind → Result (Unit {0}) SinkFault → S → Type 0) (stream : S → Stream) (Is : S → Type 0)
+    (mib : Contents) (letters : Letters)
     (stays : (old new : S) (binding : VarBind) (result : Result (Unit {0}) SinkFault) → Is old → takes old binding result new → Is new)
     (writes : (old new : S) (binding : VarBind) (result : Result (Unit {0}) SinkFault) → Is old → takes old binding result new
     → TakesLine mib letters (stream old) binding result (stream new)) where

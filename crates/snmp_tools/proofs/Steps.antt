@@ -153,14 +153,17 @@ module _ (words : AskWords) (files : Holdings) (why : Fault) where
     module _ (c : Done choices_step) where
       pub at_agent : AgentFails words.asking why → IsEarlyRefusal words files why
       at_agent (inl f) = inr (shown _ (later Done Fails why choices_step _ c (first Done Fails why (asking community_step) _ f)))
-      at_agent (inr f) = inr (shown _ (later Done Fails why choices_step _ c (later Done Fails why (asking community_step) _ f.0 (first Done Fails why (asking agent_step) _ f.1))))
+      at_agent (inr f) =
+          inr (shown _ (later Done Fails why choices_step _ c (later Done Fails why (asking community_step) _ f.0
+          (first Done Fails why (asking agent_step) _ f.1))))
 
   module _ (orders : Orders) (are : AreOrdersOf words orders) where
     pub at_mibs : (why ≡ out_of_memory) ⊎ MibsFail files words.asking.mibs why → IsEarlyRefusal words files why
     at_mibs (inl e) = inl e
     at_mibs (inr f) =
         inr (shown are.version (orders.letters, are.letters) _ (later Done Fails why choices_step _ (chosen orders.choices, are.chosen)
-        (later Done Fails why (asking community_step) _ are.short_community (later Done Fails why (asking agent_step) _ (address_of orders.agent, are.agent) (first Done Fails why mibs_step _ f)))))
+        (later Done Fails why (asking community_step) _ are.short_community
+        (later Done Fails why (asking agent_step) _ (address_of orders.agent, are.agent) (first Done Fails why mibs_step _ f)))))
 
     module _ (mib : Contents) (known : IsMibOf (MayHold files) words.asking mib) where
       loading_done : AreDone Done loading_steps
@@ -249,7 +252,8 @@ module _ (words : AskWords) (files : Holdings) (why : Fault) where
         unreached (inl e) = loaded (inl e)
         unreached (inr f) =
             loaded (inr (after_all DoneBy FailsLater why (name_steps words.request) (reach_step ∷ [])
-            (names_done words.request asked.choices (question_of plan.question) asked.question) (first DoneBy FailsLater why reach_step [] (agent, only_agent, f))))
+            (names_done words.request asked.choices (question_of plan.question) asked.question)
+            (first DoneBy FailsLater why reach_step [] (agent, only_agent, f))))
 
         -- a name can't be sent, or the walk can't continue after it
         pub unsent : HasTextsOf words.request plan.question → IsReached files mib agent → BeginFails plan.question why → IsLastRefusal words files mib why

@@ -10,7 +10,8 @@ returns-clause-taken c = λ path root. ap is_taken (words_are path root) ∙ c.w
 
 pub returns-clause-stated : goal.returns-clause-stated
 returns-clause-stated c = λ path root.
-    subst (λ (words : List (List ℕ)). StateJob words (snmpwalk (numeric_walk path root))) (sym (words_are path root)) (c.walks_are_taken.ensures.joined_job path _)
+    subst (λ (words : List (List ℕ)). StateJob words (snmpwalk (numeric_walk path root))) (sym (words_are path root))
+    (c.walks_are_taken.ensures.joined_job path _)
 
 pub returns-clause-printed : goal.returns-clause-printed
 returns-clause-printed c =

@@ -17,7 +17,8 @@ pub returns-in_err-table-in-Table : goal.returns-in_err-table-in-Table
 returns-in_err-table-in-Table g c = λ err.
     let why = fault_of c.in_err-table-in-Table.field-0.0 in
     refused why (unreached _ _ why c.args.orders c.requires.orders _ c.requires.known c.in_ok-plan.plan c.in_ok-plan.ensures.asked c.in_ok-plan.ensures.only
-    (table c.in-Table.path.now) (ap address_of c.in-Table.is) c.in_err-table-in-Table.ensures.err) refl (outcome_err _ _ c.from_residual-in_err-table-in-Table.ensures.1)
+    (table c.in-Table.path.now) (ap address_of c.in-Table.is) c.in_err-table-in-Table.ensures.err) refl
+    (outcome_err _ _ c.from_residual-in_err-table-in-Table.ensures.1)
 
 pub returns-in_err-end-in-Table : goal.returns-in_err-end-in-Table
 returns-in_err-end-in-Table g c = λ err.
@@ -26,7 +27,12 @@ returns-in_err-end-in-Table g c = λ err.
     not_begun why (unsent _ _ why c.args.orders c.requires.orders _ c.requires.known c.in_ok-plan.plan c.in_ok-plan.ensures.asked c.in_ok-plan.ensures.only
     (table c.in-Table.path.now) over c.in_ok-plan.ensures.texts (_, c.in_ok-table-in-Table.ensures.table) c.in_err-end-in-Table.ensures.refused.0) _
     record { known = c.requires.known; asked = c.in_ok-plan.ensures.asked; only = c.in_ok-plan.ensures.only }
-    (inl (c.in-Table.path.now, over, ap (λ (s : Stream). seen (g.F.Files.text_at c.args.files.now) c.args.links.now s err) c.in_err-end-in-Table.ensures.refused.1))
+    (inl (
+      c.in-Table.path.now,
+      over,
+      ap (λ (s : Stream). seen (g.F.Files.text_at c.args.files.now) c.args.links.now s err)
+          c.in_err-end-in-Table.ensures.refused.1,
+    ))
     (outcome_err _ _ c.from_residual-in_err-end-in-Table.ensures.1)
 
 pub returns-in-Table : goal.returns-in-Table

@@ -46,7 +46,8 @@ returns-in_ok-name_if_given-in-Walk-clause-stated c =
       mode = c.mode.ensures;
       method = c.method.ensures.method;
       counts = refl;
-      root = subst (λ (t : List ℕ). TextMeans mib t (Ok c.in_ok-name-in-Walk.field-0)) (text_or c.in-Walk.root _ _ c.unwrap_or-root_text.ensures) c.in_ok-name-in-Walk.ensures.ok;
+      root = subst (λ (t : List ℕ). TextMeans mib t (Ok c.in_ok-name-in-Walk.field-0)) (text_or c.in-Walk.root _ _ c.unwrap_or-root_text.ensures)
+          c.in_ok-name-in-Walk.ensures.ok;
       goes_on = c.in_ok-name_if_given-in-Walk.ensures.ok;
     } in
     subst (λ (r : Request). IsQuestionOf (request_of r) (chosen c.args.choices) mib (subtree w)) (sym c.in-Walk.is) is

@@ -73,7 +73,8 @@ returns-in_err-write_lines-clause-err g c =
     let same = at_err c.line-in-rows.result (sym c.if-is_err-2.true ∙ c.is_err-in-rows.ensures.value) c.line-in-rows.ensures.unchanged_on_error in
     let exit = err_from_is_err_and c.from_residual.result c.from_residual.ensures.1 in
     rw (exit.1, exit.2) (refused_at (λ s. s.writer) (λ s. s.letters) (λ s. s.out.ghost_name) (λ s. g.O.Output.stream s.out.now) (later g)
-    (λ s t. (refl, refl, refl)) (λ s t. g.met.O.Output.after_takes s.out.now t) c.args.self.now (with_output g c.rows.self c.line-in-rows.new.self c.write_lines.new.out)
+    (λ s t. (refl, refl, refl)) (λ s t. g.met.O.Output.after_takes s.out.now t) c.args.self.now
+    (with_output g c.rows.self c.line-in-rows.new.self c.write_lines.new.out)
     made.0 made.1 c.rows.rows c.args.rows c.rows.self.text.now.items _
     (g.O.Output.stream c.rows.self.out.now)
     (c.line-in-rows.ensures.same ∙ c.rows.invariant.writer, c.rows.invariant.letters, ap (λ o. o.ghost_name) c.rows.invariant.output)
@@ -86,7 +87,8 @@ returns-then-is_err-2-clause-err g c =
     let same = at_err c.line-in-rows.result (sym c.if-is_err-2.true ∙ c.is_err-in-rows.ensures.value) c.line-in-rows.ensures.unchanged_on_error in
     let next = c.read_next-in-rows.ensures.some c.rows-test.true in
     refused_next (λ s. s.writer) (λ s. s.letters) (λ s. s.out.ghost_name) (λ s. g.O.Output.stream s.out.now) (later g)
-    (λ s t. (refl, refl, refl)) (λ s t. g.met.O.Output.after_takes s.out.now t) c.args.self.now (with_output g c.rows.self c.line-in-rows.new.self c.write_lines.new.out)
+    (λ s t. (refl, refl, refl)) (λ s t. g.met.O.Output.after_takes s.out.now t) c.args.self.now
+    (with_output g c.rows.self c.line-in-rows.new.self c.write_lines.new.out)
     made.0 made.1 c.rows.rows c.args.rows c.rows.self.text.now.items _
     (g.O.Output.stream c.rows.self.out.now)
     (c.line-in-rows.ensures.same ∙ c.rows.invariant.writer, c.rows.invariant.letters, ap (λ o. o.ghost_name) c.rows.invariant.output)
@@ -97,7 +99,8 @@ pub returns-clause-ok : goal.returns-clause-ok
 returns-clause-ok g c =
     let made = c.rows.invariant.made in
     given_if (λ s. s.writer) (λ s. s.letters) (λ s. s.out.ghost_name) (λ s. g.O.Output.stream s.out.now) (later g)
-    (λ s t. (refl, refl, refl)) (λ s t. g.met.O.Output.after_takes s.out.now t) c.args.self.now _ made.0 made.1 c.rows.rows c.args.rows c.rows.self.text.now.items _
+    (λ s t. (refl, refl, refl)) (λ s t. g.met.O.Output.after_takes s.out.now t) c.args.self.now _ made.0 made.1
+    c.rows.rows c.args.rows c.rows.self.text.now.items _
     (g.O.Output.stream c.rows.self.out.now) (c.rows.invariant.writer, c.rows.invariant.letters, ap (λ o. o.ghost_name) c.rows.invariant.output)
     made.3 made.2 c.as_slice-2.ensures.value (ap (λ o. g.O.Output.stream o.now) c.rows.invariant.output)
     c.write_lines-2.result (c.read_next-in-rows.ensures.none c.rows-test.false).0 c.write_lines-2.ensures.whole_at_ok
@@ -106,7 +109,8 @@ pub returns-clause-err : goal.returns-clause-err
 returns-clause-err g c =
     let made = c.rows.invariant.made in
     refused_if (λ s. s.writer) (λ s. s.letters) (λ s. s.out.ghost_name) (λ s. g.O.Output.stream s.out.now) (later g)
-    (λ s t. (refl, refl, refl)) (λ s t. g.met.O.Output.after_takes s.out.now t) c.args.self.now (with_output g c.rows.self c.rows.self.writer c.write_lines-2.new.out)
+    (λ s t. (refl, refl, refl)) (λ s t. g.met.O.Output.after_takes s.out.now t) c.args.self.now
+    (with_output g c.rows.self c.rows.self.writer c.write_lines-2.new.out)
     made.0 made.1 c.rows.rows c.args.rows c.rows.self.text.now.items _
     (g.O.Output.stream c.rows.self.out.now) (c.rows.invariant.writer, c.rows.invariant.letters, ap (λ o. o.ghost_name) c.rows.invariant.output)
     made.3 made.2 c.as_slice-2.ensures.value (ap (λ o. g.O.Output.stream o.now) c.rows.invariant.output)
