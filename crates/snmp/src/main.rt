@@ -40,8 +40,7 @@ where
     Ok(tool(rt.alloc(), texts.as_slice(), &files, &mut links, out, err))
 }
 
-// Reports on `err` why the arguments couldn't be read, and returns the exit status: memory ran
-// out, or an argument isn't UTF-8.
+// Reports on `err` why the arguments couldn't be read, and returns the exit status.
 fn refused<E: Output>(err: &mut E, error: &io::Error) -> u8 {
     let text = match error.kind() {
         ErrorKind::OutOfMemory => "Out of memory.\n",

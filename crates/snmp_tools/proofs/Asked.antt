@@ -32,8 +32,7 @@ own_end (ending.Sink fault) s = tt
 own_end ending.Link s = tt
 own_end end s = absurd s
 
--- what holds of an end holds of `end_in_memory` of it, if for a failed link it holds of the lack
--- of memory that is reported instead
+-- what holds of an end holds of `end_in_memory`, if it holds of a lack of memory for a failed link
 in_memory : (P : WalkEnd → Type 0) → (P ending.Link → P (ending.Sink sink.Memory)) → (end : WalkEnd) → P end → P (end_in_memory end)
 in_memory P moved ending.Link h = moved h
 in_memory P moved end h = h
@@ -94,8 +93,7 @@ LeftAreRows = (view : MibView) (root o : List ℕ) (p : VarBind) → IsMibView v
     → (OneOf (rest_of root o (variables view)) p → IsRow view p × IsBelow p.name root × Precedes o p.name)
     × (IsRow view p × IsBelow p.name root × Precedes o p.name → OneOf (rest_of root o (variables view)) p)
 
--- the rows given and refused are a prefix of the answer to the question, and the rows given are
--- all of it if the run is done
+-- the rows given and refused are a prefix of the answer, and those given are all of it at `Done`
 pub record GivesRows (question : Question) (view : MibView) (given refused : List VarBind) (end : WalkEnd) : Type 0 where
   pub front : (rows : List VarBind) → AreRowsOf question view rows → (more : List VarBind) × (rows ≡ (given ++ refused) ++ more)
   pub whole : (rows : List VarBind) → AreRowsOf question view rows → IsDone end → given ≡ rows
@@ -118,8 +116,7 @@ module _ (below : BelowAreRows) (left : LeftAreRows) (one_get : (view : MibView)
   from_root mode.Include root got = ap (λ (s : List VarBind). rows_named (wire root) (variables view) ++ s) (rest_is root)
   from_root mode.NoLast root got = rest_is root
 
-  -- the answer to a walk is `walk_at` of the table, with the result of a Get of the name that the
-  -- walk begins from
+  -- the answer to a walk of the table, by a Get of the name that it begins from
   begun_rows : (after : Option (List ℕ)) (community : List ℕ) (w : Walk) (rows : List VarBind) → AreRowsAfter after w view rows
       → (got : VarBind) × IsGet view (first_after after community w).asked got × (rows ≡ walk_at (first_after after community w) view got)
   begun_rows None community w rows are = (are.0, are.1, are.2 ∙ sym (from_root w.mode w.root are.0))
@@ -196,7 +193,7 @@ module _ (below : BelowAreRows) (left : LeftAreRows) (one_get : (view : MibView)
         complete = λ room. own_end end (facts.done_unless_stopped _ (of_table view refl refl) (in_each room.0) room.1 none);
       }
 
-  -- a run that asks a question over a link in memory satisfies `IsAsked` (`is_asked`)
+  -- the run of a question over a link in memory
   module _ {W : Type 0} (facts : LinkFacts W) (link after : W) (tries : ℕ) (some : 0 < tries) (plan : Plan)
       (honest : facts.honest link × ((facts.traffic link).sent ≡ [])) (agents : facts.agents link ≡ agent_over plan view)
       (none : (facts.traffic link).ahead ≡ []) (given refused : List VarBind) (end : WalkEnd) where

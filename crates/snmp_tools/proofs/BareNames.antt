@@ -1,5 +1,4 @@
--- The tree of a job without module files is `bare` (`bare_is_loaded`), which has no syntaxes
--- (`bare_has_no_syntax`).
+-- The tree without module files: it is loaded (`bare_is_loaded`), and has no syntaxes.
 use Rattle.std.proofs.Common.{◌≡◌, refl, sym, subst, ap, ℕ, zero, suc, List, [], ◌∷◌, Option, Some, None}
 use Rattle.std.specs.{Prelude.slice_index_or, Prelude.option_map, Option.option_and_then}
 use Rattle.smi_names.specs.nodes.Nodes.{roots}

@@ -1,6 +1,5 @@
 -- The letters of -C, read one after the other, choose what `HaveChosen` says (`none_read`,
--- `goes_on`, `ends`), and that is unique (`one_choice`, `no_choice`). `among` and `both` are about
--- lists of steps.
+-- `goes_on`, `ends`), and that is unique (`one_choice`, `no_choice`).
 use Rattle.std.proofs.{lemmas.Grind.common_steps, Math.Bool.or-false, Math.Bool.or_comm, lemmas.List.Folds.list_any-append}
 use Rattle.std.proofs.Common.{◌≡◌, ◌⊎◌, inl, inr, ◌∙◌, ◌+◌, ◌-◌, ◌++◌, ◌<◌, ◌≤◌, ℕ, Bool, true, false, List, [], ◌∷◌, drop, length, slice_index_or}
 use Rattle.std.proofs.Common.{take, refl, sym, ap, subst, arith, append_assoc, append-nil, length-append}
@@ -74,13 +73,12 @@ has_more x letters part =
     list_any-append (λ (p : Part). p.0 == x) letters (part ∷ []) ∙ or_comm (has x letters) ((part.0 == x) || false)
     ∙ ap (λ (b : Bool). b || has x letters) (or-false (part.0 == x))
 
--- if one more part follows, the last number is that of the part if its letter is `r`, otherwise it
--- stays the same
+-- the last number is that of the new part if its letter is `r`, otherwise it stays the same
 last_more : (letters : List Part) (part : Part) (old new : ℕ) → IsLastNumber letters old
     → ((part.0 ≡ 114) × AreRepetitions part.1 new) ⊎ (((part.0 == 114) ≡ false) × (new ≡ old)) → IsLastNumber (letters ++ part ∷ []) new
 last_more letters part old new last one = grind (arith, common_steps, append_assoc, has_more, or_from)
 
--- if `front` chose `old`, then `front` and one known letter with its digits choose `new`
+-- what `front` and one letter more choose
 more_chosen : (bulk : Bool) (front : List ℕ) (letter : ℕ) (digits : List ℕ) (old new : Choices) → HaveChosen bulk front old
     → is_ascii_digit letter ≡ false → list_all is_ascii_digit digits ≡ true → IsKnown bulk (letter, digits) → OneMore (letter, digits) old new
     → HaveChosen bulk (front ++ letter ∷ digits) new
@@ -108,13 +106,12 @@ digit_tells bulk letter digits octet digit unknown = grind (arith, common_steps,
 
 -- ---- a text, letter by letter
 
--- the letters of `text` up to the offset `at` choose `choices`, and no digit follows them, except
--- at offset 0
+-- the letters of `text` before offset `at` choose `choices`; a digit can follow only at offset 0
 pub record AreReadTo (bulk : Bool) (text : List ℕ) (at : ℕ) (choices : Choices) : Type 0 where
   pub chosen : HaveChosen bulk (take at text) choices
   pub next : (at ≡ 0) ⊎ NoDigitFirst (drop at text)
 
--- at offset 0, no letters were read, and the choices are the defaults
+-- before offset 0, the choices are the defaults
 pub none_read : (bulk : Bool) (text : List ℕ) → AreReadTo bulk text 0 no_choices
 none_read bulk text = grind (arith, common_steps)
 
@@ -137,12 +134,11 @@ module _ (bulk : Bool) (text : List ℕ) (at n : ℕ) (old : Choices) (rest : Li
   none_after : NoDigitFirst (drop n rest)
   none_after = no_digit_at rest n maximal
 
-  -- the octet at `at` isn't a digit, except at offset 0: the digits after the letter before it
-  -- were read to their end
+  -- a digit is at `at` only if that is 0, since digits are read to their end
   no_digit_or_first : (is_ascii_digit Letter ≡ false) ⊎ ((at ≡ 0) × (is_ascii_digit Letter ≡ true))
   no_digit_or_first = grind (arith, common_steps, at_place)
 
-  -- if the letter is known, the letters up to the end of its digits are read: one part more
+  -- if the letter is known, one part more is read
   pub goes_on : (new : Choices) → IsKnown bulk (Letter, take n rest) → OneMore (Letter, take n rest) old new → AreReadTo bulk text (at + (1 + n)) new
   goes_on new known more = grind (arith, common_steps, parts, take_at, size, more_chosen, known_is_no_digit, drop_at, none_after)
 

@@ -1,5 +1,5 @@
--- What `Headline` says of a job that asks an agent, by what it wrote and reported (`asked_done`),
--- also if it was refused (`not_asked`).
+-- What `Headline` says of a job that asks an agent (`asked_done`), also if it was refused
+-- (`not_asked`).
 use Rattle.std.proofs.Common.{arith, ◌≡◌, ◌⊎◌, inl, inr, ◌++◌, ℕ, Bool, true, false, List, [], Option, Some, None, refl, sym, ◌∙◌, ap, subst, codes}
 use Rattle.std.proofs.lemmas.Grind.{common_steps}
 use Rattle.std.specs.Str.Lines.{lines}
@@ -53,8 +53,7 @@ want_told why before after err_before err_after status (table_want path e) told 
     line_told (bad_table path table_error.Memory) before after err_before err_after status refl refl (subst (λ (w : Fault). IsReported
     (Some w) err_before err_after status) e told)
 
--- if a run is done, or ended because the output failed or memory ran out, then the status is 0 or
--- the job `Stops` (`own_told`)
+-- a run that is done, or ended because the output failed or memory ran out
 module _ (mib : Contents) (letters : Letters) (agent : List ℕ) (given turned : List VarBind) (before between after err_before err_after : Stream)
     (fault : Option Fault) (status : ℕ) (told : IsReported fault err_before err_after status) where
   told_of : (other : Option Fault) → fault ≡ other → IsReported other err_before err_after status
@@ -70,8 +69,7 @@ module _ (mib : Contents) (letters : Letters) (agent : List ℕ) (given turned :
   own_told counts (ending.Sink sink.Output) own printed finish = grind (arith, common_steps, told_of, counted)
   own_told counts end own printed finish = absurd own
 
--- if nothing was asked, and of a feasible plan only because memory ran out, then `WritesRows`
--- holds
+-- nothing was asked; if the plan is feasible, only because memory ran out
 pub not_asked : (words : AskWords) (files : Holdings) (rows : List VarBind) (ask : IsAsk words files rows) (before after err_before warned err_after : Stream)
     (fault : Option Fault) (status : ℕ) (why : Fault) → after ≡ before → fault ≡ Some why → IsReported fault warned err_after status
     → (IsFeasible ask.plan ask.view → IsWant why) → (warned ≡ err_before) ⊎ IsWritten err_before (warning_lines ask.warnings) warned

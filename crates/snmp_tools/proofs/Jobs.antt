@@ -1,5 +1,5 @@
--- What is promised of a job (`job_done`) and of a command line (`job_is_done`, `fault_is_told`),
--- by what was written and reported.
+-- What is promised of a job (`job_done`, `undone`) and of a command line (`job_is_done`,
+-- `fault_is_told`).
 use Rattle.std.proofs.Common.{arith, ◌≡◌, ◌≢◌, ℕ, Bool, true, false, List, [], Option, Some, Result, Ok, Err, IfOk, IfErr, OnOk, refl, sym}
 use Rattle.std.proofs.Common.{subst, inl, inr, codes}
 use Rattle.std.proofs.lemmas.Grind.{common_steps}
@@ -38,8 +38,7 @@ module _ {N V D : Type 0} (net : Network N V D) (wire : LinkFacts V) (Loads : Lo
   of_words before after status one words read stated h k done =
       subst (λ (s : Stated). IsJobDone net wire Loads s before after status) (one words read stated h k) done
 
-  -- the outcome of a job (`of_job`), or of one that asks an agent (`of_ask`), is the outcome of
-  -- the same job
+  -- the outcome of a job is that of an equal job
   module _ (before after : Seen N) (fault : Option Fault) where
     pub of_job : (job other : Job) → job ≡ other → IsJobOutcome net wire Loads (job_words other) before after fault
         → IsJobOutcome net wire Loads (job_words job) before after fault
@@ -48,7 +47,7 @@ module _ {N V D : Type 0} (net : Network N V D) (wire : LinkFacts V) (Loads : Lo
     pub of_ask : (read words : AskWords) → read ≡ words → IsOutcome net wire Loads read before after fault → IsOutcome net wire Loads words before after fault
     of_ask read words is outcome = subst (λ (w : AskWords). IsOutcome net wire Loads w before after fault) is outcome
 
-  -- if the outcome of a job was reported, then what is promised of the job holds (`job_done`)
+  -- the outcome of a job was reported, so what is promised of the job holds
   module _ (one_table : (names : Names) (ls : List (List ℕ)) (v w : MibView) → IsTableOf names ls v → IsTableOf names ls w → v ≡ w)
       (no_fault : (names : Names) (ls : List (List ℕ)) (view : MibView) (fault : TableError) → IsTableOf names ls view → IsFirstFault names ls fault
       → fault ≡ table_error.Memory)
@@ -80,7 +79,7 @@ module _ {N V D : Type 0} (net : Network N V D) (wire : LinkFacts V) (Loads : Lo
     job_done (snmpbulkwalk words) outcome = ask_done (of_walk true words) outcome
     job_done (snmpd words) outcome = record { fault = fault; warned = warned; outcome = outcome; reported = told }
 
-  -- if memory ran out before anything was done, then what is promised of any job holds (`undone`)
+  -- memory ran out before anything was done, so what is promised of any job holds
   module _ (files : Holdings) (links : N) (out err err_after : Stream) (told : IsWritten err (codes "Out of memory.\n") err_after) where
     abbrev Before : Seen N
     Before = seen files links out err
@@ -122,8 +121,7 @@ module _ {N V D : Type 0} (net : Network N V D) (wire : LinkFacts V) (Loads : Lo
       reported = (refl, inr told);
     }
 
-  -- if the arguments were read as a job, which was done, or there was an error, which was shown,
-  -- then what is promised of a command line holds
+  -- the arguments were read as a job, which was done, or there was an error, which was shown
   module _ (one : OneJob) (words : List (List ℕ)) (before : Seen N) (links : N) (out err : Stream) (status : ℕ) (read : Result Job UsageError)
       (states : IfOk read (λ job. StateJob words (job_words job))) (faultless : OnOk read (faults_of words ≡ []))
       (taken : IfErr read (λ e. is_taken words ≡ true → e ≡ Memory)) (refused : IfErr read (λ e. HasFaultOf e (faults_of words)))

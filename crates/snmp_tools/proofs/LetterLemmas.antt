@@ -1,5 +1,4 @@
--- The octet at an offset of a text (`at_place`, `no_digit_at`), and the digits of a number
--- (`weight_at`, `grows`), for the letters of -C.
+-- Octets at an offset of a text (`at_place`, `no_digit_at`), and digits (`weight_at`, `grows`).
 use Rattle.std.proofs.{lemmas.Grind.common_steps, lemmas.Bool.Decides.nat_tests, lemmas.Str.digit_value_digit}
 use Rattle.std.proofs.Common.{◌≡◌, ◌+◌, ◌*◌, ◌<◌, ◌≤◌, ℕ, true, false, List, [], ◌∷◌, zero, suc, length, drop, slice_index_or, refl, drop-cons}
 use Rattle.std.proofs.Common.{add-one, arith, drop_of_length-le}

@@ -1,5 +1,5 @@
--- The modules of files: those of one file more (`AreModulesOf-more`), that files which are known
--- have one list of modules (`one_list`), and the first file that fails (`refused_at`).
+-- The modules of one file more (`AreModulesOf-more`), that there is one list of them (`one_list`),
+-- and the first file that fails (`refused_at`).
 use Rattle.std.proofs.Common.{arith, ◌≡◌, ◌∙◌, ◌⊎◌, inl, inr, ◌++◌, ◌+◌, ◌<◌, ap, ap₂, refl, sym, subst, ℕ, List, [], ◌∷◌, Bor, Option, Some, take}
 use Rattle.std.proofs.Common.{drop, length, get_or, unwrap_or, append_assoc, append-nil}
 use Rattle.std.proofs.lemmas.Grind.{common_steps}
@@ -47,8 +47,7 @@ are_read : (files : Holdings) (paths : List (List ℕ)) (ms : List Module) → A
 are_read files [] ms none = tt
 are_read files (path ∷ paths) ms (first, rest, is, more, whole) = ((first, is), are_read files paths rest more)
 
--- if the modules of the first `i` files were read and the file at index `i` fails, it is the first
--- that fails
+-- the file at index `i` is the first that fails
 pub refused_at : (files : Holdings) (paths : List (Bor (List ℕ))) (i : ℕ) (d : Bor (List ℕ)) (ms : List Module) (why : Refusal) → i < length paths
     → AreModulesOf (MayHold files) (texts (take i paths)) ms → (why ≡ no_memory) ⊎ FileFails files (get_or paths i d).now why
     → IsFilesRefusal files (texts paths) why

@@ -1,5 +1,5 @@
--- What a job wrote of the answer to its question: a prefix of the whole text, and all of it if no
--- fault is reported (`finished`). At status 0 no fault is reported (`no_fault_at_0`).
+-- What a job wrote of the answer: a prefix, and all if no fault is reported (`finished`), as at
+-- status 0 (`no_fault_at_0`).
 use Rattle.std.proofs.Common.{arith, ◌≡◌, ◌⊎◌, inl, inr, ◌++◌, ℕ, Bool, true, false, length, List, [], Option, Some, None, refl, sym, ◌∙◌, subst}
 use Rattle.std.proofs.Common.{append_assoc, append-nil}
 use Rattle.std.proofs.lemmas.Grind.{common_steps}
@@ -23,8 +23,7 @@ all_front : (mib : Contents) (letters : Letters) (before after : Stream) (rows t
     → ((text : List ℕ) × AreLines mib letters rows text × (after ≡ extended before text)) → IsFront mib letters (rows ++ turned) before after
 all_front mib letters before after rows turned h = (rows, turned, h.0, refl, h.1, whole_taken before after h.0 h.2)
 
--- if the lines of the rows given were written, and perhaps a prefix of the line of the refused
--- one, then a prefix of the lines of all of these was
+-- what was written is a prefix of the lines of the rows given and refused
 pub printed_front : (mib : Contents) (letters : Letters) (before after : Stream) (rows turned : List VarBind) (end : WalkEnd)
     → IsPrintedUpTo mib letters before rows turned end after → IsFront mib letters (rows ++ turned) before after
 printed_front mib letters before after rows turned (ending.Sink sink.Output) h = (
@@ -37,7 +36,7 @@ printed_front mib letters before after rows turned (ending.Sink sink.Output) h =
 )
 printed_front mib letters before after rows turned end h = all_front mib letters before after rows turned h
 
--- `text` is the lines of the rows and, if it is asked for (`counts`), the line of their number
+-- `text` is the lines of the rows and, if that is asked for, of their number
 abbrev pub IsWhole : Contents → Letters → (counts : Bool) → List VarBind → List ℕ → Type 0
 IsWhole mib letters counts rows text =
     (shown : List ℕ) × AreLines mib letters rows shown × (text ≡ shown ++ count_text counts (length rows))
@@ -63,7 +62,7 @@ module _ (mib : Contents) (letters : Letters) (agent : List ℕ) (before : Strea
   abbrev Whole : Bool → Stream → Type 0
   Whole counts after = (text : List ℕ) × IsWhole mib letters counts rows text × (after ≡ extended before text)
 
-  -- a prefix was written as `IsFrontOf` says, and the whole text if no fault is reported
+  -- a prefix of the whole text was written, and all of it if no fault is reported
   abbrev Finished : Bool → Stream → Option Fault → Type 0
   Finished counts after fault = IsFrontOf mib letters counts rows before after × (fault ≡ None → Whole counts after)
 
@@ -96,8 +95,7 @@ module _ (mib : Contents) (letters : Letters) (agent : List ℕ) (before : Strea
       all_finished false after fault
       (text, (text, subst (λ (ps : List VarBind). AreLines mib letters ps text) whole lines, sym (append-nil text)), finish.0 ∙ printed)
 
-  -- a run that ended early printed a prefix of the lines of its rows, which are the first rows of
-  -- the answer
+  -- a run that ended early printed a prefix of the lines of the first rows of the answer
   end_front : (counts : Bool) (given turned : List VarBind) (end : WalkEnd) (between after : Stream) → IsPrintedUpTo mib letters before given turned end between
       → after ≡ between → ((more : List VarBind) × (rows ≡ (given ++ turned) ++ more)) → IsFrontOf mib letters counts rows before after
   end_front counts given turned end between after printed same left = grind (arith, common_steps, printed_front, append_assoc)

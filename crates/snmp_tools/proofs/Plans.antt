@@ -1,6 +1,5 @@
--- Arguments ask for at most one plan (`one_plan`). Over a table file whose text is known, the
--- steps before its question fail only for want of memory (`wants_early`, `wants_late`,
--- `wants_last`).
+-- Arguments ask for one plan (`one_plan`), and over a known table file the steps before its
+-- question fail only for want of memory (`wants_early`, `wants_late`, `wants_last`).
 use Rattle.std.proofs.{lemmas.Grind.common_steps, lemmas.List.Elements.All-head, lemmas.List.Elements.All-tail}
 use Rattle.std.proofs.Common.{◌≡◌, ◌⊎◌, inl, inr, ℕ, arith, List, [], ◌∷◌, All, map, Option, Some, None, Ok, refl, sym, ◌∙◌, ap, subst}
 use Rattle.std.specs.Str.Lines.{lines}

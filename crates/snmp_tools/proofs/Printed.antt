@@ -16,8 +16,7 @@ lines_of_both mib letters [] more a b h k = subst (λ (t : List ℕ). AreLines m
 lines_of_both mib letters (row ∷ rows) more a b h k =
     (h.0, h.1 ++ b, h.2, lines_of_both mib letters rows more h.1 b h.3 k, ap (λ (t : List ℕ). t ++ b) h.4 ∙ append_assoc h.0 h.1 b)
 
--- a sink of which `Is` holds in each state, and which writes the line of each row to its output;
--- `stream` is what is known of the output
+-- a sink that writes the line of each row to its output; `Is` holds in each of its states
 module _ {S : Type 0} (takes : S → VarBind → Result (Unit {0}) SinkFault → S → Type 0) (stream : S → Stream) (Is : S → Type 0)
     (mib : Contents) (letters : Letters)
     (stays : (old new : S) (binding : VarBind) (result : Result (Unit {0}) SinkFault) → Is old → takes old binding result new → Is new)
@@ -36,8 +35,8 @@ module _ {S : Type 0} (takes : S → VarBind → Result (Unit {0}) SinkFault →
       let now = rest.2 ∙ ap (λ (s : Stream). extended s rest.0) first.2 ∙ extended-twice (stream old) first.0 rest.0 in
       (first.0 ++ rest.0, (first.0, rest.0, first.1, rest.1, refl), now)
 
-  -- the lines of the rows that the sink took were written; of the refused row a prefix of its
-  -- line, if the output failed, otherwise nothing
+  -- the lines of the rows given were written, and a prefix of the refused one's if the output
+  -- failed
   refused : (old between new : S) (rows turned : List VarBind) (why : SinkFault) → Is old → Given takes old rows between → Refused takes between turned why new
       → IsPrintedUpTo mib letters (stream old) rows turned (ending.Sink why) (stream new)
   refused old between new rows turned fault.Output is given refusal = grind (arith, common_steps, printed, stayed, append-nil)

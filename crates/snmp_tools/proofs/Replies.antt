@@ -1,5 +1,5 @@
--- The lines of a reply are written at once, which for the sink is as if the line of each binding
--- was written by itself (`given_if`, `refused_next`, `refused_at`, `refused_if`).
+-- The lines of a reply are written at once, as if the line of each binding was written by itself
+-- (`given_if`, `refused_next`, `refused_at`, `refused_if`).
 use Rattle.std.proofs.Common.{arith, ◌≡◌, ◌∙◌, ◌++◌, ◌⊎◌, ℕ, List, [], ◌∷◌, Result, Ok, Err, OnOk, OnErr, IfErr, true, false, inl, inr, ap, refl}
 use Rattle.std.proofs.Common.{subst, sym, append-nil, append_assoc}
 use Rattle.std.proofs.lemmas.Grind.{common_steps}
@@ -14,7 +14,7 @@ use Rattle.snmp_tools.specs.Lines.{AreLines}
 use Rattle.smi_tree.specs.{Tree.Contents}
 use Rattle.snmp_tools.proofs.Printed.{lines_of_both, prints}
 
--- `front`, a prefix of two texts, ends within the first or contains the whole of it
+-- a prefix of two texts ends within the first or contains it
 abbrev Ends : (line rest front left : List ℕ) → Type 0
 Ends line rest front left = ((cut : List ℕ) × (line ≡ front ++ cut)) ⊎ ((more : List ℕ) × (front ≡ line ++ more) × (rest ≡ more ++ left))
 
@@ -23,7 +23,7 @@ where_it_ends [] rest front left e = inr (front, refl, e)
 where_it_ends (x ∷ line) rest [] left e = inl (x ∷ line, refl)
 where_it_ends (x ∷ line) rest (y ∷ front) left e = grind (arith, common_steps, where_it_ends line rest front left)
 
--- if a write of two texts fails, it fails within the first or, after that, within the second
+-- a write of two texts fails within the first or, after it, within the second
 fails_in_one : (before after : Stream) (a b : List ℕ) → FailsWithin before (a ++ b) after
     → FailsWithin before a after ⊎ FailsWithin (extended before a) b after
 fails_in_one before after a b f =
@@ -43,24 +43,23 @@ fails_in_one before after a b f =
       }
     ]
 
--- if the line of one more row is appended to the lines of `rows`, these are the lines of all.
--- `tree` and `letters` are those from the start.
+-- the lines of `rows` and of one row more, by the tree and the letters from the start
 pub next_line : (tree first : Contents) (letters from : Letters) (rows : List VarBind) (p : VarBind) (text line all : List ℕ)
     → tree ≡ first → letters ≡ from → AreLines first from rows text → IsLine tree letters p.name p.value line → all ≡ text ++ line
     → AreLines first from (rows ++ p ∷ []) all
 next_line tree first letters from rows p text line all same_tree same_letters lines is e = grind (arith, common_steps, lines_of_both, append-nil)
 
--- if the result isn't an error, then what is promised at `Ok` holds
+-- what is promised at `Ok` holds if the result isn't an error
 pub at_ok : {E P : Type 0} (result : Result (Unit {0}) E) → false ≡ is_err result → OnOk result P → P
 at_ok (Ok done) e h = h
 at_ok (Err why) e h = let no : ⊥ = cc in absurd no
 
--- if the result is an error, then what is promised at an error holds
+-- what is promised at an error holds if the result is one
 pub at_err : {E P : Type 0} (result : Result (Unit {0}) E) → true ≡ is_err result → OnErr result P → P
 at_err (Ok done) e h = let no : ⊥ = cc in absurd no
 at_err (Err why) e h = h
 
--- a printer: `later s text` is its state after its output took `text`, from the state `s`
+-- a printer, which is in state `later s text` after its output took `text` in state `s`
 module _ {S N : Type 0} (tree : S → Contents) (letters : S → Letters) (name : S → N) (stream : S → Stream) (later : S → List ℕ → S)
     (same : (s : S) (text : List ℕ) → (tree (later s text) ≡ tree s) × (letters (later s text) ≡ letters s) × (name (later s text) ≡ name s))
     (reaches : (s : S) (text : List ℕ) → stream (later s text) ≡ extended (stream s) text) where
@@ -126,13 +125,12 @@ module _ {S N : Type 0} (tree : S → Contents) (letters : S → Letters) (name 
             (subst (λ s. FailsWithin s rest (stream new)) (sym (reaches old line)) fails))
       ]
 
-  -- if a row of `rows` was refused, it is the refused one of all rows, which begin with these
+  -- a refused row of `rows` is the refused one of all, which begin with these
   pub refused_before : (old new : S) (rows left all : List VarBind) (why : SinkFault) → all ≡ rows ++ left → IsCutOff old rows why new
       → IsCutOff old all why new
   refused_before old new rows left all why parts (front, p, back, order, between, given, refused) = grind (arith, common_steps, append_assoc)
 
-  -- The lines of `p ∷ more`, which are `text`, were passed to the output, whose stream was `start`
-  -- before, the stream of `old`.
+  -- the lines `text` were passed to the output, whose stream was that of `old` before
   module _ (old new : S) (p : VarBind) (more left all : List VarBind) (text sent : List ℕ) (start : Stream) (is : IsLike new old)
       (lines : AreLines (tree old) (letters old) (p ∷ more) text) (parts : all ≡ (p ∷ more) ++ left) (whole : sent ≡ text)
       (first : start ≡ stream old) where

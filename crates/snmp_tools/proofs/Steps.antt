@@ -1,5 +1,5 @@
--- The first step that fails, after those that are done: why a job that asks an agent is refused
--- (`at_showing`, `at_choices`, `at_agent`, `at_mibs`, `names_refused`, `unreached`, `unsent`).
+-- Why a job that asks an agent is refused (`at_showing` to `unsent`): the first step that fails,
+-- after those that are done.
 use Rattle.std.proofs.{lemmas.Grind.common_steps, lemmas.List.Elements.All-head, lemmas.List.Elements.All-tail, lemmas.List.Elements.AllZip-push}
 use Rattle.std.proofs.Common.{◌≡◌, ◌⊎◌, inl, inr, ◌++◌, ◌+◌, ◌<◌, ℕ, zero, suc, List, [], ◌∷◌, All, Bor, Option, Some, None, Ok, length, map, take}
 use Rattle.std.proofs.Common.{drop, get_or, option_map, unwrap_or, refl, sym, ◌∙◌, ap, subst, append_assoc, arith}
@@ -22,7 +22,7 @@ use Rattle.snmp_tools.specs.declared.plan.Question.TheVariants as questions
 use Rattle.smi_tree.specs.{Tree.Contents}
 use Rattle.snmp_tools.proofs.Texts.{texts-more, texts-parts}
 
--- the text of an optional reference, or of a default if there is none
+-- the text of an optional reference, or of the default
 pub text_or : (o : Option (Bor (List ℕ))) (d r : Bor (List ℕ)) → r ≡ unwrap_or o d → r.now ≡ unwrap_or (option_map (λ s. s.now) o) d.now
 text_or None d r e = ap (λ (s : Bor (List ℕ)). s.now) e
 text_or (Some t) d r e = ap (λ (s : Bor (List ℕ)). s.now) e
@@ -41,13 +41,13 @@ module _ {S : Type 0} (IsDone : S → Type 0) (Fails : S → Fault → Type 0) (
     fails = h.fails;
   }
 
--- if steps that are all done come before, the first step that fails is the same
+-- steps that are done may come before the first that fails
 after_all : {S : Type 0} (IsDone : S → Type 0) (Fails : S → Fault → Type 0) (why : Fault) (done steps : List S) → AreDone IsDone done
     → IsFirstToFail steps IsDone Fails why → IsFirstToFail (done ++ steps) IsDone Fails why
 after_all IsDone Fails why [] steps d h = h
 after_all IsDone Fails why (step ∷ done) steps d h = later IsDone Fails why step (done ++ steps) d.0 (after_all IsDone Fails why done steps d.1 h)
 
--- if more steps come after, the first step that fails is the same
+-- more steps may come after the first that fails
 before_more : {S : Type 0} (IsDone : S → Type 0) (Fails : S → Fault → Type 0) (why : Fault) (steps more : List S) → IsFirstToFail steps IsDone Fails why
     → IsFirstToFail (steps ++ more) IsDone Fails why
 before_more {S} IsDone Fails why steps more h = grind (arith, common_steps, append_assoc)
@@ -74,7 +74,7 @@ module _ {S T : Type 0} (f : S → T) where
       fails = fail h.failed h.fails;
     }
 
--- if texts mean identifiers, each of them has a meaning
+-- if texts mean identifiers, each has a meaning
 pub are_named : (mib : Contents) (texts os : List (List ℕ)) → AreNames mib texts os → AreDone (HasMeaning mib) texts
 are_named mib [] os e = tt
 are_named mib (text ∷ texts) [] e = absurd e
@@ -96,14 +96,13 @@ module _ (mib : Contents) (P : LaterStep → Type 0) (one : (text o : List ℕ) 
   each_name (walk bulk letters after name) choices (subtree w) q = (one (root_text name) w.root q.root, each_after after w.after q.goes_on)
   each_name request choices question q = absurd q
 
--- if the first `i` texts mean `os`, and the next one means `o`, then the first `i + 1` texts mean
--- both
+-- one more text means one more identifier
 pub more_names : (mib : Contents) (texts : List (Bor (List ℕ))) (i : ℕ) (d : Bor (List ℕ)) (os : List (List ℕ)) (o : List ℕ) → i < length texts
     → AreNames mib (texts_at (take i texts)) os → TextMeans mib (get_or texts i d).now (Ok o)
     → AreNames mib (texts_at (take (i + 1) texts)) (os ++ o ∷ [])
 more_names mib texts i d os o inside are means = grind (arith, common_steps, texts-more, AllZip-push)
 
--- if the first `i` texts mean identifiers and the next one doesn't, it is the first that fails
+-- the text at index `i` is the first that means no identifier
 pub first_unnamed : (mib : Contents) (texts : List (Bor (List ℕ))) (i : ℕ) (d : Bor (List ℕ)) (os : List (List ℕ)) (why : Fault) → i < length texts
     → AreNames mib (texts_at (take i texts)) os → NameFails mib (get_or texts i d).now why
     → IsFirstToFail (texts_at texts) (HasMeaning mib) (NameFails mib) why
@@ -116,7 +115,7 @@ first_unnamed mib texts i d os why inside are fails = record {
   fails = fails;
 }
 
--- if the first `i` names can be sent and the next one can't, it is the first that fails
+-- the name at index `i` is the first that can't be sent
 pub first_unsent : (mib : Contents) (texts : List (Bor (List ℕ))) (os : List (List ℕ)) (i : ℕ) (text d : Bor (List ℕ)) (o e : List ℕ)
     → AreNames mib (texts_at texts) os → i < length os → text ≡ get_or texts i d → o ≡ get_or os i e
     → All (λ n. IsWire (wire n)) (take i os) → (IsWire (wire o) → ⊥)

@@ -1,4 +1,4 @@
--- The names of a table file, looked up in a tree, are what their texts mean (`names_are_meant`,
+-- The names of a table file are what their texts mean by a tree (`names_are_meant`,
 -- `front_named`, `front_unnamed`).
 use Rattle.std.proofs.Common.{◌≡◌, ◌∙◌, ℕ, List, Option, Some, None, Result, Ok, Err, ap, refl, sym, subst}
 use Rattle.std.specs.Result.{result_ok}

@@ -1,5 +1,5 @@
--- What `Headline` says of a walk of a table file in numbers: which lines are printed
--- (`prints_rows`); and what such a walk asks for if snmpd serves the file (`asked_in_numbers`).
+-- Which lines a walk of a table file in numbers prints (`prints_rows`), and what it asks for if
+-- snmpd serves the file (`asked_in_numbers`).
 use Rattle.std.proofs.{lemmas.Grind.common_steps, lemmas.List.Concat.flat_map-append, lemmas.List.Kept.AllPairs-cons}
 use Rattle.std.proofs.Common.{◌≡◌, ◌≢◌, ◌⊎◌, inl, inr, refl, sym, ◌∙◌, subst, ℕ, zero, suc, ◌+◌, ◌<◌, ◌≤◌, Bool, false, List, [], ◌∷◌, ◌↔◌, ◌++◌, ap}
 use Rattle.std.proofs.Common.{length, None, Ok, Option, Some, arith, append-nil, append_assoc}
@@ -150,8 +150,7 @@ are_walked ls root got (row ∷ more) are is_got = page.below (λ e. cc) are
 
 -- ---- what is written
 
--- if a prefix of the lines of the first rows, or of all rows, was written, then a prefix of the
--- lines of all rows was
+-- a prefix of the lines of the first rows is one of the lines of all rows
 front_is : (mib : Contents) (before after : Stream) (rows first rest : List VarBind) (text : List ℕ) → HasNoSyntax mib → rows ≡ first ++ rest
     → AreLines mib numeric_letters first text ⊎ ((shown : List ℕ) × AreLines mib numeric_letters rows shown × (text ≡ shown ++ []))
     → TakesFront before text after → TakesFront before (flat_map row_line rows) after

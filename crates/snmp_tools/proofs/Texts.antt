@@ -6,20 +6,20 @@ use Rattle.snmp_io.specs.{Draft.Written, Draft.Adds, Output.Stream, Output.exten
 use Rattle.snmp_words.specs.Words.{texts_at}
 use Rattle.snmp_tools.specs.{Lines.IsTextPrinted, Lines.StopsAtText, Message.Fault}
 
--- if `a` is appended and then `b`, then `a ++ b` is
+-- if `a` and then `b` are appended, `a ++ b` is
 pub adds_both : (old middle new : Written) (a b : List ℕ) → Adds old a middle → Adds middle b new → Adds old (a ++ b) new
 adds_both old middle new a b one two = grind (arith, common_steps, append_assoc)
 
--- if `a` is appended and then `b ++ c`, then `a ++ b ++ c` is
+-- the same if the second text has two pieces
 pub adds_after : (old middle new : Written) (a b c : List ℕ) → Adds old a middle → Adds middle (b ++ c) new → Adds old (a ++ b ++ c) new
 adds_after old middle new a b c one two = grind (arith, common_steps, append_assoc, adds_both)
 
--- the texts of the first `i + 1` references are those of the first `i`, and the one at index `i`
+-- the first `i + 1` texts are the first `i` and the one at index `i`
 pub texts-more : (texts : List (Bor (List ℕ))) (i : ℕ) (d : Bor (List ℕ)) → i < length texts
     → texts_at (take (i + 1) texts) ≡ texts_at (take i texts) ++ (get_or texts i d).now ∷ []
 texts-more texts i d inside = grind (arith, common_steps, take_more, map-append)
 
--- the texts of all references are those before index `i`, the one there, and those after it
+-- all texts are those before index `i`, the one there, and those after it
 pub texts-parts : (texts : List (Bor (List ℕ))) (i : ℕ) (d : Bor (List ℕ)) → i < length texts
     → texts_at texts ≡ texts_at (take i texts) ++ (get_or texts i d).now ∷ texts_at (drop (i + 1) texts)
 texts-parts texts i d inside =
@@ -34,7 +34,7 @@ printed before after text line fault same none (inl (is, e)) = is ∙ ap (extend
 printed before after text line fault same none (inr (inl (kept, e))) = let no : ⊥ = cc in absurd no
 printed before after text line fault same none (inr (inr (fails, e))) = let no : ⊥ = cc in absurd no
 
--- if a text wasn't printed, and a `?` returns the reason, then `StopsAtText` holds
+-- a text wasn't printed, for the reason that a `?` returns
 pub stopped : (before after : Stream) (text line : List ℕ) (fault returned : Option Fault) (why : Fault) → text ≡ line → fault ≡ Some why
     → returned ≡ Some why → IsTextPrinted before text after fault → StopsAtText before line after returned
 stopped before after text line fault returned why same some is (inl (taken, e)) = let no : ⊥ = cc in absurd no

@@ -1,5 +1,5 @@
--- What an exit by `?` returns (`outcome_err`, `outcome_as`, `if_err`), and what is known of a load
--- of a job's module files, by equal lists of paths (`loads_from`, `loads_of`, `mibs_fail`).
+-- Exits by `?` (`outcome_err`, `outcome_as`, `if_err`), and loads of a job's module files
+-- (`loads_from`, `loads_of`, `mibs_fail`).
 use Rattle.std.proofs.Common.{arith, ◌≡◌, ◌⊎◌, inl, inr, refl, ap, ℕ, List, Bor, Option, Some, Result, Ok, Err, subst, sym}
 use Rattle.std.proofs.lemmas.Grind.{common_steps}
 use Rattle.std.specs.{Prelude.IfErr, Result.IsErrAnd}
@@ -25,7 +25,7 @@ pub if_err : {T : Type 0} (P : Failure → Type 0) (r : Result T Failure) (f : F
 if_err P (Ok x) f h p = absurd h
 if_err P (Err e) f h p = subst P (sym h) p
 
--- a load of the files `given` is a load of the files `paths`, if the paths are the same
+-- a load of the same files
 pub loads_from : (files : Holdings) (given paths : List (Bor (List ℕ))) (tree : Contents) (before after : Stream) → given ≡ paths
     → IsLoaded (MayHold files) (texts given) tree before after → IsLoaded (MayHold files) (texts paths) tree before after
 loads_from files given paths tree before after same =
@@ -35,7 +35,7 @@ pub loads_of : (Loads : LoadFacts) (given paths : List (Bor (List ℕ))) (before
     → Loads (texts given) before after → Loads (texts paths) before after
 loads_of Loads given paths before after same = subst (λ (ps : List (Bor (List ℕ))). Loads (texts ps) before after) same
 
--- if module files can't be loaded, memory ran out or `MibsFail` holds
+-- why module files can't be loaded
 module _ (files : Holdings) (given paths : List (Bor (List ℕ))) (same : given ≡ paths) where
   abbrev HasOnly : Refusal → Type 0
   HasOnly why = (modules : List Module) → AreModulesOf (Holds files) (texts given) modules → why ≡ no_memory

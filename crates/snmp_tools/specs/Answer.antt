@@ -37,11 +37,10 @@ AreRowsAfter None w view rows = (got : VarBind) × IsGet view (wire w.root) got
     × (rows ≡ walk_of w.mode w.root got (variables view))
 AreRowsAfter (Some after) w view rows = rows ≡ rest_of w.root (wire after) (variables view)
 
--- `rows` answers the question from the table `view`. For a Get they are the results for its names,
--- in the order of the names. For a walk they are the rows below the root, in increasing order of
--- names. By its mode, a walk also has the root's own row before them, or the result of a Get of
--- the root if there are none. A walk that continues after a name has only the rows below the root
--- that come after that name.
+-- `rows` answers the question from the table `view`. Get: the result for each name, in the order
+-- of the names. Walk: the rows below the root in increasing order; by its mode, also the root's
+-- own row before them, or the result of a Get of the root if there are none. Walk that continues
+-- after a name: the rows below the root that come after that name.
 abbrev pub AreRowsOf : Question → MibView → List VarBind → Type 0
 AreRowsOf (names os) view rows = AreGot view os rows
 AreRowsOf (subtree w) view rows = AreRowsAfter w.after w view rows
@@ -56,15 +55,15 @@ abbrev pub CanBeSent : Question → Type 0
 CanBeSent (names os) = All (λ o. IsWire (wire o)) os
 CanBeSent (subtree w) = IsWire (wire w.root) × CanGoOn w.root w.after
 
--- Messages have enough room: for a Get, room for the request and the Response; for a walk, room
--- for each single binding. A walk also has enough ids.
+-- Messages have room: for a Get, for the request and the Response; for a walk, for each single
+-- binding, and there are enough ids.
 abbrev pub HasRoomFor : Question → Plan → MibView → Type 0
 HasRoomFor (names os) plan view = HasRoomForGet (agent_over plan view) (request_for plan os) os
 HasRoomFor (subtree w) plan view =
     HasRoomForEach (agent_over plan view) view (first_of plan.community w)
     × HasIds (first_of plan.community w) view
 
--- what a plan needs to be answered in full, besides memory and an output that takes its lines
+-- what a plan needs besides memory and an output that takes its lines
 pub record IsFeasible (plan : Plan) (view : MibView) : Type 0 where
   pub sendable : CanBeSent plan.question
   pub room : HasRoomFor plan.question plan view
@@ -82,8 +81,8 @@ abbrev pub Counts : WalkEnd → ℕ → Type 0
 Counts (ending.Done count) n = count ≡ n
 Counts _ n = Unit {0}
 
--- the run has a reason to end with `end`; it ends with an error only if there is no room, there
--- are no more ids, or there is no reply
+-- why the run ended: with an error only if there is no room, or if there are no more ids or no
+-- reply
 abbrev pub HasReason : Question → Plan → MibView → (given : List VarBind) → WalkEnd → Type 0
 HasReason (names os) plan view given end =
     IsEndOfGet (IsTooBig (agent_over plan view) (request_for plan os) os) ⊥
@@ -92,8 +91,8 @@ HasReason (subtree w) plan view given end =
     IsLawfulEnd (agent_over plan view) (HasNone (agent_over plan view)) (first_of plan.community w)
     given end × Counts end (length given)
 
--- The question was asked over the table `view`. The sink was given the rows `given`, and refused
--- the rows `refused`, which are one or none; the run ended with `end`.
+-- The question was asked over the table `view`: the sink took the rows `given`, and refused one or
+-- none (`refused`), and the run ended with `end`.
 pub record IsAsked (plan : Plan) (question : Question) (view : MibView)
     (given refused : List VarBind) (end : WalkEnd) : Type 0 where
   pub front : (rows : List VarBind) → AreRowsOf question view rows
@@ -106,8 +105,7 @@ pub record IsAsked (plan : Plan) (question : Question) (view : MibView)
 
 -- ---- over any link
 
--- what is known of a run that asks the question over a link, which it takes from the state `link`
--- to the state `after`
+-- what is known of a run that asks the question over a link, from the state `link` to `after`
 abbrev pub IsAskedOver : {W : Type 0} → LinkFacts W → (link after : W) → (tries : ℕ) → Plan
     → Question → (given refused : List VarBind) → WalkEnd → Type 0
 IsAskedOver {W} facts link after tries plan (names os) given refused end =
@@ -115,9 +113,9 @@ IsAskedOver {W} facts link after tries plan (names os) given refused end =
 IsAskedOver {W} facts link after tries plan (subtree w) given refused end =
     IsWalkedOver facts link after tries (first_of plan.community w) given refused end
 
--- What is known of a run over a link over which nothing was sent before. `link` is the state of
--- the link before the run, and `after` its state after the run. `Linked` says that the link was
--- opened in the state `link` and closed in the state `after`, so nothing else happened over it.
+-- What is known of a run over a link over which nothing was sent before. `link` is its state
+-- before the run, and `after` its state after it. `Linked` says that the link was opened in the
+-- first and closed in the second, so nothing else happened over it.
 pub record HasFacts {W : Type 0} (Linked : (link after : W) → Type 0) (facts : LinkFacts W)
     (tries : ℕ) (plan : Plan) (given refused : List VarBind) (end : WalkEnd) : Type 0 where
   pub link : W

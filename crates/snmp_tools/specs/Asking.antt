@@ -1,5 +1,5 @@
--- The steps that all jobs which ask an agent have: they judge the version, the letters of -O, the
--- community and AGENT. Then what it means that module files, a name or the agent fails.
+-- The steps that all jobs which ask an agent have: the version, the letters of -O, the community,
+-- and AGENT; and how module files, names and agents fail.
 use Rattle.std.specs.Prelude.{◌≡◌, ◌≢◌, ◌<◌, ◌≤◌, ℕ, List, length, Some, None, Option, Ok, Err}
 use Rattle.std.specs.Prelude.{codes}
 use Rattle.snmp_tools.specs.load.Files.{AreModulesOf, FilesFail, Refusal}
@@ -19,12 +19,12 @@ use Rattle.smi_tree.specs.{Tree.Contents}
 
 -- ---- arguments, before any file is read
 
--- all octets of -O, `text`, are letters, and `letters` is what they say: how lines are shown
+-- all octets of -O are letters, and `letters` is what they say: how lines are shown
 pub record AreShown (text : List ℕ) (letters : Letters) : Type 0 where
   pub known : first_other text ≡ None
   pub read : AreLetters text letters
 
--- the argument AGENT, `word`, says that the agent is at `agent`, and nowhere else
+-- the argument AGENT says that the agent is at `agent`, and nowhere else
 abbrev pub HasAgent : (word : List ℕ) → Address → Type 0
 HasAgent word agent =
     IsAgent word agent × ((other : Address) → IsAgent word other → other ≡ agent)
@@ -54,30 +54,29 @@ AskingFails words agent_step why =
 
 -- ---- module files, names and agents
 
--- `why` is that of the first module file that can't be read or whose text has a fault; it isn't
--- known that all files hold modules
+-- `why` is that of the first module file that can't be read or whose text has a fault
 abbrev pub MibsFail : Holdings → (paths : List (List ℕ)) → Fault → Type 0
 MibsFail files paths why =
     (refusal : Refusal) × FilesFail files paths refusal × (why ≡ bad_modules refusal)
     × ((modules : List Module) → AreModulesOf (Holds files) paths modules → ⊥)
 
--- the name `text` doesn't mean an identifier, and `why` says so
+-- the name `text` doesn't mean an identifier, as `why` says
 abbrev pub NameFails : Contents → List ℕ → Fault → Type 0
 NameFails tree text why =
     (error : NameError) × TextMeans tree text (Err error) × (why ≡ bad_name error text)
 
--- `name` is the identifier that the text means as a name, or None if there is no text
+-- `name` is the identifier that the text means, or None if there is no text
 abbrev pub IsNameIfGiven : Contents → Option (List ℕ) → Option (List ℕ) → Type 0
 IsNameIfGiven mib None name = name ≡ None
 IsNameIfGiven mib (Some text) name =
     (o : List ℕ) × TextMeans mib text (Ok o) × (name ≡ Some o)
 
--- the agent can be reached: its table file defines a table, or it is reached over the network
+-- the agent's table file defines a table, or the agent is reached over the network
 abbrev pub IsReached : Holdings → Contents → Address → Type 0
 IsReached files mib (table path) = (view : MibView) × HasTable files mib path view
 IsReached files mib (udp host port) = Unit {0}
 
--- the agent can't be reached: its table file can't be read or doesn't define a table
+-- the agent's table file can't be read or doesn't define a table
 abbrev pub ReachFails : Holdings → Contents → Address → Fault → Type 0
 ReachFails files mib (table path) why = TableFails files mib path why
 ReachFails files mib (udp host port) why = ⊥

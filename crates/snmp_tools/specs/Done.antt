@@ -12,8 +12,8 @@ use Rattle.snmp_tools.specs.{serve.Outcome.IsServeOutcome, translate.Outcome.IsT
 use Rattle.snmp_tools.specs.Question.{AskWords, of_get, of_walk}
 use Rattle.snmp_tools.specs.translate.Headline.{PrintsAll, PrintsFront}
 
--- What is promised of a job that asks an agent: the job of the arguments `words`, which took the
--- world outside from the state `before` to the state `after`.
+-- what is promised of a job that asks an agent, between the states `before` and `after` of the
+-- world outside
 pub record IsAskDone {N V D : Type 0} (net : Network N V D) (wire : LinkFacts V)
     (Loads : LoadFacts) (words : AskWords) (before after : Seen N) (status : ℕ) : Type 0 where
   pub outcome_reported : IsRun net wire Loads words before after status
@@ -40,9 +40,9 @@ pub record IsServeRun {N V D : Type 0} (net : Network N V D) (Loads : LoadFacts)
   pub outcome : IsServeOutcome net Loads words before (record after { err = warned }) fault
   pub reported : IsReported fault warned after.err status
 
--- What is promised of a job: it ended with this exit status, and took the world outside from the
--- state `before` to the state `after`. `net` is what is known of the network, `wire` of its links,
--- and `Loads` of loads of module files. snmptranslate leaves the network as it was.
+-- What is promised of a job that ended with this exit status, between the states `before` and
+-- `after` of the world outside. `net` is what is known of the network, `wire` of its links, and
+-- `Loads` of loads of module files. snmptranslate leaves the network as it was.
 abbrev pub IsJobDone : {N V D : Type 0} → Network N V D → LinkFacts V → LoadFacts → Stated
     → (before after : Seen N) → (status : ℕ) → Type 0
 IsJobDone {N} {V} {D} net wire Loads (snmptranslate words) before after status =

@@ -19,8 +19,7 @@ use Rattle.snmp_tools.specs.Answer.{AreRowsOf, IsFeasible}
 use Rattle.snmp_tools.specs.Question.{AskFor, AskWords, Plan, counts_in}
 use Rattle.smi_tree.specs.{Tree.Contents}
 
--- the arguments ask for `plan` over the table file at `path`, whose text is known, and `rows` is
--- the answer
+-- the arguments ask for `plan` over a table file whose text is known, and `rows` is the answer
 pub record IsAsk (words : AskWords) (files : Holdings) (rows : List VarBind) : Type 0 where
   pub mib : Contents
   pub warnings : List Warning
@@ -56,9 +55,9 @@ abbrev pub IsWholeWritten : Contents → Plan → (rows : List VarBind) → (bef
 IsWholeWritten mib plan rows before after =
     (text : List ℕ) × IsWholeText mib plan rows text × (after ≡ extended before text)
 
--- The status is 1, and the output failed or memory ran out. The latter is reported on standard
--- error, after the warnings about the modules if these were loaded before. If standard error
--- fails, it takes a prefix of each.
+-- The status is 1, and the output failed or memory ran out. The latter is reported, after the
+-- warnings about the modules if these were loaded before. If standard error fails, it takes a
+-- prefix of each.
 abbrev pub IsMishap : List Warning → (before after err_before err_after : Stream) → ℕ → Type 0
 IsMishap warnings before after err_before err_after status = (status ≡ 1)
     × (HasRisen before.faults after.faults

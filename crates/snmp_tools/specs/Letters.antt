@@ -76,8 +76,8 @@ pub record HaveChosen (bulk : Bool) (text : List ℕ) (choices : Choices) : Type
   pub leaves_last_get : choices.leaves_last_get ≡ has 73 letters
   pub repetitions : IsLastNumber letters choices.repetitions
 
--- `octet` is reported since not all letters have a meaning: a digit that `text` begins with, or
--- the octet that is reported of the first letter without a meaning
+-- `octet` is reported if not all letters have a meaning: a digit that `text` begins with, or what
+-- `IsUnknown` says of the first letter that has none
 abbrev pub IsFirstUnknown : (bulk : Bool) → (text : List ℕ) → (octet : ℕ) → Type 0
 IsFirstUnknown bulk text octet =
     ((rest : List ℕ) × (text ≡ octet ∷ rest) × (is_ascii_digit octet ≡ true))

@@ -28,8 +28,7 @@ IsPrintedUpTo mib letters before rows refused (ending.Sink fault.Output) after =
 IsPrintedUpTo mib letters before rows refused _ after =
     (text : List ℕ) × AreLines mib letters rows text × (after ≡ extended before text)
 
--- `text` isn't printed because memory ran out, or only a prefix of it because the output failed;
--- `fault` says which
+-- `text` isn't printed because memory ran out, or only a prefix of it because the output failed
 abbrev pub StopsAtText : (before : Stream) → (text : List ℕ) → (after : Stream) → Option Fault
     → Type 0
 StopsAtText before text after fault =
@@ -62,8 +61,8 @@ TakesLine mib letters before binding (Err fault.Output) after = (line : List ℕ
     × IsLine mib letters binding.name binding.value line × FailsWithin before line after
 TakesLine mib letters before binding (Err fault.Memory) after = after ≡ before
 
--- the lines of `rows` were printed until the run ended with `end`, and `Facts` holds of them and
--- of the row that was refused, if one was
+-- the lines of `rows` were printed until the run ended with `end`; `Facts` holds of them and of
+-- the refused row, if there is one
 pub record ArePrinted (mib : Contents) (letters : Letters) (before after : Stream) (end : WalkEnd)
     (Facts : (rows refused : List VarBind) → Type 0) : Type 0 where
   pub rows : List VarBind

@@ -68,7 +68,7 @@ status_name (pos n) = slice_index_or (
     n (codes "unknown")
 status_name (negsuc n) = codes "unknown"
 
--- the start of the message about a name, which says what is wrong with it
+-- the start of the message about a name: what is wrong with it
 abbrev pub name_fault : NameError → List ℕ
 name_fault name.Unknown = codes "Unknown name: "
 name_fault name.BadIndex = codes "Bad index: "
@@ -88,7 +88,7 @@ abbrev pub error_status_text : ℤ → ℤ → List ℕ
 error_status_text status index = codes "Error in packet: " ++ status_name status ++ codes " ("
     ++ signed_decimal status ++ codes "), index " ++ signed_decimal index
 
--- the message about a walk or a Get that ended early; nothing for one that is done
+-- the message about a walk or a Get that ended early
 abbrev pub end_message : List ℕ → WalkEnd → List ℕ
 end_message agent (walk_end.Done count) = []
 end_message agent (walk_end.Fault status index) = error_status_text status index

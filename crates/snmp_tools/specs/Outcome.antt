@@ -19,8 +19,8 @@ use Rattle.smi_tree.specs.{Tree.Contents}
 
 -- ---- what is written
 
--- What follows the lines of a run that ended with `end`: the line of -Cp, if it is asked for
--- (`counts`). `fault` is what is reported, if anything is.
+-- What follows the lines of a run: if it is done, the line of -Cp, if that is asked for. If it
+-- ended early, nothing, and `end` is the fault.
 abbrev pub IsFinished : (agent : List ℕ) → WalkEnd → (counts : Bool) → (before after : Stream)
     → Option Fault → Type 0
 IsFinished agent (ending.Done count) true before after fault =
@@ -29,9 +29,8 @@ IsFinished agent (ending.Done count) false before after fault = (after ≡ befor
 IsFinished agent end counts before after fault =
     (after ≡ before) × (fault ≡ Some (ended agent end))
 
--- A run asked the question of `plan`, and the lines of its bindings were printed. `fault` is why
--- not all of them were, if so. `Facts` holds of the bindings that the sink was given and refused,
--- and of how the run ended.
+-- The bindings of a run were printed; `fault` is why not all of them were, if so. `Facts` holds of
+-- the bindings given to the sink, of those that it refused, and of the end.
 pub record IsShown (Facts : (given refused : List VarBind) → WalkEnd → Type 0) (mib : Contents)
     (plan : Plan) (agent : List ℕ) (before after : Stream) (fault : Option Fault) : Type 0 where
   pub given : List VarBind
@@ -43,15 +42,15 @@ pub record IsShown (Facts : (given refused : List VarBind) → WalkEnd → Type 
   pub finish : IsFinished agent end (counts_in plan.question) between after fault
 
 -- One link was opened to `port` of `host`, and closed. `link` is its state when it was opened, and
--- `last` when it was closed. Nothing else changed the network from `before` to `after`.
+-- `last` when it was closed. Nothing else changed the network between.
 pub record IsLinked {N V D : Type 0} (net : Network N V D) (host : List ℕ) (port seconds : ℕ)
     (before : N) (link last : V) (after : N) : Type 0 where
   pub between : N
   pub opened : net.opens before host port seconds link between
   pub closed : net.closes between last after
 
--- One link was opened to `port` of `host`, and closed as it was: nothing was sent or received over
--- it. The network counted no fault, and nothing else changed.
+-- One link was opened and closed as it was: nothing was sent or received over it. The network
+-- counted no fault, and nothing else changed.
 pub record HasOpened {N V D : Type 0} (net : Network N V D) (host : List ℕ) (port seconds : ℕ)
     (before after : Seen N) : Type 0 where
   pub link : V
@@ -59,8 +58,8 @@ pub record HasOpened {N V D : Type 0} (net : Network N V D) (host : List ℕ) (p
   pub count : net.fault_count after.links ≡ net.fault_count before.links
   pub unchanged : after ≡ record before { links = after.links }
 
--- The question of the plan was asked over a link to `port` of `host`, and the bindings were
--- printed. The link was opened for this, and closed as the run left it.
+-- The question of the plan was asked over a link, which was opened for it and closed as the run
+-- left it, and the bindings were printed.
 abbrev pub IsShownOver : {N V D : Type 0} → Network N V D → LinkFacts V → AskWords → Contents
     → Plan → (host : List ℕ) → (port : ℕ) → (before after : Seen N) → Option Fault → Type 0
 IsShownOver {N} {V} {D} net wire words mib plan host port before after fault = IsShown
@@ -68,9 +67,8 @@ IsShownOver {N} {V} {D} net wire words mib plan host port before after fault = I
     (λ link last. IsLinked net host port words.asking.seconds before.links link last after.links)
     wire (words.asking.retries + 1) plan) mib plan words.asking.agent before.out after.out fault
 
--- What a job wrote, by the names and types of `mib`, and why not all of it was done, if so
--- (`fault`). If it was refused before it opened a link, or the agent is over a table, the network
--- stays as it was. If a name can't be sent, nothing is sent.
+-- What a job wrote by the names and types of `mib`, and why not all of it was done, if so. If it
+-- was refused before it opened a link, or the agent is over a table, the network stays as it was.
 pub data IsOutcomeBy {N V D : Type 0} (net : Network N V D) (wire : LinkFacts V) (words : AskWords)
     (mib : Contents) (before after : Seen N) (fault : Option Fault) : Type 0 where
   refused : (why : Fault) → IsLateRefusal words before.files mib why → after ≡ before
@@ -89,23 +87,22 @@ pub data IsOutcomeBy {N V D : Type 0} (net : Network N V D) (wire : LinkFacts V)
       fault
       → after ≡ record before { out = after.out }
       → IsOutcomeBy net wire words mib before after fault
-  -- no link was opened: a call of the network failed, which it counted, and nothing was printed
+  -- a call of the network failed, which it counted, and nothing was printed
   not_linked : (plan : Plan) (host : List ℕ) (port : ℕ) → IsPlanFor words before.files mib plan
       → plan.agent ≡ udp host port → net.fails before.links after.links
       → HasRisen (net.fault_count before.links) (net.fault_count after.links)
       → after.out ≡ before.out → fault ≡ Some (ended words.asking.agent ending.Link)
       → IsOutcomeBy net wire words mib before after fault
-  -- one link was opened, the question was asked over it, and it was closed as the run left it
+  -- one link was opened, asked over, and closed as the run left it
   asked_over : (plan : Plan) (host : List ℕ) (port : ℕ) → IsPlanFor words before.files mib plan
       → plan.agent ≡ udp host port → CanBeSent plan.question
       → IsShownOver net wire words mib plan host port before after fault
       → net.fault_count after.links ≡ net.fault_count before.links
       → IsOutcomeBy net wire words mib before after fault
 
--- What a job wrote on its output, and what it wrote of the warnings about its modules on standard
--- error. If it was refused before the modules were loaded, it wrote nothing. Otherwise it first
--- wrote the lines of the warnings, or a prefix of them if standard error failed. Then it asked,
--- with names by these modules.
+-- What a job wrote on its output, and of the warnings about its modules on standard error. If it
+-- was refused before the modules were loaded, it wrote nothing. Otherwise it first wrote the lines
+-- of the warnings, or a prefix of them if standard error failed, and then asked by these modules.
 pub data IsOutcome {N V D : Type 0} (net : Network N V D) (wire : LinkFacts V) (Loads : LoadFacts)
     (words : AskWords) (before after : Seen N) (fault : Option Fault) : Type 0 where
   not_loaded : (why : Fault) → IsEarlyRefusal words before.files why → after ≡ before
@@ -120,8 +117,7 @@ pub data IsOutcome {N V D : Type 0} (net : Network N V D) (wire : LinkFacts V) (
 -- ---- what is reported
 
 -- The status, and the line of a fault on standard error, or `Out of memory.` if there was no
--- memory for the line. If standard error fails, it takes a prefix of that. Without a fault, the
--- status is 0 and nothing is written.
+-- memory for the line. If standard error fails, it takes a prefix of that.
 abbrev pub IsReported : Option Fault → Stream → Stream → ℕ → Type 0
 IsReported None before after status = (status ≡ 0) × (after ≡ before)
 IsReported (Some why) before after status =

@@ -21,10 +21,10 @@ use Rattle.smi_tree.specs.{Tree.Contents}
 
 -- ---- the arguments
 
--- what to ask an agent for, with texts as they were passed: the instances of names, or a walk
+-- what to ask an agent for: the instances of names, or a walk
 pub data Request : Type 0 where
   get : (texts : List (List ℕ)) → Request
-  -- with GetBulk or not: the letters of -C, the name to continue after, and the root's name
+  -- with GetBulk or not; its letters of -C, the name to continue after, and the root's name
   walk : (bulk : Bool) → (letters : List ℕ) → (after name : Option (List ℕ)) → Request
 
 -- the arguments of a job that asks an agent
@@ -40,16 +40,16 @@ abbrev pub of_walk : (bulk : Bool) → WalkWords → AskWords
 of_walk bulk words =
     record { asking = words.asking; request = walk bulk words.letters words.after words.name }
 
--- the root's name: the one that was passed, or mib-2 (RFC 1213)
+-- the root's name, or mib-2 (RFC 1213) if none is given
 abbrev pub root_text : Option (List ℕ) → List ℕ
 root_text name = unwrap_or name (codes "1.3.6.1.2.1")
 
--- the letters of -C choose `choices`; for a Get, which has none, these are the defaults
+-- the letters of -C choose `choices`, which for a Get are the defaults
 abbrev pub HasChosen : Request → Choices → Type 0
 HasChosen (get texts) choices = choices ≡ no_choices
 HasChosen (walk bulk letters after name) choices = HaveChosen bulk letters choices
 
--- `octet` is the first octet of the letters of -C that has no meaning
+-- `octet` is the first of the letters of -C that has no meaning
 abbrev pub HasUnknown : Request → (octet : ℕ) → Type 0
 HasUnknown (get texts) octet = ⊥
 HasUnknown (walk bulk letters after name) octet = IsFirstUnknown bulk letters octet
@@ -59,7 +59,7 @@ HasUnknown (walk bulk letters after name) octet = IsFirstUnknown bulk letters oc
 -- a walk
 pub record Walk : Type 0 where
   pub root : List ℕ
-  -- the name after which it continues, if one is given
+  -- the name to continue after, if one is given
   pub after : Option (List ℕ)
   pub mode : Mode
   pub method : Method
@@ -84,12 +84,11 @@ abbrev pub counts_in : Question → Bool
 counts_in (names os) = false
 counts_in (subtree w) = w.counts
 
--- `os` are the identifiers that the names `texts` mean, in the same order
+-- `os` are what the names `texts` mean, in order
 abbrev pub AreNames : Contents → (texts os : List (List ℕ)) → Type 0
 AreNames mib texts os = AllZip (λ text o. TextMeans mib text (Ok o)) texts os
 
--- `w` is the walk that the arguments ask for, those of snmpbulkwalk if `bulk`, otherwise of
--- snmpwalk
+-- the arguments of snmpbulkwalk (`bulk`) or snmpwalk ask for the walk `w`
 pub record IsWalkOf (bulk : Bool) (choices : Choices) (after name : Option (List ℕ))
     (mib : Contents) (w : Walk) : Type 0 where
   pub mode : w.mode ≡ mode_of choices
@@ -98,7 +97,7 @@ pub record IsWalkOf (bulk : Bool) (choices : Choices) (after name : Option (List
   pub root : TextMeans mib (root_text name) (Ok w.root)
   pub goes_on : IsNameIfGiven mib after w.after
 
--- the request asks this question, if its letters of -C choose `choices`
+-- the request asks this question, with these choices of -C
 abbrev pub IsQuestionOf : Request → Choices → Contents → Question → Type 0
 IsQuestionOf (get texts) choices mib (names os) = AreNames mib texts os
 IsQuestionOf (walk bulk letters after name) choices mib (subtree w) =
@@ -117,8 +116,7 @@ pub record AskFor (words : AskWords) (mib : Contents) (plan : Plan) : Type 0 whe
   pub agent : IsAgent words.asking.agent plan.agent
   pub question : IsQuestionOf words.request choices mib plan.question
 
--- the arguments ask for `plan`, with names by `mib`, the tree that the job loads, and for no other
--- agent
+-- the arguments ask for `plan`, by the tree that the job loads, and for no other agent
 pub record IsPlanFor (words : AskWords) (files : Holdings) (mib : Contents) (plan : Plan) : Type 0
   where
     pub known : IsMibOf (MayHold files) words.asking mib
@@ -138,9 +136,8 @@ abbrev pub loading_steps : List LoadingStep
 loading_steps = asking version_step ∷ asking letters_step ∷ choices_step ∷ asking community_step
     ∷ asking agent_step ∷ mibs_step ∷ []
 
--- The later steps, before the first request. `name_step`: a name is looked up. `reach_step`: the
--- agent is reached. `sent_step`: a name is tested for an encoding. `below_step`: the name to
--- continue after is tested for being the root or below it.
+-- the later steps, before the first request: a name is looked up, the agent is reached, a name
+-- can be sent, and the name to continue after is the root or below it
 pub data LaterStep : Type 0 where
   name_step : (text : List ℕ) → LaterStep
   reach_step : LaterStep
@@ -152,7 +149,7 @@ abbrev pub goes_on_after : {T : Type 0} → (List ℕ → List T) → Option (Li
 goes_on_after {T} steps None = []
 goes_on_after {T} steps (Some text) = steps text
 
--- the steps that look up each name
+-- the steps that look up names
 abbrev pub name_steps : Request → List LaterStep
 name_steps (get texts) = map name_step texts
 name_steps (walk bulk letters after name) =
@@ -162,8 +159,7 @@ name_steps (walk bulk letters after name) =
 abbrev pub reaching_steps : Request → List LaterStep
 reaching_steps request = name_steps request ++ (reach_step ∷ [])
 
--- the last steps: each name must have an encoding, and the name to continue after must be the root
--- or below it
+-- the last steps, which test the names
 abbrev pub sent_steps : Request → List LaterStep
 sent_steps (get texts) = map sent_step texts
 sent_steps (walk bulk letters after name) = sent_step (root_text name)
@@ -178,7 +174,7 @@ abbrev pub HasSendable : Contents → (text : List ℕ) → Type 0
 HasSendable mib text =
     (name : List ℕ) × TextMeans mib text (Ok name) × IsWire (wire name)
 
--- the name `text` means an identifier that can't be sent, and `why` says so
+-- the name `text` means an identifier that can't be sent, as `why` says
 abbrev pub HasUnsendable : Contents → (text : List ℕ) → Fault → Type 0
 HasUnsendable mib text why = (name : List ℕ) × TextMeans mib text (Ok name)
     × IsUnsendable name × (why ≡ unsendable text)
@@ -193,21 +189,21 @@ HaveNames mib root_text text Is =
 abbrev pub OfAgent : AskWords → (Address → Type 0) → Type 0
 OfAgent words Is = (agent : Address) × HasAgent words.asking.agent agent × Is agent
 
--- the step, one up to loading the modules, is done: it finds nothing to refuse
+-- a step up to loading the modules is done: it finds nothing to refuse
 abbrev pub IsDoneFor : AskWords → Holdings → LoadingStep → Type 0
 IsDoneFor words files (asking step) = IsAskingDone words.asking step
 IsDoneFor words files choices_step =
     (choices : Choices) × HasChosen words.request choices
 IsDoneFor words files mibs_step = (mib : Contents) × IsMibOf (MayHold files) words.asking mib
 
--- the step, one up to loading the modules, fails for the reason `why`
+-- a step up to loading the modules fails for the reason `why`
 abbrev pub FailsFor : AskWords → Holdings → LoadingStep → Fault → Type 0
 FailsFor words files (asking step) why = AskingFails words.asking step why
 FailsFor words files choices_step why =
     (letter : ℕ) × HasUnknown words.request letter × (why ≡ bad_letter letter)
 FailsFor words files mibs_step why = MibsFail files words.asking.mibs why
 
--- the later step is done, with names by `mib`: it finds nothing to refuse
+-- a later step is done, with names by `mib`
 abbrev pub IsDoneBy : AskWords → Holdings → Contents → LaterStep → Type 0
 IsDoneBy words files mib (name_step text) = HasMeaning mib text
 IsDoneBy words files mib reach_step = OfAgent words (IsReached files mib)
@@ -215,7 +211,7 @@ IsDoneBy words files mib (sent_step text) = HasSendable mib text
 IsDoneBy words files mib (below_step root_text text) =
     HaveNames mib root_text text (λ root after. IsAtOrBelow after root)
 
--- the later step fails for the reason `why`, with names by `mib`
+-- a later step fails for the reason `why`, with names by `mib`
 abbrev pub FailsBy : AskWords → Holdings → Contents → LaterStep → Fault → Type 0
 FailsBy words files mib (name_step text) why = NameFails mib text why
 FailsBy words files mib reach_step why = OfAgent words (λ agent. ReachFails files mib agent why)
@@ -224,14 +220,14 @@ FailsBy words files mib (below_step root_text text) why =
     HaveNames mib root_text text
     (λ root after. (IsAtOrBelow after root → ⊥) × (why ≡ outside_root text))
 
--- `why` is why no modules were loaded: memory ran out, or a step up to loading them failed
+-- why no modules were loaded: memory ran out, or a step up to loading them failed
 abbrev pub IsEarlyRefusal : AskWords → Holdings → Fault → Type 0
 IsEarlyRefusal words files why =
     (why ≡ out_of_memory)
     ⊎ IsFirstToFail loading_steps (IsDoneFor words files) (FailsFor words files) why
 
--- `why` is why no agent is reached, after the modules were loaded: memory ran out, or a later step
--- up to reaching the agent failed
+-- why no agent is reached after the modules were loaded: memory ran out, or a later step up to
+-- reaching it failed
 pub record IsLateRefusal (words : AskWords) (files : Holdings) (mib : Contents) (why : Fault)
     : Type 0 where
   pub loaded : AreDone (IsDoneFor words files) loading_steps
@@ -239,7 +235,7 @@ pub record IsLateRefusal (words : AskWords) (files : Holdings) (mib : Contents) 
       ⊎ IsFirstToFail (reaching_steps words.request) (IsDoneBy words files mib)
       (FailsBy words files mib) why
 
--- `why` is why the agent isn't asked, after it was reached: the first of the last steps that fails
+-- why the agent that was reached isn't asked: the first of the last steps that fails
 pub record IsLastRefusal (words : AskWords) (files : Holdings) (mib : Contents) (why : Fault)
     : Type 0 where
   pub loaded : AreDone (IsDoneFor words files) loading_steps

@@ -38,8 +38,7 @@ pub record HoldsTableFile (files : Holdings) (path root text : List ℕ) : Type 
 
 -- ---- what is below the root
 
--- `rows` are the rows of the lines that are below the root, and no others, in increasing order of
--- names, so each is there once
+-- `rows` are the rows of the lines that are below the root, and no others, by increasing names
 pub record AreRowsBelow (lines : List (List ℕ)) (root : List ℕ) (rows : List VarBind) : Type 0 where
   pub ordered : AllPairs (λ row later. Precedes row.name later.name) rows
   pub exact : (row : VarBind)
@@ -75,8 +74,8 @@ pub record PrintsRows (lines : List (List ℕ)) (root : List ℕ)
   -- at status 0 all of their lines are written
   pub all : status ≡ 0 → after ≡ extended before (flat_map row_line rows)
   -- If strings are short and there are fewer rows than ids of requests, the status is 0, unless
-  -- the output fails or memory runs out. If memory runs out, standard error takes no octet for
-  -- warnings, and then the line that says so, or a prefix of that line if it fails.
+  -- the output fails or memory runs out. The latter is reported, and nothing before it; if
+  -- standard error fails, it takes a prefix of the report.
   pub ends : ((row : VarBind) → HasRow first_format lines row → IsShort row.value)
       → length rows ≤ 2147483644
       → (status ≡ 0)

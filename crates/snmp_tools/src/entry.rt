@@ -45,8 +45,8 @@ pub fn tool<F: Files, L: Links, O: Output, E: Output>(
     ensures done { AreWordsDone L.Links L.Wire.Link (texts_at words.now)
         (seen (F.text_at files.now) links.old (O.stream out.old) (E.stream err.old))
         (seen (F.text_at files.now) links.new (O.stream out.new) (E.stream err.new)) result }
-    // If the arguments have faults, one of them is reported, and the status is 1. If the fault is
-    // that they ask for help or the version, that is printed. The network stays as it was.
+    // If the arguments have faults, one of them is reported with status 1, or the help or version
+    // that they ask for is printed. The network stays as it was.
     ensures help_or_mistake { faults_of (texts_at words.now) ≢ []
         → (links.new ≡ links.old) × IsHelpOrMistake (texts_at words.now)
         (O.stream out.old) (O.stream out.new) (E.stream err.old) (E.stream err.new) result }
@@ -56,8 +56,7 @@ pub fn tool<F: Files, L: Links, O: Output, E: Output>(
     do_words(alloc, read_words(alloc, words), files, links, out, err)
 }
 
-/// Does the job that was read from the arguments, or shows the error if reading failed. Returns
-/// the exit status.
+/// Does the job that was read, or shows the error if reading failed. Returns the exit status.
 fn do_words<F: Files, L: Links, O: Output, E: Output>(
     alloc: Global,
     read: Result<Job<'_>, UsageError>,
@@ -87,8 +86,7 @@ fn do_words<F: Files, L: Links, O: Output, E: Output>(
     }
 }
 
-/// Prints `text`, the help or version that was asked for, and returns the exit status: 0, or 1 if
-/// the output fails. Then that is reported on `err`.
+/// Prints `text`, the help or version that was asked for, and returns the exit status.
 fn print_help<O: Output, E: Messages>(text: &str, out: &mut O, err: &mut E) -> u8
     ensures { PrintsHelp text.now (O.stream out.old) (O.stream out.new)
         (E.stream err.old) (E.stream err.new) result }

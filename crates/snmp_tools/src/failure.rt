@@ -1,4 +1,4 @@
-//! Why a job wasn't done, with the message on standard error and the exit status for it.
+//! Why a job wasn't done, with its message on standard error and its exit status.
 ghost use Rattle.std.specs.Prelude.{◌≡◌, ◌++◌, ◌∷◌, codes, OnOk, OnErr};
 ghost use Rattle.std.specs.Fmt.{signed_decimal};
 ghost use Rattle.snmp_oid.specs.Numeric.{numeric_text};
@@ -40,8 +40,8 @@ pub enum Failure<'a> {
     NotWire(&'a str),
     /// The name of `--after` is neither the root nor below it.
     AfterOutsideRoot(&'a str),
-    /// The walk or Get of this agent ended early, for the reason that the end says. Or no socket
-    /// could be opened at this address of `--listen`.
+    /// The walk or Get of this agent ended early, or no socket could be opened at this address of
+    /// `--listen`. The end says why.
     Ended(&'a str, WalkEnd),
     /// The output failed.
     Output,
@@ -71,7 +71,6 @@ impl Failure<'_> {
         draft.finish(out)
     }
 
-    // Appends the message, without a newline.
     fn append_message(&self, out: &mut Draft)
         ensures { Adds out.old (fault_message (fault_of self.now)) out.new }
     {
@@ -112,7 +111,6 @@ impl From<AllocError> for Failure<'_> {
     }
 }
 
-/// Appends `first` and then `second`.
 fn two_texts(out: &mut Draft, first: &[u8], second: &[u8])
     ensures { Adds out.old (first.now ++ second.now) out.new }
 {
@@ -120,14 +118,13 @@ fn two_texts(out: &mut Draft, first: &[u8], second: &[u8])
     out.octets(second);
 }
 
-/// Appends `text` and then `word`.
 fn text_and_word(out: &mut Draft, text: &[u8], word: &str)
     ensures { Adds out.old (text.now ++ word.now) out.new }
 {
     two_texts(out, text, word.as_bytes());
 }
 
-/// Returns the start of the message about a name, which says what is wrong with it.
+/// Returns the start of the message about a name: what is wrong with it.
 fn name_fault<'a>(error: &NameError) -> &'a [u8]
     ensures { result.now ≡ name_fault error.now }
 {
@@ -139,8 +136,7 @@ fn name_fault<'a>(error: &NameError) -> &'a [u8]
     }
 }
 
-/// Appends the message about a fault in the table file at `path`: the path, the number of the
-/// line, and what is wrong there.
+/// Appends the message about a fault of the table file at `path`.
 fn table_message(fault: &TableError, path: &str, out: &mut Draft)
     ensures { Adds out.old (table_message path.now fault.now) out.new }
 {
@@ -181,7 +177,7 @@ fn falling_message(out: &mut Draft, last: &Oid, got: &Oid)
     text_and_name(out, b" >= ", got);
 }
 
-/// Appends the message about an error status: its name and number, and the error index.
+/// Appends an error status, by its name and number, and the error index.
 fn fault_message(out: &mut Draft, status: &i32, index: &i32)
     ensures { Adds out.old (error_status_text status.now index.now) out.new }
 {
@@ -190,7 +186,6 @@ fn fault_message(out: &mut Draft, status: &i32, index: &i32)
     text_and_integer(out, b"), index ", index);
 }
 
-/// Appends `text` and then the signed number `n`.
 fn text_and_integer(out: &mut Draft, text: &[u8], n: &i32)
     ensures { Adds out.old (text.now ++ signed_decimal n.now) out.new }
 {
@@ -226,7 +221,6 @@ fn status_name<'a>(status: i32) -> &'a [u8]
     }
 }
 
-/// Appends `text` and then `name` in numbers.
 fn text_and_name(out: &mut Draft, text: &[u8], name: &Oid)
     ensures { Adds out.old (text.now ++ numeric_text name.now) out.new }
 {

@@ -38,8 +38,7 @@ use std::alloc::{AllocError, Global};
 /// - snmptranslate (`IsTranslated`): `outcome` and `is_reported` say the same of it. Whatever
 ///   fails, only a prefix of the names' texts is printed (`front`). At status 0 all of them are
 ///   (`all_at_status_0`). The network stays as it was.
-/// - snmpd (`IsServeRun`): `outcome` lists the ways in which it can end, and `reported` says what
-///   is reported of them.
+/// - snmpd (`IsServeRun`): `outcome` and `reported` say the same of it.
 pub fn run_job<F: Files, L: Links, O: Output, E: Output>(
     alloc: Global,
     job: &Job<'_>,

@@ -1,4 +1,4 @@
-//! Laws about command lines and about what is promised of them. Each is a call that does nothing.
+//! Laws about command lines and what is promised of them.
 ghost use Rattle.std.specs.Prelude.{◌≡◌, ℕ, List, [], false, true};
 ghost use Rattle.std.specs.Str.Lines.{lines};
 ghost use Rattle.snmp_io.specs.{Files.Holdings, Output.Stream};
@@ -61,10 +61,10 @@ pub(crate) fn table_walks()
 /// snmpd, at which `D` receives and sends. Nothing relates AGENT to `--listen`, except that what
 /// happened at the two ends is one run of the network.
 ///
-/// It must be known what the files hold, and snmpd must have ended: if it served, it has served
-/// all its turns. The law doesn't say when the status is 0. It needs `ServesInTurn` of `M`: at its
-/// doors an agent is served in turn. That holds of links in memory ([`memory_serves_in_turn`]). Of
-/// the machine's own network it isn't known, since its `serves` says nothing.
+/// It is known what the files hold, and snmpd has ended: if it served, it has served all its
+/// turns. Nothing is said of when the status is 0. The premise `ServesInTurn` holds of links in
+/// memory ([`memory_serves_in_turn`]). Of the machine's own network it isn't known, since its
+/// `serves` says nothing.
 ///
 /// A law: the call does nothing, and its caller may use what it ensures.
 pub fn served_tables<L: Links, M: Links, D: Endpoint>()
@@ -89,7 +89,7 @@ pub fn served_tables<L: Links, M: Links, D: Endpoint>()
     honest_networks::<D>();
 }
 
-/// Links in memory serve an agent in turn at each of their doors. Their doors are endpoints.
+/// Links in memory serve an agent in turn at each of their doors, which are endpoints.
 ///
 /// A law: the call does nothing, and its caller may use what it ensures.
 pub fn memory_serves_in_turn()

@@ -2,7 +2,7 @@
 //!
 //! Built on the command line (`snmp_words`), on outputs and files (`snmp_io`), on tables and walks
 //! (`snmp_agent`, `snmp_walk`, `snmp_net`), and on names and values as text (`smi_show`). The
-//! program `snmp` passes it the machine's files, network and outputs.
+//! program `snmp` passes it the machine.
 //!
 //! # Examples
 //!
@@ -42,8 +42,8 @@ pub use snmp_words::{
     Asking, GetJob, Job, ServeJob, TranslateJob, UsageError, WalkJob, read_words,
 };
 
-// For tests, and for callers that write their own messages: why a job wasn't done, and loading
-// module files without a job.
+// For tests, and for callers with messages of their own: why a job wasn't done, and loading module
+// files without a job.
 pub use failure::Failure;
 pub use load::{FilesError, load_tree};
 

@@ -1,5 +1,4 @@
-//! The names in arguments: they are looked up in the tree, and the names of a Get are tested for
-//! an encoding.
+//! Names in arguments: each is looked up, and those of a Get must have an encoding.
 ghost use Rattle.std.specs.Prelude.{◌≡◌, ◌⊎◌, List, ℕ, All, IfErr, IfOk, Ok, OnOk, Some, length};
 ghost use Rattle.std.specs.Prelude.{option_map};
 ghost use Rattle.smi_show.specs.name.Meant.{TextMeans};
@@ -17,7 +16,7 @@ use smi_tree::Tree;
 use snmp_oid::Oid;
 use std::alloc::Global;
 
-/// Returns the identifier that the name `text` means. Fails if it means none.
+/// Returns the identifier that the name `text` means.
 pub(crate) fn name<'a>(tree: &Tree, text: &'a str) -> Result<Oid, Failure<'a>>
     ensures ok { IfOk result (λ o. TextMeans tree.now text.entry.now (Ok o)) }
     ensures err { IfErr result (λ e. NameFails tree.now text.entry.now (fault_of e)) }
@@ -28,8 +27,8 @@ pub(crate) fn name<'a>(tree: &Tree, text: &'a str) -> Result<Oid, Failure<'a>>
     }
 }
 
-/// Reads the identifier that the name `text` means into `oid`. Fails if it means none; then `oid`
-/// may have any numbers.
+/// Reads the identifier that the name `text` means into `oid`. After an error, `oid` may have any
+/// numbers.
 pub(crate) fn read_name<'a>(tree: &Tree, text: &'a str, oid: &mut Oid) -> Result<(), Failure<'a>>
     ensures ok { OnOk result (TextMeans tree.now text.entry.now (Ok oid.new)) }
     ensures err { IfErr result (λ e. NameFails tree.now text.entry.now (fault_of e)) }
@@ -40,8 +39,7 @@ pub(crate) fn read_name<'a>(tree: &Tree, text: &'a str, oid: &mut Oid) -> Result
     }
 }
 
-/// Returns the identifier that the name `text` means, or `None` if there is no `text`. Fails if it
-/// means none.
+/// Returns the identifier that the name `text` means, or `None` if there is no `text`.
 pub(crate) fn name_if_given<'a>(
     tree: &Tree,
     text: Option<&'a str>,

@@ -1,5 +1,5 @@
-//! The plan of a job that asks an agent. It is made of the job's arguments: they are judged in
-//! order, up to the first without a meaning, and then the names among them are looked up.
+//! The plan of a job that asks an agent: its arguments are judged in order, up to the first
+//! without a meaning, and then its names are looked up.
 ghost use Rattle.std.specs.Prelude.{◌≡◌, ◌≤◌, length, IfErr, IfOk};
 ghost use Rattle.snmp_walk.specs.Walker.{IsMethod};
 ghost use Rattle.snmp_tools.specs.{Asking.HasAgent, Letters.IsMethod-prop, Message.fault_of};
@@ -36,8 +36,8 @@ impl<'j, 'a> Plan<'j, 'a> {
     ghost use Rattle.snmp_tools.specs.private.Planned.{AreOrdersOf, HasTextsOf, NamesFail};
     ghost use Rattle.snmp_tools.specs.private.Planned.{ask_words, plan_of};
 
-    /// Returns the plan of `job`, whose names are looked up in `tree`. `orders` must be those of
-    /// `job`. Fails if a name has no meaning, or if memory runs out.
+    /// Returns the plan of `job`, with names by `tree`. `orders` must be what its arguments say.
+    /// Fails if a name has no meaning, or if memory runs out.
     pub(crate) fn read(
         alloc: Global,
         job: AskJob<'j, 'a>,
@@ -58,7 +58,7 @@ impl<'j, 'a> Plan<'j, 'a> {
     }
 }
 
-/// The judged arguments of a job: what they say, before any file is read and names are looked up.
+/// What the judged arguments of a job say, before any file is read.
 #[derive(Clone, Copy, Debug)]
 pub(crate) struct Orders<'a> {
     /// How lines are shown.
@@ -79,8 +79,8 @@ pub(crate) struct Orders<'a> {
 impl<'a> Orders<'a> {
     ghost use Rattle.snmp_tools.specs.private.Planned.{AreOrdersOf, ask_words};
 
-    /// Judges the arguments of `job`: the version, the letters of `-O` and of `-C`, the community
-    /// and the agent. Fails at the first that has no meaning, or isn't allowed.
+    /// Judges the arguments of `job`: the version, the letters of `-O` and `-C`, the community and
+    /// AGENT. Fails at the first that is refused.
     pub(crate) fn read(job: AskJob<'_, 'a>) -> Result<Orders<'a>, Failure<'a>>
         ensures orders { IfOk result (AreOrdersOf (ask_words job.entry)) }
         ensures refused { (files : Holdings)
@@ -125,8 +125,8 @@ impl<'j, 'a> Question<'j, 'a> {
         }
     }
 
-    // Returns the question of `request`, whose names are looked up in `tree`. `choices` must be
-    // those of its letters of `-C`. Fails if a name has no meaning, or if memory runs out.
+    // Returns the question of `request`, with names by `tree`. `choices` must be those of its
+    // letters of `-C`. Fails as `Plan::read` does.
     fn read(
         alloc: Global,
         request: Request<'j, 'a>,
@@ -179,17 +179,17 @@ pub(crate) struct Names<'j, 'a> {
 /// A walk.
 #[derive(Debug, Drop)]
 pub(crate) struct Walk<'a> {
-    /// The root's name, as it was passed, or `MIB_2`.
+    /// The root's name as it was passed, or `MIB_2`.
     pub(crate) root_text: &'a str,
     /// The root of the subtree.
     pub(crate) root: Oid,
-    /// The name after which the walk continues, as it was passed; empty if none was.
+    /// The name to continue after, as it was passed; empty if none was.
     pub(crate) after_text: &'a str,
-    /// The name after which the walk continues, if one was passed.
+    /// The name to continue after, if one was passed.
     pub(crate) after: Option<Oid>,
     /// What the walk returns besides the instances below the root.
     pub(crate) mode: Mode,
-    /// The requests with which the walk asks for instances.
+    /// The requests with which it asks for instances.
     pub(crate) method: Method,
     /// Whether the number of bindings is printed after their lines.
     pub(crate) counts: bool,

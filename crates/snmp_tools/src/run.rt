@@ -24,8 +24,8 @@ use snmp_net::{AgentAddress, Links};
 use snmp_walk::{MemoryLink, SinkFault, WalkEnd, instances_below};
 use std::alloc::Global;
 
-/// Asks an agent and prints the lines of its answer. Before it asks, it writes the warnings of the
-/// modules to `err`. Fails if not all of this was done; the error says why.
+/// Asks an agent and prints the lines of its answer, after it wrote the warnings of the modules to
+/// `err`.
 pub(crate) fn ask<'a, F: ModuleLoader<E>, L: Links, O: Output, E: Messages>(
     alloc: Global,
     job: AskJob<'_, 'a>,
@@ -44,8 +44,7 @@ pub(crate) fn ask<'a, F: ModuleLoader<E>, L: Links, O: Output, E: Messages>(
     ask_by(alloc, job, orders, &tree, files, links, out)
 }
 
-/// Does what is left of [`ask`] once the modules are loaded into `tree`: asks the agent and prints
-/// the lines of its answer, by the names and types of `tree`.
+/// Asks an agent and prints the lines of its answer, by the names and types of `tree`.
 fn ask_by<'a, F: Files, L: Links, O: Output>(
     alloc: Global,
     job: AskJob<'_, 'a>,
@@ -92,8 +91,7 @@ fn ask_by<'a, F: Files, L: Links, O: Output>(
     }
 }
 
-/// Returns how a run over a link in memory ended: `end`, except that `Link` becomes a lack of
-/// memory. Such a link fails only if memory runs out.
+/// Returns how a run over a link in memory ended: such a link fails only if memory runs out.
 fn end_in_memory(end: WalkEnd) -> WalkEnd
     ensures { result ≡ end_in_memory end }
 {
@@ -103,8 +101,8 @@ fn end_in_memory(end: WalkEnd) -> WalkEnd
     }
 }
 
-/// Prints what follows the lines of a run: the number of bindings, if the arguments ask for it.
-/// Fails if that fails, or if the run ended early; the error says why.
+/// Prints the number of bindings after the lines of a run, if the arguments ask for it. Fails if
+/// the run ended early.
 fn finish<'a, O: Output>(
     end: WalkEnd,
     plan: &Plan<'_, 'a>,

@@ -23,7 +23,7 @@ use std::alloc::{AllocError, Global};
 
 /// Serves a table file as the arguments of snmpd ask, with names by its module files. Prints where
 /// requests are received, serves the turns, and prints how many requests were replied to and how
-/// many dropped. Fails if not all of this was done; the error says why.
+/// many dropped.
 ///
 /// Before a socket is opened, the arguments are judged, then the module files and then the table
 /// file. Warnings about the modules go to `err`. If a write to `err` fails, nothing else changes.
@@ -45,8 +45,8 @@ pub(crate) fn serve_table<'a, F: ModuleLoader<E>, L: Links, O: Output, E: Messag
     serve_by(alloc, job, place, &tree, files, links, out)
 }
 
-// Returns the address at which requests are received. Fails if the community has more than 255
-// octets, or if the argument of `--listen` isn't a valid address.
+// Returns the address of `--listen`. Fails if the community has more than 255 octets, or if that
+// isn't a valid address.
 fn place_of<'a>(job: &ServeJob<'a>) -> Result<UdpAddress<'a>, Failure<'a>>
     ensures short_community { OnOk result (length job.now.community.now ≤ 255) }
     ensures place { IfOk result (λ place.
@@ -88,8 +88,8 @@ fn serve_by<'a, F: Files, L: Links, O: Output>(
     serve_at(alloc, job, &mut door, &table, links, out)
 }
 
-// Prints the line that says where requests are received, serves `table` at `door` for the turns of
-// `job`, and prints the line of the counts.
+// Prints the line that says where requests are received, serves the turns of `job` at `door`, and
+// prints the line of the counts.
 fn serve_at<'a, L: Links, O: Output>(
     alloc: Global,
     job: &ServeJob<'a>,
@@ -115,7 +115,7 @@ fn serve_at<'a, L: Links, O: Output>(
     print_text(&counts, out)
 }
 
-// Returns the line that says where requests are received. `word` is the argument of `--listen`.
+// Returns the line that says where requests are received: at `word`.
 fn listening_line(alloc: Global, word: &str) -> Result<Vec<u8>, AllocError>
     ensures { IfOk result (λ text. text.items ≡ listening_line word.now) }
 {

@@ -1,4 +1,4 @@
-//! Reads a table file, whose names are looked up in the tree of the modules.
+//! Reads table files, with names by a tree of modules.
 ghost use Rattle.std.specs.Prelude.{◌≡◌, ◌⊎◌, IfErr, IfOk};
 ghost use Rattle.snmp_tools.specs.Message.{fault_of, out_of_memory};
 ghost use Rattle.snmp_tools.specs.serve.TableFile.{AreNamesIn, HasTable, TableFails, names_in};
@@ -64,7 +64,7 @@ impl<'a> Resolver for TreeNames<'a> {
     }
 }
 
-/// Of the names in a table file, `names_in` says what their texts mean by the tree.
+/// The names of a table file, as they are looked up, are what their texts mean.
 ///
 /// A law: the call does nothing, and its caller may use what it ensures.
 pub(crate) fn names_are_meant()

@@ -58,8 +58,7 @@ pub(crate) struct Style {
 }
 
 impl Style {
-    /// Returns what the letters of `-O` and of `-T` say. Fails at the first octet that has no
-    /// meaning.
+    /// Returns what the letters of `-O` and `-T` say. Fails at the first octet without a meaning.
     pub(crate) fn read<'a>(job: &TranslateJob<'a>) -> Result<Style, Failure<'a>>
         ensures style { IfOk result (IsStyleOf (translate_words job.now)) }
         ensures refused { (files : Holdings) → IfErr result (λ e.
@@ -76,8 +75,8 @@ impl Style {
     }
 }
 
-// Returns whether the letters of `-T` ask for details: whether there are any, since their only
-// letter is `d`. The error is the first octet that isn't `d`.
+// Returns whether the letters of `-T` ask for details. The error is the first octet other than
+// `d`, their only letter.
 fn asks_details(text: &[u8]) -> Result<bool, u8>
     ensures asked { IfOk result (λ details. details ≡ has_letter 100 text.now) }
     ensures all_are_letters { OnOk result (first_other_of_t text.now ≡ None) }

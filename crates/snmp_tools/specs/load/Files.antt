@@ -35,8 +35,7 @@ pub data Refusal : Type 0 where
   faulty : (path : List ℕ) → ParseError → Refusal
   no_memory : Refusal
 
--- `why` is that the file can't be read, or that its text has a fault, as far as it is known what
--- the file holds
+-- the file can't be read or its text has a fault, as far as it is known what it holds
 abbrev pub FileFails : Holdings → (path : List ℕ) → Refusal → Type 0
 FileFails files path why =
     (MayHoldNone files path × (why ≡ unreadable path))
@@ -47,6 +46,6 @@ FileFails files path why =
 abbrev pub FilesFail : Holdings → (paths : List (List ℕ)) → Refusal → Type 0
 FilesFail files paths why = IsFirstToFail paths (MayHoldModules files) (FileFails files) why
 
--- `why` is that memory ran out, or that a file failed
+-- memory ran out, or a file failed
 abbrev pub IsFilesRefusal : Holdings → (paths : List (List ℕ)) → Refusal → Type 0
 IsFilesRefusal files paths why = (why ≡ no_memory) ⊎ FilesFail files paths why

@@ -1,5 +1,4 @@
--- The letters in a text, as they are computed, and what one letter of -C chooses, for clauses of
--- private functions.
+-- The letters in a text, computed, and what one letter of -C chooses, for private functions.
 use Rattle.std.specs.Prelude.{◌≡◌, ◌⊎◌, ℕ, false, ◌||◌, ◌==◌, if◌then◌else◌, List, [], ◌∷◌}
 use Rattle.std.specs.{Char.is_ascii_digit}
 use Rattle.snmp_tools.specs.Letters.{AreRepetitions, Choices}
@@ -15,8 +14,7 @@ abbrev pub letter_parts : List ℕ → List ℕ × List (ℕ × List ℕ)
 letter_parts [] = ([], [])
 letter_parts (octet ∷ text) = put octet (letter_parts text)
 
--- `new` is what is chosen if `part`, a letter with the digits after it, follows the letters that
--- chose `old`
+-- `new` is what is chosen with one letter more than the letters that chose `old`
 pub record OneMore (part : ℕ × List ℕ) (old new : Choices) : Type 0 where
   pub includes_root : new.includes_root ≡ ((part.0 == 105) || old.includes_root)
   pub counts : new.counts ≡ ((part.0 == 112) || old.counts)

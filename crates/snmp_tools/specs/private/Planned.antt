@@ -49,20 +49,20 @@ pub record AreOrdersOf (words : AskWords) (orders : Orders) : Type 0 where
   pub max_size : orders.max_size ≡ words.asking.max_size
   pub agent : HasAgent words.asking.agent (address_of orders.agent)
 
--- `why` is that the version isn't 2c or, if it is, that the letters of -O have no meaning
+-- the version isn't 2c or, if it is, the letters of -O have no meaning
 abbrev pub ShowingFails : AskingWords → Fault → Type 0
 ShowingFails words why =
     AskingFails words version_step why
     ⊎ (IsAskingDone words version_step × AskingFails words letters_step why)
 
--- `why` is that the community is too long or, if it isn't, that AGENT isn't a valid address
+-- the community is too long or, if it isn't, AGENT isn't a valid address
 abbrev pub AgentFails : AskingWords → Fault → Type 0
 AgentFails words why =
     AskingFails words community_step why
     ⊎ (IsAskingDone words community_step × AskingFails words agent_step why)
 
--- `why` is that a name has no meaning: the first such name of a Get, the root of a walk, or then
--- the name to continue after. For a Get it can also be that memory ran out.
+-- a name has no meaning: of a walk, the root or then the name to continue after; or memory ran out
+-- for the names of a Get
 abbrev pub NamesFail : question.Request → Contents → Fault → Type 0
 NamesFail (question.get texts) mib why =
     (why ≡ out_of_memory) ⊎ IsFirstToFail texts (HasMeaning mib) (NameFails mib) why

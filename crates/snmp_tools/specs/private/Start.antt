@@ -11,22 +11,20 @@ use Rattle.snmp_tools.specs.declared.plan.Question.TheVariants as planned
 use Rattle.snmp_tools.specs.declared.plan.Walk as plan_walk
 use Rattle.smi_tree.specs.{Tree.Contents}
 
--- a walk can't continue after the name `after`, whose argument is `text`: it is neither the root
--- nor below it, or it can't be sent
+-- a walk can't continue after `after`: it is neither the root nor below it, or can't be sent
 abbrev pub ResumeFails : (root after text : List ℕ) → Fault → Type 0
 ResumeFails root after text why =
     ((IsAtOrBelow after root → ⊥) × (why ≡ outside_root text))
     ⊎ (IsAtOrBelow after root × IsUnsendable after × (why ≡ unsendable text))
 
--- `why` is why the walk can't begin: the root can't be sent, or the walk can't continue after its
--- name
+-- why a walk can't begin
 abbrev pub StartFails : plan_walk.Walk → Fault → Type 0
 StartFails w why =
     (IsUnsendable w.root × (why ≡ unsendable w.root_text.now))
     ⊎ (IsWire (wire w.root) × ((after : List ℕ) × (w.after ≡ Some after)
     × ResumeFails w.root after w.after_text.now why))
 
--- `why` is why the question of a plan can't be asked
+-- why the question of a plan can't be asked
 abbrev pub BeginFails : plan.Question → Fault → Type 0
 BeginFails (planned.Get ns) why = (mib : Contents)
     → AreNames mib (texts_at ns.texts.now) ns.oids.items

@@ -21,11 +21,10 @@ abbrev pub counts_line : Served → List ℕ
 counts_line served = decimal served.replies ++ codes " replies, " ++ decimal served.dropped
     ++ codes " dropped\n"
 
--- Either the line that says where requests are received was printed, then the table was served,
--- and then the line of the counts was printed, or not all of it for the reason `fault`. All four
--- counts add up to the turns. Or the first line wasn't printed whole, for the reason `fault`, and
--- nothing was served, as `Unserved` says. `Serves agent turns served`: serving `agent` for `turns`
--- turns can return `served`.
+-- The line that says where requests are received was printed, the table was served, and then the
+-- line of the counts was printed, perhaps not whole; the four counts add up to the turns. Or the
+-- first line wasn't printed whole, and nothing was served. `Serves agent turns served`: serving
+-- `agent` for `turns` turns can return `served`.
 abbrev pub IsServing : (Serves : Agent → ℕ → Served → Type 0) → (Unserved : Type 0) → ServeWords
     → MibView → (before after : Stream) → Option Fault → Type 0
 IsServing Serves Unserved words view before after fault =
@@ -42,24 +41,23 @@ abbrev pub ServesAt : {N V D : Type 0} → Network N V D → (before : N) → D 
 ServesAt {N} {V} {D} net before door after agent turns served =
     (later : D) × net.serves before door agent turns served after later
 
--- What snmpd did at `port` of `host`, with names by `tree`. `fault` is why not all of it was done,
--- if so. If the table file is refused, the network stays as it was. The network's count of faults
--- increases only if a call of it failed.
+-- What snmpd did at `port` of `host`, with names by `tree`, and why not all of it was done, if so.
+-- If the table file is refused, the network stays as it was. Its count of faults increases only if
+-- a call of it failed.
 pub data IsServedBy {N V D : Type 0} (net : Network N V D) (words : ServeWords) (host : List ℕ)
     (port : ℕ) (tree : Contents) (before after : Seen N) (fault : Option Fault) : Type 0 where
   -- memory ran out, or the table file can't be read or doesn't define a table
   refused : (why : Fault)
       → (why ≡ out_of_memory) ⊎ TableFails before.files tree words.table why → after ≡ before
       → fault ≡ Some why → IsServedBy net words host port tree before after fault
-  -- no door was opened: a call of the network failed, which it counted, and nothing else changed
+  -- a call of the network failed, which it counted, and nothing else changed
   not_bound : (view : MibView) → HasTable before.files tree words.table view
       → net.fails before.links after.links
       → HasRisen (net.fault_count before.links) (net.fault_count after.links)
       → after ≡ record before { links = after.links }
       → fault ≡ Some (ended words.listen ending.Link)
       → IsServedBy net words host port tree before after fault
-  -- one door (server socket) was opened, and the table was served there after the line that says
-  -- where requests are received
+  -- one door (server socket) was opened, and the table was served at it after the first line
   bound : (view : MibView) (door : D) (opened : N)
       → HasTable before.files tree words.table view
       → net.binds before.links host port door opened
@@ -68,9 +66,9 @@ pub data IsServedBy {N V D : Type 0} (net : Network N V D) (words : ServeWords) 
       before.out after.out fault
       → IsServedBy net words host port tree before after fault
 
--- What snmpd did, what it wrote of the warnings about its modules to standard error, and why not
--- all of it was done, if so (`fault`). If it was refused before the modules were loaded, it did
--- nothing. Otherwise the warnings were written before anything else was done.
+-- What snmpd did, what it wrote of the warnings about its modules, and why not all of it was done,
+-- if so. If it was refused before the modules were loaded, it did nothing. Otherwise the warnings
+-- were written before anything else was done.
 pub data IsServeOutcome {N V D : Type 0} (net : Network N V D) (Loads : LoadFacts)
     (words : ServeWords) (before after : Seen N) (fault : Option Fault) : Type 0 where
   not_loaded : (why : Fault) → IsServeRefusal words before.files why → after ≡ before

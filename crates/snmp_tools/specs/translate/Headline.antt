@@ -9,8 +9,7 @@ use Rattle.snmp_io.specs.{Files.Holdings, Files.Holds, Output.Stream, Output.Tak
 use Rattle.snmp_words.specs.Words.{TranslateWords}
 use Rattle.snmp_tools.specs.translate.Text.{AreTextsOf}
 
--- the arguments ask for names in the style `style`, by `modules`: those of files whose texts are
--- known
+-- the arguments ask for names in this style, by the modules of files whose texts are known
 pub record AskForTranslation (words : TranslateWords) (files : Holdings) (style : Style)
     (modules : List Module) : Type 0 where
   pub styled : IsStyleOf words style
@@ -29,15 +28,15 @@ IsFront style names before after mib =
     (first : List (List ℕ)) × (rest : List (List ℕ)) × (text : List ℕ) × (names ≡ first ++ rest)
     × AreTextsOf mib style first text × TakesFront before text after
 
--- If the texts of the module files are known, the texts of all names are printed, and nothing
--- else. The job promises this at status 0.
+-- If the module files are known, the texts of all names are printed, and nothing else. This is
+-- promised at status 0.
 abbrev pub PrintsAll : TranslateWords → Holdings → (before after : Stream) → Type 0
 PrintsAll words files before after =
     (style : Style) (modules : List Module) → AskForTranslation words files style modules
     → IsByTree modules (λ mib. AreNamesPrinted mib style words.names before after)
 
--- If the texts of the module files are known, nothing is printed, or a prefix of the texts of the
--- first names. The job promises this whatever fails.
+-- If the module files are known, nothing is printed, or a prefix of the texts of the first names.
+-- This is promised whatever fails.
 abbrev pub PrintsFront : TranslateWords → Holdings → (before after : Stream) → Type 0
 PrintsFront words files before after =
     (style : Style) (modules : List Module) → AskForTranslation words files style modules

@@ -9,13 +9,13 @@ use snmp_io::Draft;
 use std::alloc::AllocError;
 use thiserror::Error;
 
-/// Why module files can't be loaded, with the path of the first file that can't.
+/// Why module files can't be loaded, with the path of the file.
 #[derive(Clone, Copy, Debug, Error)]
 pub enum FilesError<'a> {
     /// The file at this path can't be read.
     #[error("{0}: cannot be read")]
     Unreadable(&'a str),
-    /// The text of the file at this path has this fault, and is refused as a whole.
+    /// The file at this path has this fault, and is refused as a whole.
     #[error("{0}: {1}")]
     Text(&'a str, ParseError),
     /// Memory ran out.
@@ -32,8 +32,7 @@ impl From<AllocError> for FilesError<'_> {
 }
 
 impl FilesError<'_> {
-    /// Appends the message: the path and the number of the line, if there are any, and what is
-    /// wrong.
+    /// Appends the message: the path, the number of the line if there is one, and what is wrong.
     pub fn message(&self, draft: &mut Draft)
         ensures { Adds draft.old (refusal_text (refusal_of self.now)) draft.new }
     {
@@ -53,7 +52,7 @@ pub(crate) fn unreadable_text(path: &str, draft: &mut Draft)
     draft.octets(b": cannot be read");
 }
 
-// Appends the message about a fault in the text of the file at `path`.
+// Appends the message about a fault of the file at `path`.
 fn fault_text(path: &str, fault: &ParseError, out: &mut Draft)
     ensures { Adds out.old (fault_text path.now fault.now) out.new }
 {
@@ -66,8 +65,7 @@ fn fault_text(path: &str, fault: &ParseError, out: &mut Draft)
     }
 }
 
-/// Appends the message about line `line` of the file at `path`: the path, the number of the line,
-/// and `what` is wrong there.
+/// Appends the message that `what` is wrong in line `line` of the file at `path`.
 pub(crate) fn at_line(path: &str, line: usize, what: &[u8], draft: &mut Draft)
     ensures { Adds draft.old (at_line path.now line what.now) draft.new }
 {

@@ -1,4 +1,4 @@
-//! Reads the modules of files, one file after the other.
+//! Reads module files.
 ghost use Rattle.std.specs.Prelude.{◌≡◌, ◌⊎◌, ℕ, List, IfErr, IfOk};
 ghost use Rattle.snmp_tools.specs.load.Files.{texts, AreModulesIn, AreModulesOf, FileFails};
 ghost use Rattle.snmp_tools.specs.load.Files.{IsFilesRefusal, no_memory};
@@ -11,9 +11,8 @@ use smi_text::{Module, ParseError, one_module_list, one_token_list, parse_module
 use snmp_io::{FileFault, Files};
 use std::alloc::Global;
 
-/// Reads the modules of the files at `paths` (RFC 2578, section 3), one file after the other.
-/// Fails at the first file that can't be read or whose text has a fault anywhere, or if memory
-/// runs out.
+/// Returns the modules of the files at `paths` (RFC 2578, section 3), in order. Fails at the first
+/// file that can't be read or whose text has a fault anywhere, or if memory runs out.
 pub fn read_modules<'a, F: Files>(
     alloc: Global,
     files: &F,
@@ -36,7 +35,7 @@ pub fn read_modules<'a, F: Files>(
     Ok(modules)
 }
 
-// Reads the modules of the file at `path`.
+// Returns the modules of the file at `path`.
 fn modules_in<'a, F: Files>(
     alloc: Global,
     files: &F,

@@ -9,7 +9,7 @@ use smi_text::Text;
 use snmp_io::Draft;
 use std::alloc::{AllocError, Global};
 
-/// Returns the lines of `warnings`, in order. Fails only if memory runs out.
+/// Returns the lines of `warnings`, in order.
 pub(crate) fn warning_lines(alloc: Global, warnings: &[Warning]) -> Result<Vec<u8>, AllocError>
     ensures { IfOk result (λ text. text.items ≡ warning_lines warnings.now) }
 {
@@ -20,7 +20,6 @@ pub(crate) fn warning_lines(alloc: Global, warnings: &[Warning]) -> Result<Vec<u
     Ok(lines)
 }
 
-// Appends the line of each warning.
 fn add_lines(warnings: &[Warning], draft: &mut Draft)
     ensures { Adds draft.old (warning_lines warnings.now) draft.new }
 {
@@ -29,7 +28,6 @@ fn add_lines(warnings: &[Warning], draft: &mut Draft)
     }
 }
 
-// Appends the line of a warning.
 fn warning_line(warning: &Warning, draft: &mut Draft)
     ensures { Adds draft.old (warning_line warning.now) draft.new }
 {
@@ -38,7 +36,7 @@ fn warning_line(warning: &Warning, draft: &mut Draft)
     draft.octets(b"\n");
 }
 
-// Appends the text of a warning, without the rest of its line.
+// Appends what a warning says.
 fn warning_text(warning: &Warning, draft: &mut Draft)
     ensures { Adds draft.old (warning_text warning.now) draft.new }
 {
@@ -62,7 +60,7 @@ fn double_module(home: &[u8], draft: &mut Draft)
     draft.octets(b" is loaded twice");
 }
 
-// Appends that the module `from`, from which `home` imports, isn't loaded.
+// Appends that the module `from`, after FROM, isn't loaded.
 fn missing_module(home: &[u8], from: &[u8], draft: &mut Draft)
     ensures { Adds draft.old (home.now ++ codes " imports from " ++ from.now
         ++ codes ", which is not loaded") draft.new }
@@ -73,7 +71,7 @@ fn missing_module(home: &[u8], from: &[u8], draft: &mut Draft)
     draft.octets(b", which is not loaded");
 }
 
-// Appends that the module `from` has no `name`, which `home` imports from it.
+// Appends that the module `from`, after FROM, has no `name`.
 fn missing_import(home: &Text, name: &Text, from: &Text, draft: &mut Draft)
     ensures { Adds draft.old (home.now ++ codes " imports " ++ name.now ++ codes " from "
         ++ from.now ++ codes ", which has no " ++ name.now) draft.new }
@@ -87,7 +85,7 @@ fn missing_import(home: &Text, name: &Text, from: &Text, draft: &mut Draft)
     draft.octets(name.as_bytes());
 }
 
-// Appends the module and the label of a definition, and `what` is wrong with it.
+// Appends a definition, as its module and label, and `what` is wrong with it.
 fn of_symbol(home: &Text, label: &Text, what: &[u8], draft: &mut Draft)
     ensures { Adds draft.old (symbol home.now label.now ++ what.now) draft.new }
 {

@@ -16,7 +16,7 @@ use snmp_walk::{Method, Mode};
 pub(crate) struct Choices {
     /// Whether the root's own instance comes first, if there is one (`i`).
     pub(crate) includes_root: bool,
-    /// Whether a walk that finds nothing below the root ends without a Get of the root (`I`).
+    /// Whether no last Get of the root is sent if nothing is below it (`I`).
     pub(crate) leaves_last_get: bool,
     /// Whether the number of bindings is printed after their lines (`p`).
     pub(crate) counts: bool,
@@ -29,8 +29,8 @@ pub(crate) struct Choices {
 impl Choices {
     ghost use Rattle.snmp_tools.specs.private.Planned.{chosen, request_of};
 
-    /// Returns what the letters of `-C` of `request` choose; for a Get, which has none, the
-    /// defaults. The error is the first octet that has no meaning.
+    /// Returns what the letters of `-C` choose, or the defaults for a Get. The error is the first
+    /// octet that has no meaning.
     pub(crate) fn of(request: Request<'_, '_>) -> Result<Choices, u8>
         ensures { MatchResult result (λ c. HasChosen (request_of request.entry) (chosen c))
             (HasUnknown (request_of request.entry)) }
@@ -53,8 +53,8 @@ impl Choices {
         }
     }
 
-    // Returns what the letters of `-C` choose, for snmpbulkwalk if `bulk`, otherwise for snmpwalk.
-    // The error is the first octet that has no meaning.
+    // Returns what the letters of `-C` choose for snmpbulkwalk (`bulk`) or snmpwalk. The error is
+    // the first octet that has no meaning.
     fn read(letters: &str, bulk: bool) -> Result<Choices, u8>
         ensures { MatchResult result (λ c. HaveChosen bulk letters.now (chosen c))
             (IsFirstUnknown bulk letters.now) }
@@ -71,9 +71,8 @@ impl Choices {
         Ok(choices)
     }
 
-    // Returns the choices after one letter more, which `digits` follow. `digits` must be digits.
-    // The error is the octet that has no meaning: the letter, or the first of the digits if the
-    // letter has a meaning only without digits.
+    // Returns the choices after one letter more, with the digits after it. The error is the octet
+    // that has no meaning: the letter, or the first digit after a letter that takes none.
     fn after(self, letter: u8, digits: &[u8], bulk: bool) -> Result<Choices, u8>
         requires { list_all is_ascii_digit digits.now ≡ true }
         ensures { MatchResult result
@@ -98,7 +97,7 @@ impl Choices {
         }
     }
 
-    /// Returns the mode: what the walk returns besides the instances below its root.
+    /// Returns what the walk returns besides the instances below its root.
     pub(crate) fn mode(self) -> Mode
         ensures { result ≡ mode_of (chosen self) }
     {
@@ -111,8 +110,7 @@ impl Choices {
         }
     }
 
-    /// Returns the requests with which the walk asks for instances: GetBulk if `bulk`, otherwise
-    /// GetNext.
+    /// Returns the requests with which the walk asks: GetBulk if `bulk`, otherwise GetNext.
     pub(crate) fn method(self, bulk: bool) -> Method
         ensures method { result ≡ method_of bulk (chosen self) }
         ensures lawful { IsMethod result }
@@ -140,8 +138,7 @@ fn front_digits(text: &[u8]) -> usize
     text.len()
 }
 
-/// Returns the number that `digits` spell, or `None` if it can't be a number of repetitions, which
-/// is 1 to 2147483647. `digits` must be digits.
+/// Returns the number that `digits` spell, or `None` if it isn't from 1 to 2147483647.
 fn repetitions(digits: &[u8]) -> Option<u32>
     requires { list_all is_ascii_digit digits.now ≡ true }
     ensures { MatchOption result ((n : ℕ) → AreRepetitions digits.now n → ⊥)

@@ -11,8 +11,8 @@ use smi_show::Letters;
 use snmp_net::AgentAddress;
 use snmp_words::Asking;
 
-/// Returns how lines are shown: what the letters of `-O` say. Fails if the version isn't 2c, or at
-/// the first octet of the letters that has no meaning.
+/// Returns what the letters of `-O` say. Fails if the version isn't 2c, or at the first octet that
+/// has no meaning.
 pub(super) fn read_shown<'a>(asking: &Asking<'a>) -> Result<Letters, Failure<'a>>
     ensures version { IfOk result (λ _. asking.now.protocol.now ≡ codes "2c") }
     ensures letters { IfOk result (AreShown (string_bytes asking.now.letters)) }
@@ -27,8 +27,8 @@ pub(super) fn read_shown<'a>(asking: &Asking<'a>) -> Result<Letters, Failure<'a>
     }
 }
 
-/// Returns where the agent is reached: what AGENT says. Fails if the community has more than 255
-/// octets, or if AGENT isn't a valid address.
+/// Returns where AGENT is reached. Fails if the community has more than 255 octets, or if AGENT
+/// isn't a valid address.
 pub(super) fn read_agent<'a>(asking: &Asking<'a>) -> Result<AgentAddress<'a>, Failure<'a>>
     ensures community { IfOk result (λ _. length asking.now.community.now ≤ 255) }
     ensures agent { IfOk result (λ agent. HasAgent asking.now.agent.now (address_of agent)) }

@@ -1,4 +1,4 @@
-//! The arguments of a job that asks an agent, by one type for snmpget, snmpwalk and snmpbulkwalk.
+//! The arguments of a job that asks an agent.
 ghost use Rattle.std.specs.Prelude.{◌≡◌};
 ghost use Rattle.snmp_words.specs.Words.{get_words, walk_words};
 ghost use Rattle.snmp_tools.specs.{private.Planned.ask_words, Question.of_get, Question.of_walk};
@@ -21,7 +21,7 @@ pub(crate) enum Request<'j, 'a> {
     Get(&'j [&'a str]),
     /// The instances below a name.
     Walk {
-        /// Whether GetBulk asks for many instances at a time, instead of GetNext for one.
+        /// Whether to ask with GetBulk, for many instances at a time.
         bulk: bool,
         /// The letters of `-C`.
         letters: &'j str,

@@ -78,10 +78,9 @@ impl<O: Output> Sink for Printer<'_, O> {
     }
 }
 
-/// Asks the question of `plan` over `link`, and writes the line of each binding to `out`. Returns
-/// how that ended. `text` is a buffer for the lines.
-///
-/// Fails as `run_plan` does. Then nothing is sent or written.
+/// Asks the question of `plan` over `link`, writes the line of each binding to `out`, and returns
+/// how that ended. `text` is a buffer for the lines. Fails as `run_plan` does; then nothing is
+/// written.
 pub(crate) fn print_lines<'a, L: Link, O: Output>(
     link: &mut L,
     plan: &Plan<'_, 'a>,

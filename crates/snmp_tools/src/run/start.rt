@@ -15,11 +15,11 @@ use snmp_walk::{Link, Sink, StartError, WalkCore, WalkEnd, run_get, run_walk};
 /// The id of the first request.
 const FIRST_ID: u32 = 1;
 
-/// Asks the question of `plan` over `link`, and gives the bindings to `sink`. Returns how that
+/// Asks the question of `plan` over `link`, gives the bindings to `sink`, and returns how that
 /// ended. A Get without names sends nothing.
 ///
-/// Fails before anything is sent if a name has no encoding, or if the name of `--after` is neither
-/// the root nor below it. The error holds the argument of the first such name.
+/// Fails, before anything is sent, at the first name that can't be asked for: it has no encoding,
+/// or it is that of `--after` and neither the root nor below it.
 pub(crate) fn run_plan<'a, L: Link, S: Sink>(
     link: &mut L,
     plan: &Plan<'_, 'a>,
@@ -48,7 +48,7 @@ pub(crate) fn run_plan<'a, L: Link, S: Sink>(
     }
 }
 
-/// Returns the core of a walk that hasn't sent its first request. Fails as [`run_plan`] does.
+/// Returns the core of `walk`, before its first request. Fails as [`run_plan`] does.
 fn start<'a>(walk: &Walk<'a>, community: &[u8]) -> Result<WalkCore, Failure<'a>>
     requires { length community.now ≤ 255 }
     ensures ok { IfOk result (λ core. core ≡ first_of community.now (walk_of walk.now)) }
@@ -69,8 +69,7 @@ fn start<'a>(walk: &Walk<'a>, community: &[u8]) -> Result<WalkCore, Failure<'a>>
     }
 }
 
-/// Returns the argument of the first name of a walk that can't be sent: the root if that is one,
-/// otherwise the name of `--after`.
+/// Returns the argument of the first name of `walk` that can't be sent.
 fn unsendable_text<'a>(walk: &Walk<'a>) -> &'a str
     ensures root { IsUnsendable walk.now.root → result ≡ walk.now.root_text }
     ensures after { IsWire (wire walk.now.root) → result ≡ walk.now.after_text }

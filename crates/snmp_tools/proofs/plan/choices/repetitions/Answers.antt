@@ -2,6 +2,6 @@ use Rattle.std.proofs.{lemmas.Grind.common_steps, Common.arith, Common.slice_ind
 use Rattle.snmp_tools.proofs.LetterLemmas.{at_place, grows, weight_at}
 use Rattle.snmp_tools.proofs.plan.choices.repetitions.Goals as goal
 
--- the number of the digits read so far is too large, and the number of all digits isn't smaller
+-- the number read so far is too large, and more digits don't make it smaller
 pub returns-then-number-gt2147483647 : goal.returns-then-number-gt2147483647
 returns-then-number-gt2147483647 c = λ m are. grind (arith, common_steps, weight_at, slice_index_or, at_place, grows)
