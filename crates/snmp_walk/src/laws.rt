@@ -36,6 +36,9 @@ pub fn instances_below()
         ↔ (IsRow view p × IsBelow p.name root × Precedes o p.name) }
     ensures left_ordered { (view : MibView) (root o : List ℕ) → IsMibView view
         → AreOrdered (rest_of root o (variables view)) }
+    // After the root as it is sent, all of them are left.
+    ensures from_root { (view : MibView) (root : List ℕ) → IsMibView view
+        → rest_of root (wire root) (variables view) ≡ rows_below root (variables view) }
 {
     order();
 }

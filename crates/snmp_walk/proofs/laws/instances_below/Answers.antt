@@ -1,4 +1,6 @@
 use Rattle.snmp_walk.proofs.LawLemmas.{is_row_below, has_row_below, is_row_left, has_row_left, below_ordered, left_ordered}
+use Rattle.snmp_walk.proofs.{JoinLemmas.variables_are, TableLemmas.rest_from_wire}
+use Rattle.snmp_agent.specs.table.Listing.{variables}
 use Rattle.snmp_walk.proofs.laws.instances_below.Goals as goal
 
 pub returns-clause-below : goal.returns-clause-below
@@ -13,3 +15,6 @@ returns-clause-left c = λ view root o p good.
 
 pub returns-clause-left_ordered : goal.returns-clause-left_ordered
 returns-clause-left_ordered c = λ view root o good. left_ordered view good root (λ a b. (c.order.ensures.less a b).0) o
+
+pub returns-clause-from_root : goal.returns-clause-from_root
+returns-clause-from_root c = λ view root good. rest_from_wire root (variables view) (variables_are view good)
