@@ -78,8 +78,8 @@ pub fn requests_are_short()
     codec();
 }
 
-/// Of lists of bindings: which are in one that is joined of two, and that each part of one in order
-/// is in order.
+/// Of lists of bindings: which are in one that is joined of two, that each part of one in order is
+/// in order, and that the names of its first part come before those of the second.
 pub fn parts_of_lists()
     ensures first { (xs ys : List VarBind) (p : VarBind) → OneOf xs p → OneOf (xs ++ ys) p }
     ensures second { (xs ys : List VarBind) (p : VarBind) → OneOf ys p → OneOf (xs ++ ys) p }
@@ -87,6 +87,8 @@ pub fn parts_of_lists()
         → OneOf xs p ⊎ OneOf ys p }
     ensures ordered { (xs ys : List VarBind) → AreOrdered (xs ++ ys)
         → AreOrdered xs × AreOrdered ys }
+    ensures across { (xs ys : List VarBind) (p q : VarBind) → AreOrdered (xs ++ ys) → OneOf xs p
+        → OneOf ys q → Precedes p.name q.name }
 {}
 
 /// By the rules of `specs/Judged.antt`, each message means just one thing to a walk.

@@ -1,6 +1,7 @@
-use Rattle.std.proofs.Common.{List, [], ◌∷◌, ◌++◌}
+use Rattle.std.proofs.Common.{List, [], ◌∷◌, ◌++◌, inl, inr, sym, subst}
+use Rattle.snmp_oid.specs.Identifier.{Precedes}
 use Rattle.snmp_wire.specs.Message.{VarBind}
-use Rattle.snmp_walk.specs.Ordered.{AreOrdered}
+use Rattle.snmp_walk.specs.{Link.OneOf, Ordered.AreOrdered}
 use Rattle.snmp_walk.proofs.MemberLemmas.{one_append, one_left, one_right}
 use Rattle.snmp_walk.proofs.laws.parts_of_lists.Goals as goal
 
@@ -8,6 +9,11 @@ parts_ordered : (xs ys : List VarBind) → AreOrdered (xs ++ ys) → AreOrdered 
 parts_ordered [] ys h = (tt, h)
 parts_ordered (p ∷ xs) ys h =
     let parts = parts_ordered xs ys h.1 in (((λ q one. h.0 q (one_left xs ys q one)), parts.0), parts.1)
+
+comes_before : (xs ys : List VarBind) (p q : VarBind) → AreOrdered (xs ++ ys) → OneOf xs p → OneOf ys q → Precedes p.name q.name
+comes_before [] ys p q h none later = absurd none
+comes_before (x ∷ xs) ys p q h (inl e) later = subst (λ (z : VarBind). Precedes z.name q.name) (sym e) (h.0 q (one_right xs ys q later))
+comes_before (x ∷ xs) ys p q h (inr one) later = comes_before xs ys p q h.1 one later
 
 pub returns-clause-first : goal.returns-clause-first
 returns-clause-first c = λ xs ys p one. one_left xs ys p one
@@ -20,3 +26,6 @@ returns-clause-either c = λ xs ys p one. one_append xs ys p one
 
 pub returns-clause-ordered : goal.returns-clause-ordered
 returns-clause-ordered c = λ xs ys h. parts_ordered xs ys h
+
+pub returns-clause-across : goal.returns-clause-across
+returns-clause-across c = λ xs ys p q h one later. comes_before xs ys p q h one later
