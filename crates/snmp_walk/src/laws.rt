@@ -10,6 +10,7 @@ ghost use Rattle.snmp_walk.specs.{Walk.rows_below, Walk.walk_of, Walk.rest_of, p
 ghost use Rattle.snmp_walk.specs.{Link.Agents, Link.OneOf, Ordered.AreOrdered, Ordered.IsResumable};
 ghost use Rattle.snmp_walk.specs.Loose.{agent_at, agents_at, last_sent, ways_left};
 ghost use Rattle.snmp_walk.specs.{Request.request_of, Room.HasRoomForEach, Room.IsShort};
+ghost use Rattle.snmp_walk.specs.Ran.{AreOfLowerIds};
 ghost use Rattle.snmp_walk.specs.{Walker.IsWalker, Walker.Walker};
 ghost use Rattle.snmp_walk.specs.Network.{AreReplies, AreRepliesOrErrors, AreServed, Happening};
 ghost use Rattle.snmp_walk.specs.Network.{IsFaithful, of_walk};
@@ -89,6 +90,12 @@ pub fn parts_of_lists()
         → AreOrdered xs × AreOrdered ys }
     ensures across { (xs ys : List VarBind) (p q : VarBind) → AreOrdered (xs ++ ys) → OneOf xs p
         → OneOf ys q → Precedes p.name q.name }
+{}
+
+/// Requests with ids below one have ids below each that is higher.
+pub fn lower_ids()
+    ensures { (sent : List (List ℕ)) (id higher : ℕ) → id ≤ higher → AreOfLowerIds sent id
+        → AreOfLowerIds sent higher }
 {}
 
 /// By the rules of `specs/Judged.antt`, each message means just one thing to a walk.
