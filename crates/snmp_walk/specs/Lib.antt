@@ -15,6 +15,7 @@ pub mod Moved
 pub mod Tries
 pub mod Room
 pub mod Sink
+pub mod Appends
 pub mod Read
 pub mod Run
 pub mod Tables

@@ -10,7 +10,8 @@ ghost use Rattle.snmp_walk.specs.{Walk.rows_below, Walk.walk_of, Walk.rest_of, p
 ghost use Rattle.snmp_walk.specs.{Link.Agents, Link.OneOf, Ordered.AreOrdered, Ordered.IsResumable};
 ghost use Rattle.snmp_walk.specs.Loose.{agent_at, agents_at, last_sent, ways_left};
 ghost use Rattle.snmp_walk.specs.{Request.request_of, Room.HasRoomForEach, Room.IsShort};
-ghost use Rattle.snmp_walk.specs.Ran.{AreOfLowerIds};
+ghost use Rattle.snmp_walk.specs.{Appends.Appends, Ran.AreOfLowerIds, Sink.Took};
+ghost use Rattle.snmp_walk.specs.declared.end.WalkEnd.{WalkEnd};
 ghost use Rattle.snmp_walk.specs.{Walker.IsWalker, Walker.Walker};
 ghost use Rattle.snmp_walk.specs.Network.{AreReplies, AreRepliesOrErrors, AreServed, Happening};
 ghost use Rattle.snmp_walk.specs.Network.{IsFaithful, of_walk};
@@ -90,6 +91,13 @@ pub fn parts_of_lists()
         → AreOrdered xs × AreOrdered ys }
     ensures across { (xs ys : List VarBind) (p q : VarBind) → AreOrdered (xs ++ ys) → OneOf xs p
         → OneOf ys q → Precedes p.name q.name }
+{}
+
+/// A sink that appends each binding to a list holds those of a walk that it didn't refuse, after the
+/// ones that it held before.
+pub fn appended_bindings()
+    ensures { (old rows refused new : List VarBind) (end : WalkEnd)
+        → Took Appends old rows refused end new → new ≡ old ++ rows }
 {}
 
 /// Requests with ids below one have ids below each that is higher.

@@ -53,8 +53,8 @@ pub use walker::WalkCore;
 
 // Laws, which only proofs call, and walks over networks and agents that only tests run.
 pub use laws::{
-    honest_networks, instances_below, loose_replies, lower_ids, messages_mean, parts_of_lists,
-    requests_are_short, rest_of_a_walk, short_rows_have_room,
+    appended_bindings, honest_networks, instances_below, loose_replies, lower_ids, messages_mean,
+    parts_of_lists, requests_are_short, rest_of_a_walk, short_rows_have_room,
 };
 pub use loose::{LooseLink, Way, walk_loose};
 pub use memory_network::{Delivery, MemoryNetwork};
