@@ -1,4 +1,4 @@
--- The encodings of no binding and of one are short.
+-- The encoding of no binding, and of one, is at most 4,000,000,000 octets long.
 use Rattle.std.proofs.Common.{◌≡◌, ℕ, ◌<◌, ◌≤◌, List, [], ◌∷◌, length, get_or, ap, arith, length-append}
 use Rattle.snmp_wire.specs.declared.binding.Binding.{Binding}
 use Rattle.snmp_wire.specs.Canon.{canon_binding, canon_bindings}

@@ -1,4 +1,4 @@
-//! Recorded messages, right and wrong ones, as they are read.
+//! Messages are read: recorded ones, variants of their encodings, and malformed ones.
 ghost use Rattle.std.specs.Prelude.{◌≡◌, true};
 ghost use Rattle.snmp_wire.specs.declared.ber.error.BerError.{BerError};
 ghost use Rattle.snmp_wire.specs.Fault.{IsFault};
@@ -12,7 +12,7 @@ use std::alloc::{AllocError, Global};
 use std::process::Abort;
 use std::test::Fail;
 
-/// The octets of pieces in turn.
+/// Returns the octets of `pieces`, one piece after the other.
 fn joined(alloc: Global, pieces: &[&[u8]]) -> Result<Vec<u8>, AllocError> {
     let mut octets = Vec::new(alloc);
     for piece in pieces {
@@ -21,12 +21,12 @@ fn joined(alloc: Global, pieces: &[&[u8]]) -> Result<Vec<u8>, AllocError> {
     Ok(octets)
 }
 
-/// Asserts that the octets are refused with this error.
+/// Asserts that `datagram` is refused with `error`.
 fn assert_refused(rt: &impl Abort, datagram: &[u8], error: BerError) {
     assert!(rt; decode(datagram).err() == Some(error), "{datagram:?}");
 }
 
-/// Whether the octets encode a message, so that what an error says is false of them.
+/// Returns whether `datagram` encodes a message. If so, no error's condition holds of it.
 fn is_faultless(datagram: &[u8]) -> bool
     ensures { result ≡ true → (error : BerError) → IsFault error datagram.now → ⊥ }
 {
@@ -34,19 +34,19 @@ fn is_faultless(datagram: &[u8]) -> bool
     decode(datagram).is_ok()
 }
 
-/// No error is true of all octets: what each says is false of these messages.
+/// No error's condition holds of all octets: none holds of these messages.
 #[test]
-fn no_error_is_true_of_a_request(rt: HostRuntime) {
+fn a_message_meets_no_error_condition(rt: HostRuntime) {
     assert!(rt; is_faultless(&REQUEST));
     assert!(rt; is_faultless(&RESPONSE));
 }
 
-/// Whether a binding has this name and value.
+/// Returns whether a binding has this name and value.
 fn is_binding(binding: &Binding<'_>, name: &[u32], value: &ValueRef<'_>) -> bool {
     binding.name.as_slice() == name && binding.value == *value
 }
 
-/// Whether a message has one binding, with this name and value.
+/// Returns whether a message has one binding, with this name and value.
 fn has_one(message: &MessageRef<'_>, name: &[u32], value: &ValueRef<'_>) -> bool {
     let mut bindings = message.bindings();
     match bindings.next() {
@@ -58,7 +58,7 @@ fn has_one(message: &MessageRef<'_>, name: &[u32], value: &ValueRef<'_>) -> bool
 /// sysName.0.
 const NAME: [u32; 9] = [1, 3, 6, 1, 2, 1, 1, 5, 0];
 
-/// Whether a message has the head of `REQUEST`.
+/// Returns whether a message has the head of `REQUEST`.
 fn has_head(message: &MessageRef<'_>) -> bool {
     message.version() == 1
         && message.community() == b"public".as_slice()
@@ -66,7 +66,7 @@ fn has_head(message: &MessageRef<'_>) -> bool {
         && [message.id(), message.a(), message.b()] == [1, 0, 0]
 }
 
-/// Whether the octets encode the message of `REQUEST`.
+/// Returns whether `datagram` encodes the message of `REQUEST`.
 fn is_request(datagram: &[u8]) -> bool {
     match decode(datagram) {
         Ok(message) => has_head(&message) && has_one(&message, &NAME, &ValueRef::Null),
@@ -74,7 +74,7 @@ fn is_request(datagram: &[u8]) -> bool {
     }
 }
 
-/// A Response of 1.3 with the value of these octets.
+/// Returns a Response with one binding: 1.3 with the value that `value` encodes.
 fn with_value(rt: &impl Abort, alloc: Global, value: &[u8]) -> Result<Vec<u8>, AllocError> {
     assert!(rt; value.len() < 64);
     let len = value.len() as u8;
@@ -91,7 +91,7 @@ fn with_value(rt: &impl Abort, alloc: Global, value: &[u8]) -> Result<Vec<u8>, A
     )
 }
 
-/// Whether the octets encode a message of the one binding 1.3, with this value.
+/// Returns whether `datagram` encodes a message with one binding: 1.3 with this value.
 fn is_value(datagram: &[u8], value: &ValueRef<'_>) -> bool {
     match decode(datagram) {
         Ok(message) => has_one(&message, &[1, 3], value),
@@ -99,12 +99,12 @@ fn is_value(datagram: &[u8], value: &ValueRef<'_>) -> bool {
     }
 }
 
-/// Asserts that octets are read as a value.
+/// Asserts that `datagram` is read as [`is_value`] says.
 fn assert_value(rt: &impl Abort, datagram: &[u8], value: &ValueRef<'_>) {
     assert!(rt; is_value(datagram, value), "{datagram:?}");
 }
 
-/// Asserts that octets are read as these values.
+/// Asserts that the octets of each row are read as its value.
 fn assert_values(
     rt: &impl Abort,
     alloc: Global,
@@ -116,7 +116,7 @@ fn assert_values(
     Ok(())
 }
 
-/// Asserts that values of octets are refused as content that no value of their tag has.
+/// Asserts that each row is refused because its content isn't that of a value with its tag.
 fn assert_bad_contents(rt: &impl Abort, alloc: Global, rows: &[&[u8]]) -> Result<(), AllocError> {
     for octets in rows {
         let datagram = with_value(rt, alloc, octets)?;
@@ -125,17 +125,17 @@ fn assert_bad_contents(rt: &impl Abort, alloc: Global, rows: &[&[u8]]) -> Result
     Ok(())
 }
 
-/// Asserts that the octets encode the message of `REQUEST`.
+/// Asserts that `datagram` encodes the message of `REQUEST`.
 fn assert_request(rt: &impl Abort, datagram: &[u8]) {
     assert!(rt; is_request(datagram), "{datagram:?}");
 }
 
 #[test]
-fn request(rt: HostRuntime) {
+fn a_request_is_read(rt: HostRuntime) {
     assert_request(&rt, &REQUEST);
 }
 
-/// Whether the octets encode the Response to it.
+/// Returns whether `datagram` encodes the message of `RESPONSE`.
 fn is_response(datagram: &[u8]) -> bool {
     match decode(datagram) {
         Ok(message) => {
@@ -146,12 +146,12 @@ fn is_response(datagram: &[u8]) -> bool {
 }
 
 #[test]
-fn response(rt: HostRuntime) {
+fn a_response_is_read(rt: HostRuntime) {
     assert!(rt; is_response(&RESPONSE));
 }
 
 #[test]
-fn longer_lengths(rt: HostRuntime) -> Result<(), Fail> {
+fn longer_forms_of_a_length_are_read(rt: HostRuntime) -> Result<(), Fail> {
     let alloc = rt.alloc();
     let forms = [
         [0x30, 0x81, 0x26].as_slice(),
@@ -168,13 +168,13 @@ fn longer_lengths(rt: HostRuntime) -> Result<(), Fail> {
 }
 
 #[test]
-fn wide_version(rt: HostRuntime) -> Result<(), Fail> {
+fn a_version_of_two_octets_is_read(rt: HostRuntime) -> Result<(), Fail> {
     let wide = [0x30, 0x27, 0x02, 0x02, 0x00, 0x01];
     assert_request(&rt, &joined(rt.alloc(), &[&wide, &REQUEST[5..]])?);
     Ok(())
 }
 
-/// Whether the octets encode a message of this version.
+/// Returns whether `datagram` encodes a message of this version.
 fn has_version(datagram: &[u8], version: i32) -> bool {
     match decode(datagram) {
         Ok(message) => message.version() == version,
@@ -183,29 +183,30 @@ fn has_version(datagram: &[u8], version: i32) -> bool {
 }
 
 #[test]
-fn other_version(rt: HostRuntime) {
+fn another_version_is_read(rt: HostRuntime) {
     let mut datagram = REQUEST;
     datagram[4] = 0x00;
     assert!(rt; has_version(&datagram, 0));
 }
 
 #[test]
-fn fronts(rt: HostRuntime) {
+fn each_prefix_is_truncated(rt: HostRuntime) {
     for end in 0..REQUEST.len() {
         assert_refused(&rt, &REQUEST[..end], BerError::Truncated);
     }
 }
 
 #[test]
-fn faults(rt: HostRuntime) -> Result<(), Fail> {
+fn trailing_octets_and_bad_content_are_refused(rt: HostRuntime) -> Result<(), Fail> {
     let longer = joined(rt.alloc(), &[&REQUEST, &[0x00]])?;
     assert_refused(&rt, &longer, BerError::Trailing);
     assert_bad_contents(&rt, rt.alloc(), &[&[0x05, 0x00, 0x00]])?;
     Ok(())
 }
 
-/// Places of the request, each with an octet that is put there, and the error then: a forbidden
-/// length, one that reaches past the element around it, a tag, a content, an octet left over.
+/// Offsets in the request, each with an octet that replaces the one there, and the error that this
+/// causes. The errors are a forbidden form of a length, a length that reaches past the enclosing
+/// element, a wrong tag, a wrong content, and an octet left over.
 const CHANGES: &[(usize, u8, BerError)] = &[
     (1, 0x80, BerError::Length),
     (1, 0x85, BerError::Length),
@@ -220,23 +221,23 @@ const CHANGES: &[(usize, u8, BerError)] = &[
     (14, 0x18, BerError::Content),
 ];
 
-/// Asserts that the request with this octet at a place is refused with this error.
+/// Asserts that the request with `octet` at offset `at` is refused with `error`.
 fn assert_refused_with(rt: &impl Abort, at: usize, octet: u8, error: BerError) {
     let mut datagram = REQUEST;
-    if let Some(place) = datagram.get_mut(at) {
-        *place = octet;
+    if let Some(target) = datagram.get_mut(at) {
+        *target = octet;
     }
     assert!(rt; decode(&datagram).err() == Some(error), "octet {at}");
 }
 
 #[test]
-fn faults_of_one_octet(rt: HostRuntime) {
+fn each_kind_of_fault_has_its_error(rt: HostRuntime) {
     for (at, octet, error) in CHANGES {
         assert_refused_with(&rt, *at, *octet, *error);
     }
 }
 
-/// Whether the octets encode a message, whose bindings are then all read.
+/// Reads a message with all of its bindings. Returns whether `datagram` encodes one.
 fn is_read(datagram: &[u8]) -> bool {
     match decode(datagram) {
         Ok(message) => {
@@ -247,10 +248,10 @@ fn is_read(datagram: &[u8]) -> bool {
     }
 }
 
-/// With each octet of the request replaced by each value, as many of the 10,240 datagrams encode a
+/// Each octet of the request is replaced by each value. Of the 10,240 datagrams, as many encode a
 /// message as an independent decoder finds.
 #[test]
-fn each_octet_replaced(rt: HostRuntime) {
+fn of_10240_changed_requests_4507_are_read(rt: HostRuntime) {
     let mut right = 0u32;
     for at in 0..REQUEST.len() {
         for octet in 0..=255u8 {
@@ -264,12 +265,12 @@ fn each_octet_replaced(rt: HostRuntime) {
     assert!(rt; right == 4507, "{right}");
 }
 
-/// Octets of no whole number.
-const NO_INTEGERS: &[&[u8]] = &[&[0x02, 0x05, 0x00, 0x00, 0x00, 0x00, 0x05], &[0x02, 0x00]];
+/// Integers whose content has five octets, and none.
+const BAD_INTEGERS: &[&[u8]] = &[&[0x02, 0x05, 0x00, 0x00, 0x00, 0x00, 0x05], &[0x02, 0x00]];
 
 #[test]
-fn integers(rt: HostRuntime) -> Result<(), Fail> {
-    // Whole numbers, in their shortest and in longer forms.
+fn integers_are_read_in_shortest_and_longer_forms(rt: HostRuntime) -> Result<(), Fail> {
+    // In their shortest form and in longer ones.
     let rows = [
         (
             [0x02, 0x04, 0x00, 0x00, 0x00, 0x05].as_slice(),
@@ -284,11 +285,11 @@ fn integers(rt: HostRuntime) -> Result<(), Fail> {
         ),
     ];
     assert_values(&rt, rt.alloc(), &rows)?;
-    assert_bad_contents(&rt, rt.alloc(), NO_INTEGERS)?;
+    assert_bad_contents(&rt, rt.alloc(), BAD_INTEGERS)?;
     Ok(())
 }
 
-/// Octets of numbers that are too large.
+/// A Gauge32 of 2^32 and a Counter64 of 2^64, one more than they can have.
 const TOO_LARGE: &[&[u8]] = &[
     &[0x42, 0x05, 0x01, 0x00, 0x00, 0x00, 0x00],
     &[
@@ -297,8 +298,8 @@ const TOO_LARGE: &[&[u8]] = &[
 ];
 
 #[test]
-fn unsigned_numbers(rt: HostRuntime) -> Result<(), Fail> {
-    // Unsigned numbers, with and without a leading zero octet.
+fn unsigned_numbers_are_read_up_to_their_limits(rt: HostRuntime) -> Result<(), Fail> {
+    // With and without a leading zero octet.
     let rows = [
         ([0x41, 0x01, 0xC8].as_slice(), ValueRef::Counter32(200)),
         (&[0x41, 0x02, 0x00, 0xC8], ValueRef::Counter32(200)),
@@ -327,11 +328,11 @@ fn unsigned_numbers(rt: HostRuntime) -> Result<(), Fail> {
     Ok(())
 }
 
-/// Octets of no address, and of no NULL.
-const NO_VALUES: &[&[u8]] = &[&[0x40, 0x03, 192, 0, 2], &[0x05, 0x01, 0x00]];
+/// An IpAddress of three octets, and a NULL that isn't empty.
+const BAD_VALUES: &[&[u8]] = &[&[0x40, 0x03, 192, 0, 2], &[0x05, 0x01, 0x00]];
 
 #[test]
-fn other_values(rt: HostRuntime) -> Result<(), Fail> {
+fn other_values_are_read(rt: HostRuntime) -> Result<(), Fail> {
     let alloc = rt.alloc();
     // Strings, addresses and exceptions.
     let rows = [
@@ -346,13 +347,13 @@ fn other_values(rt: HostRuntime) -> Result<(), Fail> {
         (&[0x82, 0x00], ValueRef::EndOfMibView),
     ];
     assert_values(&rt, alloc, &rows)?;
-    assert_bad_contents(&rt, alloc, NO_VALUES)?;
+    assert_bad_contents(&rt, alloc, BAD_VALUES)?;
     let unknown = with_value(&rt, alloc, &[0x83, 0x00])?;
     assert_refused(&rt, &unknown, BerError::Tag);
     Ok(())
 }
 
-/// Identifiers as values, and their numbers.
+/// Encoded identifiers, and their numbers.
 const IDENTIFIERS: &[(&[u8], &[u32])] = &[
     (
         &[0x06, 0x05, 0x90, 0x80, 0x80, 0x80, 0x4F],
@@ -370,8 +371,9 @@ const IDENTIFIERS: &[(&[u8], &[u32])] = &[
     ),
 ];
 
-/// Octets of no identifier.
-const NO_IDENTIFIERS: &[&[u8]] = &[
+/// Malformed identifiers: with a number above 4294967295, as the first or a later one; with an
+/// unfinished number; with a number that has a leading zero; without content.
+const BAD_IDENTIFIERS: &[&[u8]] = &[
     &[0x06, 0x05, 0x90, 0x80, 0x80, 0x80, 0x50],
     &[0x06, 0x06, 0x2B, 0x90, 0x80, 0x80, 0x80, 0x00],
     &[0x06, 0x02, 0x2B, 0x80],
@@ -379,7 +381,7 @@ const NO_IDENTIFIERS: &[&[u8]] = &[
     &[0x06, 0x00],
 ];
 
-/// Asserts that the octets of a value are the identifier of these numbers.
+/// Asserts that `octets` are read as the identifier with these numbers.
 fn assert_identifier(
     rt: &impl Abort,
     alloc: Global,
@@ -392,21 +394,21 @@ fn assert_identifier(
 }
 
 #[test]
-fn identifiers(rt: HostRuntime) -> Result<(), Fail> {
+fn identifiers_are_read(rt: HostRuntime) -> Result<(), Fail> {
     for (octets, numbers) in IDENTIFIERS {
         assert_identifier(&rt, rt.alloc(), octets, numbers)?;
     }
-    assert_bad_contents(&rt, rt.alloc(), NO_IDENTIFIERS)?;
+    assert_bad_contents(&rt, rt.alloc(), BAD_IDENTIFIERS)?;
     Ok(())
 }
 
-/// The tag of an element with a length of two octets, and that length.
+/// Returns a tag and a length that is encoded in the two octets after 0x82.
 fn long_header(tag: u8, len: u16) -> [u8; 4] {
     let [high, low] = len.to_be_bytes();
     [tag, 0x82, high, low]
 }
 
-/// A request of 1.3.6 and `more` times 4294967295.
+/// Returns a request of the name 1.3.6 followed by `more` times 4294967295.
 fn long_name(alloc: Global, more: u8) -> Result<Vec<u8>, AllocError> {
     let len = 2 + 5 * u16::from(more);
     let mut datagram = joined(
@@ -429,8 +431,8 @@ fn long_name(alloc: Global, more: u8) -> Result<Vec<u8>, AllocError> {
     Ok(datagram)
 }
 
-/// Whether the octets encode a message whose first binding has a name of 128 numbers, of which the
-/// last is the greatest.
+/// Returns whether `datagram` encodes a message whose first binding has a name of 128 numbers, the
+/// last of them 4294967295.
 fn has_longest_name(datagram: &[u8]) -> bool {
     match first_of(datagram) {
         Some(binding) => {
@@ -441,13 +443,13 @@ fn has_longest_name(datagram: &[u8]) -> bool {
     }
 }
 
-/// Asserts that they do.
+/// Asserts [`has_longest_name`].
 fn assert_longest_name(rt: &impl Abort, datagram: &[u8]) {
     assert!(rt; has_longest_name(datagram));
 }
 
 #[test]
-fn longest_name(rt: HostRuntime) -> Result<(), Fail> {
+fn names_of_at_most_128_numbers_are_read(rt: HostRuntime) -> Result<(), Fail> {
     let longest = long_name(rt.alloc(), 125)?;
     assert_longest_name(&rt, &longest);
     let longer = long_name(rt.alloc(), 126)?;
@@ -455,12 +457,12 @@ fn longest_name(rt: HostRuntime) -> Result<(), Fail> {
     Ok(())
 }
 
-/// The first binding of the message that the octets encode.
+/// Returns the first binding of the message that `datagram` encodes, if there is one.
 fn first_of(datagram: &[u8]) -> Option<Binding<'_>> {
     decode(datagram).ok()?.bindings().next()
 }
 
-/// The octets of a Response, with a string that makes it as long as a datagram may be.
+/// Returns a Response with a string that makes it as long as a datagram can be.
 fn longest_response(alloc: Global) -> Result<Vec<u8>, AllocError> {
     joined(
         alloc,
@@ -476,7 +478,8 @@ fn longest_response(alloc: Global) -> Result<Vec<u8>, AllocError> {
     )
 }
 
-/// Whether the octets encode a message whose first binding has a string of this length.
+/// Returns whether `datagram` encodes a message whose first binding has a string of `length`
+/// octets.
 fn has_string(datagram: &[u8], length: usize) -> bool {
     match first_of(datagram) {
         Some(binding) => match binding.value {
@@ -487,18 +490,18 @@ fn has_string(datagram: &[u8], length: usize) -> bool {
     }
 }
 
-/// Asserts that the datagram is as long as one may be, and has its string.
+/// Asserts that the datagram has the greatest length, and that its string is read.
 fn assert_longest(rt: &impl Abort, datagram: &[u8]) {
     assert!(rt; datagram.len() == 65507 && has_string(datagram, 65464));
 }
 
 #[test]
-fn longest_datagram(rt: HostRuntime) -> Result<(), Fail> {
+fn the_longest_datagram_is_read(rt: HostRuntime) -> Result<(), Fail> {
     assert_longest(&rt, &longest_response(rt.alloc())?);
     Ok(())
 }
 
-/// Whether an owned value is the string `wes`.
+/// Returns whether an owned value is the string `wes`.
 fn is_wes(value: &Value) -> bool {
     match value {
         Value::Octets(octets) => octets.as_slice() == b"wes".as_slice(),
@@ -506,20 +509,20 @@ fn is_wes(value: &Value) -> bool {
     }
 }
 
-/// Asserts that it is.
+/// Asserts [`is_wes`].
 fn assert_wes(rt: &impl Abort, value: &Value) {
     assert!(rt; is_wes(value));
 }
 
 #[test]
-fn owned_string(rt: HostRuntime) -> Result<(), Fail> {
+fn a_string_is_copied_into_an_owned_value(rt: HostRuntime) -> Result<(), Fail> {
     let value = Value::from_ref(rt.alloc(), &ValueRef::Octets(b"wes"))?;
     assert_wes(&rt, &value);
     Ok(())
 }
 
 #[test]
-fn octets_of_a_string_are_given_back(rt: HostRuntime) -> Result<(), Fail> {
+fn a_string_returns_its_octets(rt: HostRuntime) -> Result<(), Fail> {
     let string = OctetString::from_slice(rt.alloc(), b"wes")?;
     assert!(rt; string.into_vec().as_slice() == b"wes".as_slice());
     Ok(())
@@ -534,10 +537,10 @@ const FOUR_BINDINGS: [u8; 64] = [
     0x08, 0x06, 0x03, 0x2B, 0x87, 0x68, 0x04, 0x01, 0x78, 0x30, 0x05, 0x06, 0x01, 0x2B, 0x05, 0x00,
 ];
 
-/// Reads the next binding of both, of `read` into an existing binding. Returns whether both have
-/// this name and value.
+/// Reads the next binding of each: of `read` into `binding`. Returns whether both have this name
+/// and value.
 fn are_next<'a>(
-    given: &mut Bindings<'a>,
+    iterated: &mut Bindings<'a>,
     read: &mut Bindings<'a>,
     binding: &mut Binding<'a>,
     name: &[u32],
@@ -545,39 +548,39 @@ fn are_next<'a>(
 ) -> bool {
     read.read_next(binding)
         && is_binding(binding, name, value)
-        && given.next().as_ref() == Some(&*binding)
+        && iterated.next().as_ref() == Some(&*binding)
 }
 
-/// Whether none is left, and the binding is as it was.
+/// Returns whether neither has a binding left, and `binding` stays as it was.
 fn are_read<'a>(
-    given: &mut Bindings<'a>,
+    iterated: &mut Bindings<'a>,
     read: &mut Bindings<'a>,
     binding: &mut Binding<'a>,
 ) -> bool {
     !read.read_next(binding)
         && is_binding(binding, &[1, 3], &ValueRef::Null)
-        && given.next().is_none()
+        && iterated.next().is_none()
 }
 
-/// Reads the bindings of the message as an iterator and into an existing binding, and asserts that
-/// both give these names and values, and that the binding is unchanged where none is left.
+/// Reads the bindings of the message twice: as an iterator, and into `binding`. Asserts that both
+/// ways yield the expected names and values, and that `binding` stays as it was when none is left.
 fn assert_read_in_place<'a>(
     rt: &impl Abort,
     message: &MessageRef<'a>,
     binding: &mut Binding<'a>,
     expected: &[(&[u32], ValueRef<'_>)],
 ) {
-    let mut given = message.bindings();
+    let mut iterated = message.bindings();
     let mut read = message.bindings();
     let mut all = true;
     for (name, value) in expected {
-        all = are_next(&mut given, &mut read, binding, name, value) && all;
+        all = are_next(&mut iterated, &mut read, binding, name, value) && all;
     }
-    assert!(rt; all && are_read(&mut given, &mut read, binding));
+    assert!(rt; all && are_read(&mut iterated, &mut read, binding));
 }
 
 #[test]
-fn bindings_read_in_place(rt: HostRuntime) -> Result<(), Fail> {
+fn bindings_are_read_into_an_existing_one(rt: HostRuntime) -> Result<(), Fail> {
     let mut binding = Binding {
         name: Oid::from_slice(&[9, 9, 9, 9, 9, 9])?,
         value: ValueRef::EndOfMibView,
@@ -589,7 +592,7 @@ fn bindings_read_in_place(rt: HostRuntime) -> Result<(), Fail> {
         (&[1, 3], ValueRef::Null),
     ];
     let Ok(message) = decode(&FOUR_BINDINGS) else {
-        panic!(rt; "it spells a message")
+        panic!(rt; "expected a message in FOUR_BINDINGS")
     };
     assert_read_in_place(&rt, &message, &mut binding, &expected);
     Ok(())

@@ -1,4 +1,4 @@
-//! Messages and bindings as they are written, against octets that were worked out by hand.
+//! Messages and bindings are written as octets that were worked out by hand.
 ghost use Rattle.std.specs.Prelude.{IsTrue, All, ◌≡◌, ◌≤◌, length};
 ghost use Rattle.snmp_wire.specs.Canon.{IsEncodable, canon_bindings};
 ghost use Rattle.snmp_wire.specs.ber.Canon.{IsEncodableValue};
@@ -12,7 +12,7 @@ use snmp_wire::{
 };
 use std::process::Abort;
 
-/// A message of version 1, community `public` and id 1.
+/// Returns the parts of an SNMPv2c message with community `public`, id 1, and 0 as its `a`.
 fn message<'a>(kind: Kind, b: i32, bindings: &'a [Binding<'a>]) -> Parts<'a>
     ensures community { length result.community.now ≤ 65535 }
     ensures bindings { result.bindings.now ≡ bindings.now }
@@ -31,14 +31,14 @@ fn message<'a>(kind: Kind, b: i32, bindings: &'a [Binding<'a>]) -> Parts<'a>
 /// sysName.0, 1.3.6.1.2.1.1.5.0.
 const NAME: [u32; 9] = [1, 3, 6, 1, 2, 1, 1, 5, 0];
 
-/// The GetBulk of 1.3.6.1.4.1.32473.1 with 10 repetitions.
+/// A GetBulkRequest of 1.3.6.1.4.1.32473.1 with max-repetitions 10.
 const BULK: [u8; 41] = [
     0x30, 0x27, 0x02, 0x01, 0x01, 0x04, 0x06, 0x70, 0x75, 0x62, 0x6C, 0x69, 0x63, 0xA5, 0x1A, 0x02,
     0x01, 0x01, 0x02, 0x01, 0x00, 0x02, 0x01, 0x0A, 0x30, 0x0F, 0x30, 0x0D, 0x06, 0x09, 0x2B, 0x06,
     0x01, 0x04, 0x01, 0x81, 0xFD, 0x59, 0x01, 0x05, 0x00,
 ];
 
-/// Whether a value has an encoding.
+/// Returns whether `value` has an encoding.
 fn is_encodable(value: &ValueRef<'_>) -> bool
     ensures { IsTrue result → IsEncodableValue (datum value.now) }
 {
@@ -49,7 +49,7 @@ fn is_encodable(value: &ValueRef<'_>) -> bool
     }
 }
 
-/// A binding that has an encoding.
+/// Returns the binding of `name` and `value`, and asserts that it has an encoding.
 fn binding<'a>(rt: &impl Abort, name: &[u32], value: ValueRef<'a>) -> Binding<'a>
     ensures { IsEncodable (var_bind result) }
 {
@@ -59,7 +59,7 @@ fn binding<'a>(rt: &impl Abort, name: &[u32], value: ValueRef<'a>) -> Binding<'a
     binding
 }
 
-/// Asserts that a binding has an encoding.
+/// Asserts that `binding` has an encoding.
 fn assert_encodable(rt: &impl Abort, binding: &Binding<'_>)
     ensures { IsEncodable (var_bind binding.now) }
 {
@@ -67,7 +67,7 @@ fn assert_encodable(rt: &impl Abort, binding: &Binding<'_>)
     assert!(rt; is_encodable(&binding.value));
 }
 
-/// How many octets a list of at most one binding takes: not too many for a message.
+/// Returns the length of the encoding of at most one binding, which is short enough for a message.
 fn octets_of(bindings: &[Binding<'_>]) -> u64
     requires at_most_one { length bindings.now ≤ 1 }
     requires encodable { All (λ b. IsEncodable (var_bind b)) bindings.now }
@@ -79,8 +79,9 @@ fn octets_of(bindings: &[Binding<'_>]) -> u64
     }
 }
 
-/// Asserts that the message of this one binding is written as these octets: to a slice that is
-/// longer, to one that just fits, and to none that is shorter. What stands after them stays.
+/// Asserts that the message with this one binding is written as `octets`, to a slice that just fits
+/// and to a longer one, whose other octets stay as they were. Nothing is written to a slice that is
+/// one octet too short.
 fn assert_message(rt: &impl Abort, kind: Kind, b: i32, binding: Binding<'_>, octets: &[u8])
     requires { IsEncodable (var_bind binding) }
 {
@@ -89,12 +90,12 @@ fn assert_message(rt: &impl Abort, kind: Kind, b: i32, binding: Binding<'_>, oct
     assert_parts(rt, &message(kind, b, &bindings), octets);
 }
 
-/// Whether each octet is as it was before something was written.
+/// Returns whether each octet of `out` is as it was before something was written.
 fn is_untouched(out: &[u8]) -> bool {
     out.iter().all(|octet| *octet == 0xEE)
 }
 
-/// [`encode`] without its clauses: the tests compare what it returns and writes.
+/// Calls [`encode`] without its clauses: the tests compare what it returns and writes.
 fn put(parts: &Parts<'_>, out: &mut [u8]) -> Option<usize>
     requires community { length parts.now.community.now ≤ 65535 }
     requires bindings { All (λ b. IsEncodable (var_bind b)) parts.now.bindings.now }
@@ -103,7 +104,7 @@ fn put(parts: &Parts<'_>, out: &mut [u8]) -> Option<usize>
     encode(parts, out)
 }
 
-/// [`size`] without its clauses.
+/// Calls [`size`] without its clauses.
 fn size_of(parts: &Parts<'_>) -> u64
     requires community { length parts.now.community.now ≤ 65535 }
     requires bindings { All (λ b. IsEncodable (var_bind b)) parts.now.bindings.now }
@@ -112,41 +113,40 @@ fn size_of(parts: &Parts<'_>) -> u64
     size(parts)
 }
 
-/// [`encode_binding`] without its clauses.
+/// Calls [`encode_binding`] without its clauses.
 fn put_binding(binding: &Binding<'_>, out: &mut [u8]) -> Option<usize>
     requires { IsEncodable (var_bind binding.now) }
 {
     encode_binding(binding, out)
 }
 
-/// [`binding_size`] without its clauses.
+/// Calls [`binding_size`] without its clauses.
 fn size_of_binding(binding: &Binding<'_>) -> u64
     requires { IsEncodable (var_bind binding.now) }
 {
     binding_size(binding)
 }
 
-/// Whether octets stand at the front, and what stands after them is as it was.
-fn is_front(out: &[u8], octets: &[u8]) -> bool {
+/// Returns whether `out` begins with `octets`, and the rest is untouched.
+fn holds_only(out: &[u8], octets: &[u8]) -> bool {
     if octets.len() > out.len() {
         return false;
     }
-    let (front, rest) = out.split_at(octets.len());
-    front == octets && is_untouched(rest)
+    let (start, rest) = out.split_at(octets.len());
+    start == octets && is_untouched(rest)
 }
 
-/// Writes the message of these parts to the front of a slice, and returns whether it is these
-/// octets and what stands after them stays.
+/// Writes the message of these parts to the start of `out`, and returns whether it is `octets` and
+/// the rest is untouched.
 fn is_put(parts: &Parts<'_>, out: &mut [u8], octets: &[u8]) -> bool
     requires community { length parts.now.community.now ≤ 65535 }
     requires bindings { All (λ b. IsEncodable (var_bind b)) parts.now.bindings.now }
     requires total { length (canon_bindings (var_binds parts.now.bindings.now)) ≤ 4000000000 }
 {
-    put(parts, out) == Some(octets.len()) && is_front(out, octets)
+    put(parts, out) == Some(octets.len()) && holds_only(out, octets)
 }
 
-/// Whether the message of these parts isn't written to a slice of this length, at most 512, and
-/// nothing else is.
+/// Returns whether [`encode`] fails for a slice of `room` octets, at most 512, and writes nothing.
 fn is_not_put(parts: &Parts<'_>, room: usize) -> bool
     requires community { length parts.now.community.now ≤ 65535 }
     requires bindings { All (λ b. IsEncodable (var_bind b)) parts.now.bindings.now }
@@ -156,7 +156,7 @@ fn is_not_put(parts: &Parts<'_>, room: usize) -> bool
     put(parts, &mut out[..room.min(512)]).is_none() && is_untouched(&out)
 }
 
-/// [`is_put`] in a slice of this length, at most 512.
+/// Returns [`is_put`] for a slice of `room` octets, at most 512.
 fn is_put_in(parts: &Parts<'_>, room: usize, octets: &[u8]) -> bool
     requires community { length parts.now.community.now ≤ 65535 }
     requires bindings { All (λ b. IsEncodable (var_bind b)) parts.now.bindings.now }
@@ -166,8 +166,8 @@ fn is_put_in(parts: &Parts<'_>, room: usize, octets: &[u8]) -> bool
     is_put(parts, &mut out[..room.min(512)], octets)
 }
 
-/// Asserts that the message of these parts is written as these octets, to slices of the three
-/// lengths.
+/// Asserts that the message of these parts is written as `octets` to a slice that just fits and to
+/// a longer one, and isn't written to one that is an octet too short.
 fn assert_parts(rt: &impl Abort, parts: &Parts<'_>, octets: &[u8])
     requires community { length parts.now.community.now ≤ 65535 }
     requires bindings { All (λ b. IsEncodable (var_bind b)) parts.now.bindings.now }
@@ -182,29 +182,30 @@ fn assert_parts(rt: &impl Abort, parts: &Parts<'_>, octets: &[u8])
 }
 
 #[test]
-fn a_request(rt: HostRuntime) {
+fn a_request_is_written(rt: HostRuntime) {
     let get = binding(&rt, &NAME, ValueRef::Null);
     assert_message(&rt, Kind::GetRequest, 0, get, &REQUEST);
 }
 
 #[test]
-fn a_response(rt: HostRuntime) {
+fn a_response_is_written(rt: HostRuntime) {
     let reply = binding(&rt, &NAME, ValueRef::Octets(b"wes"));
     assert_message(&rt, Kind::Response, 0, reply, &RESPONSE);
 }
 
 #[test]
-fn a_bulk_request(rt: HostRuntime) {
+fn a_bulk_request_is_written(rt: HostRuntime) {
     let get = binding(&rt, &[1, 3, 6, 1, 4, 1, 32473, 1], ValueRef::Null);
     assert_message(&rt, Kind::GetBulkRequest, 10, get, &BULK);
 }
 
-/// Asserts that a value is written as these octets, in a binding of the name 1.3.
+/// Asserts that a value is written as `octets`, in a binding with the name 1.3.
 fn assert_value(rt: &impl Abort, value: ValueRef<'_>, octets: &[u8]) {
     assert_binding(rt, &binding(rt, &[1, 3], value), octets);
 }
 
-/// Whether a binding isn't written to a slice of this length, at most 1024, and nothing else is.
+/// Returns whether [`encode_binding`] fails for a slice of `room` octets, at most 1024, and writes
+/// nothing.
 fn is_binding_not_put(binding: &Binding<'_>, room: usize) -> bool
     requires { IsEncodable (var_bind binding.now) }
 {
@@ -212,7 +213,8 @@ fn is_binding_not_put(binding: &Binding<'_>, room: usize) -> bool
     put_binding(binding, &mut out[..room.min(1024)]).is_none() && is_untouched(&out)
 }
 
-/// Whether a binding of the name 1.3 is written with these octets as its value, fewer than 100.
+/// Returns whether a binding with the name 1.3 is written, and `octets`, fewer than 100, are its
+/// value.
 fn is_binding_put(binding: &Binding<'_>, octets: &[u8]) -> bool
     requires { IsEncodable (var_bind binding.now) }
 {
@@ -224,10 +226,10 @@ fn is_binding_put(binding: &Binding<'_>, octets: &[u8]) -> bool
     let head = [0x30, (len + 3) as u8, 0x06, 0x01, 0x2B];
     put_binding(binding, &mut out) == Some(len + 5)
         && out.starts_with(&head)
-        && is_front(&out[5..], octets)
+        && holds_only(&out[5..], octets)
 }
 
-/// Asserts that the value of this binding of the name 1.3 is written as these octets.
+/// Asserts that the value of this binding, whose name is 1.3, is written as `octets`.
 fn assert_binding(rt: &impl Abort, binding: &Binding<'_>, octets: &[u8])
     requires { IsEncodable (var_bind binding.now) }
 {
@@ -239,7 +241,7 @@ fn assert_binding(rt: &impl Abort, binding: &Binding<'_>, octets: &[u8])
 }
 
 #[test]
-fn whole_numbers_are_minimal(rt: HostRuntime) {
+fn whole_numbers_are_written_in_their_shortest_form(rt: HostRuntime) {
     assert_value(&rt, ValueRef::Counter32(200), &[0x41, 0x02, 0x00, 0xC8]);
     assert_value(
         &rt,
@@ -271,7 +273,7 @@ fn whole_numbers_are_minimal(rt: HostRuntime) {
 }
 
 #[test]
-fn other_values(rt: HostRuntime) {
+fn other_values_are_written(rt: HostRuntime) {
     assert_value(&rt, ValueRef::Octets(b""), &[0x04, 0x00]);
     assert_value(&rt, ValueRef::Null, &[0x05, 0x00]);
     assert_value(
@@ -296,7 +298,7 @@ fn other_values(rt: HostRuntime) {
 }
 
 #[test]
-fn the_longest_name(rt: HostRuntime) {
+fn the_longest_name_is_written(rt: HostRuntime) {
     let mut name = [4294967295; 128];
     name[0] = 1;
     name[1] = 3;
@@ -304,13 +306,13 @@ fn the_longest_name(rt: HostRuntime) {
     let binding = binding(&rt, &name, ValueRef::Null);
     let mut out = [0xEE; 1024];
     assert!(rt; put_binding(&binding, &mut out) == Some(637));
-    let front = [
+    let start = [
         0x30, 0x82, 0x02, 0x79, 0x06, 0x82, 0x02, 0x73, 0x2B, 0x06, 0x8F, 0xFF, 0xFF, 0xFF, 0x7F,
     ];
-    assert!(rt; out.starts_with(&front));
+    assert!(rt; out.starts_with(&start));
 }
 
-/// The parts of a message with these bindings.
+/// Returns the parts of a message with the head of `message` and these bindings.
 fn parts_of<'a>(message: &MessageRef<'a>, bindings: &'a [Binding<'a>]) -> Parts<'a>
     ensures { result.bindings.now ≡ bindings.now }
 {
@@ -325,7 +327,8 @@ fn parts_of<'a>(message: &MessageRef<'a>, bindings: &'a [Binding<'a>]) -> Parts<
     }
 }
 
-/// Writes a message with at most one binding to the front of `out`, and returns its length.
+/// Writes a message with the head of `message` and at most one binding to the start of `out`, and
+/// returns its length.
 fn write_again<'a>(
     rt: &impl Abort,
     message: &MessageRef<'a>,
@@ -345,10 +348,10 @@ fn write_again<'a>(
     len
 }
 
-/// With each octet of a request replaced by each other, what is read is written in its shortest
-/// encoding, and that is read as the same.
+/// Each octet of a request is replaced by each other. What is then read as a message is written in
+/// its shortest encoding, and that is read as the same message.
 #[test]
-fn what_is_read_is_written(rt: HostRuntime) {
+fn what_is_read_is_written_and_read_again(rt: HostRuntime) {
     for at in 0..REQUEST.len() {
         for octet in 0..=255u8 {
             let mut datagram = REQUEST;
@@ -360,7 +363,7 @@ fn what_is_read_is_written(rt: HostRuntime) {
     }
 }
 
-/// Whether the heads of messages are the same.
+/// Returns whether the heads of two messages are equal.
 fn have_same_head(again: &MessageRef<'_>, message: &MessageRef<'_>) -> bool {
     again.version() == message.version()
         && again.kind() == message.kind()
@@ -369,14 +372,15 @@ fn have_same_head(again: &MessageRef<'_>, message: &MessageRef<'_>) -> bool {
         && again.b() == message.b()
 }
 
-/// Whether a message of at most one binding is written as these octets.
+/// Returns whether a message with at most one binding is written as `octets`.
 fn is_written_as(rt: &impl Abort, message: &MessageRef<'_>, octets: &[u8]) -> bool {
     let mut out = [0; 512];
     let len = write_all(rt, message, &mut out);
     out.get(..len) == Some(octets)
 }
 
-/// Whether the octets encode a message with the head of this one, which is written as they are.
+/// Returns whether `octets` encode a message with the head of `message`, and that message is
+/// written as `octets` again.
 fn is_read_again(rt: &impl Abort, octets: &[u8], message: &MessageRef<'_>) -> bool {
     match decode(octets) {
         Ok(again) => have_same_head(&again, message) && is_written_as(rt, &again, octets),
@@ -384,8 +388,8 @@ fn is_read_again(rt: &impl Abort, octets: &[u8], message: &MessageRef<'_>) -> bo
     }
 }
 
-/// Asserts that a message of at most one binding is written, and that what is written is read as
-/// the same: it is written in the same way again.
+/// Asserts that a message with at most one binding is written, and that what was written is read as
+/// a message with the same head, which is written in the same way again.
 fn assert_written(rt: &impl Abort, message: &MessageRef<'_>) {
     let mut out = [0; 512];
     let len = write_all(rt, message, &mut out);
@@ -393,7 +397,7 @@ fn assert_written(rt: &impl Abort, message: &MessageRef<'_>) {
     assert!(rt; is_read_again(rt, &out[..len], message));
 }
 
-/// Writes a message of at most one binding to the front of `out`, and returns its length.
+/// Writes a message with at most one binding to the start of `out`, and returns its length.
 fn write_all(rt: &impl Abort, message: &MessageRef<'_>, out: &mut [u8]) -> usize {
     let mut bindings = message.bindings();
     let Some(binding) = bindings.next() else {
@@ -406,7 +410,7 @@ fn write_all(rt: &impl Abort, message: &MessageRef<'_>, out: &mut [u8]) -> usize
 }
 
 #[test]
-fn bindings_written_before_their_head_are_sealed(rt: HostRuntime) {
+fn seal_writes_the_head_before_bindings_already_written(rt: HostRuntime) {
     let parts = message(Kind::GetBulkRequest, 10, &[]);
     let mut out = [0; 60];
     out[20..37].copy_from_slice(&BULK[24..]);

@@ -1,14 +1,14 @@
-//! Identifiers: their order, their forms in messages, and their greatest length.
+//! Identifiers: their order, what they become in messages, and their greatest length.
 
 use snmp_oid::{MAX_LEN, Oid, OidError};
 use std::process::Abort;
 
-/// The identifier of these numbers, of which there are at most 128.
+/// Returns the identifier with these numbers, at most 128.
 fn oid_of(rt: &impl Abort, numbers: &[u32]) -> Oid {
     Oid::from_slice(numbers).expect(rt, "at most 128 numbers")
 }
 
-/// Whether the form of an identifier in a message is the one of these numbers.
+/// Returns whether `oid` has these numbers in a message.
 fn has_wire(oid: &Oid, numbers: &[u32]) -> bool {
     match oid.to_wire() {
         Ok(padded) => padded.as_slice() == numbers,
@@ -16,7 +16,7 @@ fn has_wire(oid: &Oid, numbers: &[u32]) -> bool {
     }
 }
 
-/// Whether the identifier of numbers comes before the one of others.
+/// Returns whether the identifier of `numbers` is less than the one of `others`.
 fn is_before(numbers: &[u32], others: &[u32]) -> bool {
     match (Oid::from_slice(numbers), Oid::from_slice(others)) {
         (Ok(oid), Ok(other)) => oid < other,
@@ -24,7 +24,7 @@ fn is_before(numbers: &[u32], others: &[u32]) -> bool {
     }
 }
 
-/// Numbers of identifiers, in their order.
+/// The numbers of identifiers, in increasing order.
 const IN_ORDER: &[&[u32]] = &[
     &[],
     &[1, 3],
@@ -36,19 +36,19 @@ const IN_ORDER: &[&[u32]] = &[
 ];
 
 #[test]
-fn ten_comes_after_two(rt: HostRuntime) {
+fn identifiers_are_ordered_number_by_number(rt: HostRuntime) {
     for pair in IN_ORDER.windows(2) {
         assert!(rt; is_before(pair[0], pair[1]), "{pair:?}");
     }
 }
 
-/// Whether the identifier has no form in a message.
+/// Returns whether `oid` has no encoding in a message.
 fn has_no_wire(oid: &Oid) -> bool {
     oid.to_wire().err() == Some(OidError::NotWire)
 }
 
 #[test]
-fn padded_and_refused(rt: HostRuntime) {
+fn short_identifiers_are_padded_and_bad_ones_refused(rt: HostRuntime) {
     assert!(rt; has_wire(&Oid::new(), &[0, 0]));
     assert!(rt; has_wire(&oid_of(&rt, &[1]), &[1, 0]));
     assert!(rt; oid_of(&rt, &[2, 4294967295, 0]).is_wire());
@@ -56,7 +56,8 @@ fn padded_and_refused(rt: HostRuntime) {
     assert!(rt; has_no_wire(&oid_of(&rt, &[1, 40])));
 }
 
-/// Whether an identifier of 127 numbers is filled by one more, and takes no others.
+/// Appends two numbers to an identifier of 127 numbers, and returns whether the first is accepted
+/// and the second refused.
 fn is_filled(oid: &mut Oid) -> bool {
     oid.push(7).is_ok()
         && oid.push(7) == Err(OidError::TooLong)
@@ -70,7 +71,7 @@ fn the_129th_number_is_refused(rt: HostRuntime) {
     assert!(rt; Oid::from_slice(&[7; 129]).err() == Some(OidError::TooLong));
 }
 
-/// Whether numbers are appended to 1.3, but not too many.
+/// Returns whether numbers can be appended to 1.3, and are refused as a whole if they are too many.
 fn is_extended(oid: &mut Oid) -> bool {
     oid.extend_from_slice(&[6, 1, 4]).is_ok()
         && oid.as_slice() == [1, 3, 6, 1, 4].as_slice()
@@ -78,14 +79,14 @@ fn is_extended(oid: &mut Oid) -> bool {
         && oid.as_slice() == [1, 3, 6, 1, 4].as_slice()
 }
 
-/// Whether the numbers are taken away, and others are appended.
+/// Clears `oid`, and returns whether it is then empty and accepts a number.
 fn is_cleared(oid: &mut Oid) -> bool {
     oid.clear();
     oid.is_empty() && oid.push(2).is_ok() && oid.as_slice() == [2].as_slice()
 }
 
 #[test]
-fn numbers_appended_and_taken_away(rt: HostRuntime) {
+fn numbers_are_appended_and_cleared(rt: HostRuntime) {
     let mut oid = oid_of(&rt, &[1, 3]);
     assert!(rt; is_extended(&mut oid));
     assert!(rt; is_cleared(&mut oid));

@@ -1,6 +1,6 @@
-//! Tests of identifiers and messages: their order, as numbers and as they are encoded, their texts,
-//! and recorded messages, read and written. They are a separate crate so that the layers below are
-//! proved only once.
+//! Tests of identifiers and messages: how identifiers are ordered, as numbers and as encodings, how
+//! they are written as text, and how recorded messages are read and written. They are a crate of
+//! their own, so that `snmp_oid` and `snmp_wire` are proved only once.
 #![tactic(auto)]
 
 #[cfg(test)]

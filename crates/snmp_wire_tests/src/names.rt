@@ -1,4 +1,4 @@
-//! Names compared as they are encoded, against the comparison of their numbers.
+//! Encoded names are compared as their numbers are, without decoding them.
 
 use snmp_wire::{
     Binding, EncodedName, MAX_CONTENT, NameBuffer, Oid, encode_asking, encode_binding,
@@ -6,14 +6,14 @@ use snmp_wire::{
 };
 use std::process::Abort;
 
-/// Numbers around those at which an encoding becomes longer, or an octet has all of its bits set.
+/// Numbers around those at which an encoding becomes longer, or all bits of an octet are set.
 const AT_EDGES: &[u32] = &[
     0, 1, 39, 40, 47, 48, 126, 127, 128, 129, 16383, 16384, 16385, 2097151, 2097152, 268435455,
     268435456, 4294967295,
 ];
 
-/// Whether two names compare as their numbers do, and each is below the other just where its
-/// numbers are.
+/// Returns whether the encodings of `o` and `p` compare as their numbers do, and the first is below
+/// the other if and only if `o` is below `p`.
 fn is_compared(o: &Oid, p: &Oid) -> bool {
     if !o.is_wire() || !p.is_wire() {
         return false;
@@ -25,7 +25,7 @@ fn is_compared(o: &Oid, p: &Oid) -> bool {
     name.compare(&other) == o.cmp(p) && name.is_below(&other) == o.is_below(p)
 }
 
-/// [`is_compared`] of the names of these numbers.
+/// Returns [`is_compared`] of the names with these numbers.
 fn are_compared(numbers: &[u32], others: &[u32]) -> bool {
     match (Oid::from_slice(numbers), Oid::from_slice(others)) {
         (Ok(o), Ok(p)) => is_compared(&o, &p),
@@ -33,7 +33,7 @@ fn are_compared(numbers: &[u32], others: &[u32]) -> bool {
     }
 }
 
-/// Asserts that the names of these numbers compare so.
+/// Asserts [`is_compared`] of the names with these numbers.
 fn assert_compared(rt: &impl Abort, numbers: &[u32], others: &[u32]) {
     assert!(rt; are_compared(numbers, others), "{numbers:?} and {others:?}");
 }
@@ -50,7 +50,7 @@ fn names_compare_as_their_numbers(rt: HostRuntime) {
 }
 
 #[test]
-fn first_two_numbers_are_one(rt: HostRuntime) {
+fn first_two_numbers_encoded_as_one_compare_right(rt: HostRuntime) {
     for a in [0, 1] {
         for b in 0..40 {
             for c in [0, 47, 48, 127, 4294967295] {
@@ -61,7 +61,7 @@ fn first_two_numbers_are_one(rt: HostRuntime) {
     }
 }
 
-/// Whether the text names the identifier.
+/// Returns whether `text` is the name of `oid`.
 fn is_named(text: &[u8], oid: &Oid) -> bool {
     match parse_numeric(text) {
         Ok(named) => named == *oid,
@@ -69,7 +69,7 @@ fn is_named(text: &[u8], oid: &Oid) -> bool {
     }
 }
 
-/// Whether the identifier is written as this content.
+/// Returns whether `oid` is encoded as `content`.
 fn is_written(oid: &Oid, content: &[u8]) -> bool {
     if !oid.is_wire() {
         return false;
@@ -78,15 +78,16 @@ fn is_written(oid: &Oid, content: &[u8]) -> bool {
     EncodedName::write(oid, &mut room).content() == content
 }
 
-/// Whether a name is read as the identifier of this text, in place of another, and written again as
-/// this content.
+/// Reads `name` into an identifier that had other numbers. Returns whether it is then the
+/// identifier of `text`, and is encoded as `content`.
 fn is_identifier(name: &EncodedName<'_>, text: &[u8], content: &[u8]) -> bool {
     let mut oid = Oid::from_slice(&[1, 2, 3]).unwrap_or(Oid::new());
     name.read_into(&mut oid);
     is_named(text, &oid) && is_written(&oid, content)
 }
 
-/// Whether a content is read as the name of this text, and written again.
+/// Returns whether `content` is read as the name of `text`, and that name is written as `content`
+/// again.
 fn is_read(content: &[u8], text: &[u8]) -> bool {
     match EncodedName::read(content) {
         Some(name) => { is_identifier(&name, text, content) && name.copy().compare(&name).is_eq() }
@@ -95,7 +96,7 @@ fn is_read(content: &[u8], text: &[u8]) -> bool {
 }
 
 #[test]
-fn contents_are_read(rt: HostRuntime) {
+fn contents_are_read_and_written_again(rt: HostRuntime) {
     let rows = [
         ([0x2B, 6, 1].as_slice(), b"1.3.6.1".as_slice()),
         (&[0x00], b"0.0"),
@@ -108,7 +109,7 @@ fn contents_are_read(rt: HostRuntime) {
 }
 
 #[test]
-fn other_octets_are_no_name(rt: HostRuntime) {
+fn malformed_contents_are_refused(rt: HostRuntime) {
     for content in [
         b"".as_slice(),
         &[0x2B, 0x80, 0x01],
@@ -119,14 +120,14 @@ fn other_octets_are_no_name(rt: HostRuntime) {
     }
 }
 
-/// The numbers of the longest name.
+/// Returns the numbers of the name with the longest encoding.
 fn longest() -> [u32; 128] {
     let mut numbers = [4294967295; 128];
     numbers[0] = 2;
     numbers
 }
 
-/// Whether the name of these numbers has a content of this many octets.
+/// Returns whether the name with these numbers has a content of `length` octets.
 fn has_length(numbers: &[u32], length: usize) -> bool {
     match Oid::from_slice(numbers) {
         Ok(oid) if oid.is_wire() => {
@@ -138,15 +139,15 @@ fn has_length(numbers: &[u32], length: usize) -> bool {
 }
 
 #[test]
-fn the_longest_name_is_written(rt: HostRuntime) {
+fn the_longest_name_is_written_and_compared(rt: HostRuntime) {
     let numbers = longest();
     assert!(rt; has_length(&numbers, 635));
     assert_compared(&rt, &numbers, &numbers[..127]);
     assert_compared(&rt, &numbers[..127], &numbers);
 }
 
-/// Whether the binding that asks for a name is the one of the name and NULL, and needs as much
-/// room.
+/// Returns whether `encode_asking` writes what `encode_binding` does for the binding of `name` and
+/// NULL, and writes nothing if the buffer is one octet too short.
 fn is_asked(name: &EncodedName<'_>) -> bool {
     let mut out = [0xAA; 700];
     let mut expected = [0xAA; 700];
@@ -165,7 +166,7 @@ fn is_asked(name: &EncodedName<'_>) -> bool {
     }
 }
 
-/// Changes the name that is kept to the one of these numbers, and returns whether it is asked for.
+/// Sets `kept` to the name with these numbers, and returns [`is_asked`] of it.
 fn is_asked_next(kept: &mut NameBuffer, numbers: &[u32]) -> bool {
     match Oid::from_slice(numbers) {
         Ok(oid) if oid.is_wire() => {
@@ -178,7 +179,7 @@ fn is_asked_next(kept: &mut NameBuffer, numbers: &[u32]) -> bool {
 }
 
 #[test]
-fn names_are_asked_for(rt: HostRuntime) {
+fn bindings_that_ask_for_a_name_are_written(rt: HostRuntime) {
     let first = EncodedName::read(&[0x2B]).expect(&rt, "1.3");
     let mut kept = NameBuffer::new(&first);
     assert!(rt; is_asked(&kept.name()));

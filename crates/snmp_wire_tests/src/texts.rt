@@ -1,11 +1,11 @@
-//! Identifiers as texts of decimal numbers, read and written.
+//! Identifiers are read from decimal numbers with dots, and written so.
 
 use snmp_oid::{LONGEST_TEXT, MAX_LEN, Oid, OidTextError, parse_numeric, write_numeric};
 use std::alloc::AllocError;
 use std::process::Abort;
 use std::test::Fail;
 
-/// Whether a text names the identifier of these numbers.
+/// Returns whether `text` is the name of the identifier with these numbers.
 fn is_named(text: &[u8], numbers: &[u32]) -> bool {
     match parse_numeric(text) {
         Ok(oid) => oid.as_slice() == numbers,
@@ -14,7 +14,7 @@ fn is_named(text: &[u8], numbers: &[u32]) -> bool {
 }
 
 #[test]
-fn names_are_read(rt: HostRuntime) {
+fn numeric_names_are_read(rt: HostRuntime) {
     let rows = [
         (b".".as_slice(), [].as_slice()),
         (b"0", &[0]),
@@ -29,7 +29,7 @@ fn names_are_read(rt: HostRuntime) {
     }
 }
 
-/// Whether a text is refused with this error.
+/// Returns whether `text` is refused with `error`.
 fn is_refused(text: &[u8], error: OidTextError) -> bool {
     parse_numeric(text).err() == Some(error)
 }
@@ -54,7 +54,7 @@ fn the_first_bad_part_is_reported(rt: HostRuntime) {
     }
 }
 
-/// Whether a text names an identifier of 128 numbers.
+/// Returns whether `text` is the name of an identifier with 128 numbers.
 fn has_128(text: &[u8]) -> bool {
     match parse_numeric(text) {
         Ok(oid) => oid.len() == 128,
@@ -62,7 +62,9 @@ fn has_128(text: &[u8]) -> bool {
     }
 }
 
-/// Appends 125 greatest numbers to a text of three, and asserts that no more are read.
+/// Appends 125 numbers to a name of three, and asserts that these 128 numbers are read. Then
+/// asserts that one number more is refused as too many, and that an empty part after it is reported
+/// in preference to that.
 fn assert_at_most_128(rt: &impl Abort, text: &mut Vec<u8>) -> Result<(), AllocError> {
     for _ in 0..125 {
         text.extend_from_slice(b".4294967295")?;
@@ -76,14 +78,14 @@ fn assert_at_most_128(rt: &impl Abort, text: &mut Vec<u8>) -> Result<(), AllocEr
 }
 
 #[test]
-fn numbers_are_at_most_128(rt: HostRuntime) -> Result<(), Fail> {
+fn more_than_128_numbers_are_refused(rt: HostRuntime) -> Result<(), Fail> {
     let mut text = Vec::from_slice(rt.alloc(), b"1.3.6")?;
     assert_at_most_128(&rt, &mut text)?;
     Ok(())
 }
 
-/// Whether the text of an identifier is the longest, fits where there is room for it and not where
-/// there is less, and is read again.
+/// Returns whether the text of `oid` fills a buffer of the greatest length, is read as `oid` again,
+/// and doesn't fit into a shorter buffer.
 fn is_longest(oid: &Oid) -> bool {
     let mut text = [0; LONGEST_TEXT];
     let mut short = [0; 1407];
@@ -93,7 +95,7 @@ fn is_longest(oid: &Oid) -> bool {
 }
 
 #[test]
-fn the_longest_text_is_read_again(rt: HostRuntime) {
+fn the_longest_text_is_written_and_read_again(rt: HostRuntime) {
     let oid = Oid::from_slice(&[4294967295; MAX_LEN]).expect(&rt, "128 numbers");
     assert!(rt; is_longest(&oid));
 }
