@@ -1,10 +1,10 @@
-//! Each command with its options, given, repeated or left out.
+//! Each command with options that are given, repeated or left out.
 
 use snmp_words::{Job, UsageError, read_words};
 use std::alloc::Global;
 use std::process::Abort;
 
-/// Whether `Debug` shows the job so.
+/// Returns whether `Debug` shows `job` as `text`.
 fn is_shown_so(alloc: Global, job: &Job<'_>, text: &str) -> bool {
     match format!(in alloc; "{job:?}") {
         Ok(shown) => shown.as_str() == text,
@@ -12,27 +12,27 @@ fn is_shown_so(alloc: Global, job: &Job<'_>, text: &str) -> bool {
     }
 }
 
-/// Whether the words state this job, shown as by `Debug`.
-// What was read is dropped by a call, here and in the other helpers: at the end of a scope, the
+/// Returns whether `words` are read as the job that `Debug` shows as `job`.
+// Here and in the other helpers, what was read is dropped by a call: at the end of a scope, the
 // code that drops each kind of job would be inlined.
-fn states(alloc: Global, words: &[&str], job: &str) -> bool {
+fn are_read_as(alloc: Global, words: &[&str], job: &str) -> bool {
     let read = read_words(alloc, words);
-    let stated = match &read {
-        Ok(stated) => is_shown_so(alloc, stated, job),
+    let is_same = match &read {
+        Ok(found) => is_shown_so(alloc, found, job),
         Err(_) => false,
     };
     drop(read);
-    stated
+    is_same
 }
 
-/// Asserts of each row that its words state its job, shown as by `Debug`.
-fn assert_stated(rt: &impl Abort, alloc: Global, rows: &[(&[&str], &str)]) {
+/// Asserts that the arguments of each row are read as its job, as `Debug` shows it.
+fn assert_read_as(rt: &impl Abort, alloc: Global, rows: &[(&[&str], &str)]) {
     for (words, job) in rows {
-        assert!(rt; states(alloc, words, job), "{words:?}");
+        assert!(rt; are_read_as(alloc, words, job), "{words:?}");
     }
 }
 
-/// Whether the words are refused, and no help is asked for.
+/// Returns whether `words` are refused as a mistake, and not because they ask for help.
 pub fn are_refused(alloc: Global, words: &[&str]) -> bool {
     let read = read_words(alloc, words);
     let refused = matches!(&read, Err(UsageError::Parse { help: false, .. }));
@@ -40,7 +40,7 @@ pub fn are_refused(alloc: Global, words: &[&str]) -> bool {
     refused
 }
 
-/// Asserts that these words are refused, and that no help is asked for.
+/// Asserts that the arguments of each row are refused as a mistake.
 pub fn assert_refused(rt: &impl Abort, alloc: Global, rows: &[&[&str]]) {
     for words in rows {
         assert!(rt; are_refused(alloc, words), "{words:?}");
@@ -69,7 +69,7 @@ const DEFAULTS: &[(&[&str], &str)] = &[
 
 #[test]
 fn options_that_are_left_out_have_defaults(rt: HostRuntime) {
-    assert_stated(&rt, rt.alloc(), DEFAULTS);
+    assert_read_as(&rt, rt.alloc(), DEFAULTS);
 }
 
 const DEFAULTS_BESIDE_NAMES: &[(&[&str], &str)] = &[
@@ -86,8 +86,8 @@ const DEFAULTS_BESIDE_NAMES: &[(&[&str], &str)] = &[
 ];
 
 #[test]
-fn words_of_translations_and_gets_have_defaults(rt: HostRuntime) {
-    assert_stated(&rt, rt.alloc(), DEFAULTS_BESIDE_NAMES);
+fn options_of_translations_and_gets_have_defaults(rt: HostRuntime) {
+    assert_read_as(&rt, rt.alloc(), DEFAULTS_BESIDE_NAMES);
 }
 
 const GIVEN: &[(&[&str], &str)] = &[
@@ -146,8 +146,8 @@ const GIVEN: &[(&[&str], &str)] = &[
 ];
 
 #[test]
-fn options_that_are_given_are_stated(rt: HostRuntime) {
-    assert_stated(&rt, rt.alloc(), GIVEN);
+fn options_that_are_given_are_read(rt: HostRuntime) {
+    assert_read_as(&rt, rt.alloc(), GIVEN);
 }
 
 const GIVEN_BESIDE_NAMES: &[(&[&str], &str)] = &[
@@ -191,8 +191,8 @@ const GIVEN_BESIDE_NAMES: &[(&[&str], &str)] = &[
 ];
 
 #[test]
-fn options_of_translations_and_gets_are_stated(rt: HostRuntime) {
-    assert_stated(&rt, rt.alloc(), GIVEN_BESIDE_NAMES);
+fn options_of_translations_and_gets_are_read(rt: HostRuntime) {
+    assert_read_as(&rt, rt.alloc(), GIVEN_BESIDE_NAMES);
 }
 
 const FILES_OF_MODULES: &[(&[&str], &str)] = &[
@@ -251,11 +251,12 @@ const FILES_OF_MODULES: &[(&[&str], &str)] = &[
 ];
 
 #[test]
-fn files_of_modules_are_stated_in_order(rt: HostRuntime) {
-    assert_stated(&rt, rt.alloc(), FILES_OF_MODULES);
+fn module_files_stay_in_order(rt: HostRuntime) {
+    assert_read_as(&rt, rt.alloc(), FILES_OF_MODULES);
 }
 
-/// Options with their values joined, and with their values apart.
+/// Options that are joined to their values, and the same options with the values as further
+/// arguments.
 const JOINED: &[(&[&str], &str)] = &[
     (
         &[
@@ -270,7 +271,7 @@ const JOINED: &[(&[&str], &str)] = &[
             "router",
             ".1",
         ],
-        OF_JOINED,
+        JOB_OF_JOINED,
     ),
     (
         &[
@@ -291,17 +292,17 @@ const JOINED: &[(&[&str], &str)] = &[
             "router",
             ".1",
         ],
-        OF_JOINED,
+        JOB_OF_JOINED,
     ),
 ];
 
-const OF_JOINED: &str = "BulkWalk(WalkJob { asking: Asking { mibs: [], letters: \"n\", \
+const JOB_OF_JOINED: &str = "BulkWalk(WalkJob { asking: Asking { mibs: [], letters: \"n\", \
                          protocol: \"2c\", community: \"private\", retries: 1, seconds: 2, \
                          max_size: 1472, agent: \"router\" }, letters: \"r50\", after: None, \
                          name: Some(\".1\") })";
 
-/// Several options in one word, and a long option joined to its value without an equals sign: these
-/// are refused.
+/// Several options in one argument, and long options joined to their values without an equals sign:
+/// these are refused.
 const NOT_JOINED: &[&[&str]] = &[
     &["snmp", "snmpwalk", "-r1t2", "router"],
     &["snmp", "snmpwalk", "--max-size484", "router"],
@@ -309,8 +310,8 @@ const NOT_JOINED: &[&[&str]] = &[
 ];
 
 #[test]
-fn values_are_joined_or_apart(rt: HostRuntime) {
-    assert_stated(&rt, rt.alloc(), JOINED);
+fn values_are_joined_to_their_option_or_follow_it(rt: HostRuntime) {
+    assert_read_as(&rt, rt.alloc(), JOINED);
     assert_refused(&rt, rt.alloc(), NOT_JOINED);
 }
 
@@ -333,29 +334,29 @@ const REPEATED: &[(&[&str], &str)] = &[(
 )];
 
 #[test]
-fn repeated_options_are_joined_in_order(rt: HostRuntime) {
-    assert_stated(&rt, rt.alloc(), REPEATED);
+fn letters_of_repeated_options_are_joined_in_order(rt: HostRuntime) {
+    assert_read_as(&rt, rt.alloc(), REPEATED);
 }
 
-/// Whether the option may stand once in the words of a walk, and not twice.
-fn stands_once_in_walk(alloc: Global, option: &str) -> bool {
+/// Returns whether `option` is accepted once in the arguments of a walk, and refused twice.
+fn is_single_in_walk(alloc: Global, option: &str) -> bool {
     !are_refused(alloc, &["snmp", "snmpwalk", option, "router"])
         && are_refused(alloc, &["snmp", "snmpwalk", option, option, "router"])
 }
 
-/// Whether the option may stand once in the words of a get, and not twice.
-fn stands_once_in_get(alloc: Global, option: &str) -> bool {
+/// Returns whether `option` is accepted once in the arguments of a Get, and refused twice.
+fn is_single_in_get(alloc: Global, option: &str) -> bool {
     !are_refused(alloc, &["snmp", "snmpget", option, "router", ".1"])
         && are_refused(alloc, &["snmp", "snmpget", option, option, "router", ".1"])
 }
 
-/// Whether the option may stand once in the words of an agent, and not twice.
-fn stands_once_in_serve(alloc: Global, option: &str) -> bool {
+/// Returns whether `option` is accepted once in the arguments of an agent, and refused twice.
+fn is_single_in_serve(alloc: Global, option: &str) -> bool {
     !are_refused(alloc, &["snmp", "snmpd", "--table=t.tab", option])
         && are_refused(alloc, &["snmp", "snmpd", option, "--table=t.tab", option])
 }
 
-const OF_WALKS: &[&str] = &[
+const OPTIONS_OF_WALKS: &[&str] = &[
     "-v2c",
     "-cpublic",
     "-r1",
@@ -364,22 +365,22 @@ const OF_WALKS: &[&str] = &[
     "--after=.1",
 ];
 
-const OF_GETS: &[&str] = &["-v2c", "-cpublic", "-r1", "-t1", "--max-size=1"];
+const OPTIONS_OF_GETS: &[&str] = &["-v2c", "-cpublic", "-r1", "-t1", "--max-size=1"];
 
-const OF_AGENTS: &[&str] = &["-cpublic", "--listen=a:1", "--max-size=1", "--turns=1"];
+const OPTIONS_OF_AGENTS: &[&str] = &["-cpublic", "--listen=a:1", "--max-size=1", "--turns=1"];
 
 #[test]
-fn other_options_stand_once(rt: HostRuntime) {
-    for option in OF_WALKS {
-        assert!(rt; stands_once_in_walk(rt.alloc(), option));
+fn other_options_are_accepted_once(rt: HostRuntime) {
+    for option in OPTIONS_OF_WALKS {
+        assert!(rt; is_single_in_walk(rt.alloc(), option));
     }
-    for option in OF_GETS {
-        assert!(rt; stands_once_in_get(rt.alloc(), option));
+    for option in OPTIONS_OF_GETS {
+        assert!(rt; is_single_in_get(rt.alloc(), option));
     }
     assert!(rt; !are_refused(rt.alloc(), &["snmp", "snmptranslate", "-Td", "x"]));
     assert!(rt; are_refused(rt.alloc(), &["snmp", "snmptranslate", "-Td", "-Td", "x"]));
-    for option in OF_AGENTS {
-        assert!(rt; stands_once_in_serve(rt.alloc(), option));
+    for option in OPTIONS_OF_AGENTS {
+        assert!(rt; is_single_in_serve(rt.alloc(), option));
     }
 }
 
@@ -412,7 +413,7 @@ const WRONG: &[&[&str]] = &[
 ];
 
 #[test]
-fn wrong_words_are_refused(rt: HostRuntime) {
+fn wrong_arguments_are_refused(rt: HostRuntime) {
     assert_refused(&rt, rt.alloc(), WRONG);
 }
 
@@ -430,13 +431,13 @@ const AFTER_TWO_HYPHENS: &[(&[&str], &str)] = &[
     ),
 ];
 
-const AFTER_NONE: &[&[&str]] = &[
+const WITHOUT_TWO_HYPHENS: &[&[&str]] = &[
     &["snmp", "snmpwalk", "router", "-x"],
     &["snmp", "snmptranslate", "x", "-y"],
 ];
 
 #[test]
-fn a_name_may_begin_with_a_hyphen_after_two(rt: HostRuntime) {
-    assert_stated(&rt, rt.alloc(), AFTER_TWO_HYPHENS);
-    assert_refused(&rt, rt.alloc(), AFTER_NONE);
+fn after_two_hyphens_a_name_may_begin_with_one(rt: HostRuntime) {
+    assert_read_as(&rt, rt.alloc(), AFTER_TWO_HYPHENS);
+    assert_refused(&rt, rt.alloc(), WITHOUT_TWO_HYPHENS);
 }

@@ -1,10 +1,10 @@
-//! Help, which is asked for or which a mistake brings.
+//! Help: the usage, the example and the statuses of each command, and the letters that it lists.
 
 use snmp_words::{UsageError, read_words};
 use std::alloc::Global;
 
-/// Whether the text has these lines among its own, each without the blanks before it, and ends
-/// with a newline.
+/// Returns whether `text` ends with a newline, and each of `lines` is a line of it without the
+/// blanks around it.
 fn has_lines(text: &str, lines: &[&str]) -> bool {
     let mut all = true;
     for line in lines {
@@ -14,7 +14,7 @@ fn has_lines(text: &str, lines: &[&str]) -> bool {
     all && text.ends_with('\n')
 }
 
-/// Whether the words ask for help, which has these lines.
+/// Returns whether `words` ask for help, and the help has these lines.
 fn helps(alloc: Global, words: &[&str], lines: &[&str]) -> bool {
     let read = read_words(alloc, words);
     let helped = match &read {
@@ -44,7 +44,7 @@ const LETTERS_OF_VALUES: &[&str] = &[
     "a: strings without a display hint as text",
 ];
 
-/// Each command with the lines of its usage, of its example and of its statuses.
+/// Each command with lines of its help: the usage, the example and the statuses.
 const COMMANDS: &[(&str, &[&str])] = &[
     (
         "snmptranslate",
@@ -109,7 +109,7 @@ fn each_command_has_help_and_an_example(rt: HostRuntime) {
     }
 }
 
-/// Whether the help of the command has one of these lines.
+/// Returns whether the help of `command` has one of these lines.
 fn has_any(alloc: Global, command: &str, lines: &[&str]) -> bool {
     let mut any = false;
     for line in lines {
@@ -118,16 +118,16 @@ fn has_any(alloc: Global, command: &str, lines: &[&str]) -> bool {
     any
 }
 
-/// Whether the help of the command has all of these lines.
+/// Returns whether the help of `command` has all of these lines.
 fn has_all(alloc: Global, command: &str, lines: &[&str]) -> bool {
     helps(alloc, &["snmp", command, "--help"], lines)
 }
 
-const ASKING: &[&str] = &["snmpget", "snmpwalk", "snmpbulkwalk"];
+const COMMANDS_WITH_AGENT: &[&str] = &["snmpget", "snmpwalk", "snmpbulkwalk"];
 
 #[test]
 fn help_lists_the_letters_that_act_in_a_command(rt: HostRuntime) {
-    for command in ASKING {
+    for command in COMMANDS_WITH_AGENT {
         assert!(rt; has_all(rt.alloc(), command, LETTERS_OF_NAMES));
         assert!(rt; has_all(rt.alloc(), command, LETTERS_OF_VALUES));
         assert!(rt; !has_any(rt.alloc(), command, &["d: details"]));
@@ -137,24 +137,28 @@ fn help_lists_the_letters_that_act_in_a_command(rt: HostRuntime) {
     assert!(rt; has_all(rt.alloc(), "snmptranslate", &["d: details"]));
 }
 
-const OF_BOTH_WALKS: &[&str] = &[
+const LETTERS_OF_BOTH_WALKS: &[&str] = &[
     "i: the root's own instance comes first",
     "p: the number of bindings is printed at the end, exceptions too",
 ];
 
-const OF_WALKS: &[&str] = &["I: the root's own instance isn't printed in place of an empty walk"];
+const LETTERS_OF_SNMPWALK: &[&str] = &[
+    "I: the root's own instance isn't printed in place of an empty walk",
+];
 
-const OF_BULK_WALKS: &[&str] = &["rN: N instances a request, 1 to 2147483647; by default 10"];
+const LETTERS_OF_SNMPBULKWALK: &[&str] = &[
+    "rN: N instances a request, 1 to 2147483647; by default 10",
+];
 
 #[test]
 fn help_lists_the_letters_of_a_walk(rt: HostRuntime) {
-    assert!(rt; has_all(rt.alloc(), "snmpwalk", OF_BOTH_WALKS));
-    assert!(rt; has_all(rt.alloc(), "snmpwalk", OF_WALKS));
-    assert!(rt; !has_any(rt.alloc(), "snmpwalk", OF_BULK_WALKS));
-    assert!(rt; has_all(rt.alloc(), "snmpbulkwalk", OF_BOTH_WALKS));
-    assert!(rt; has_all(rt.alloc(), "snmpbulkwalk", OF_BULK_WALKS));
-    assert!(rt; !has_any(rt.alloc(), "snmpbulkwalk", OF_WALKS));
-    assert!(rt; !has_any(rt.alloc(), "snmpget", OF_BOTH_WALKS));
+    assert!(rt; has_all(rt.alloc(), "snmpwalk", LETTERS_OF_BOTH_WALKS));
+    assert!(rt; has_all(rt.alloc(), "snmpwalk", LETTERS_OF_SNMPWALK));
+    assert!(rt; !has_any(rt.alloc(), "snmpwalk", LETTERS_OF_SNMPBULKWALK));
+    assert!(rt; has_all(rt.alloc(), "snmpbulkwalk", LETTERS_OF_BOTH_WALKS));
+    assert!(rt; has_all(rt.alloc(), "snmpbulkwalk", LETTERS_OF_SNMPBULKWALK));
+    assert!(rt; !has_any(rt.alloc(), "snmpbulkwalk", LETTERS_OF_SNMPWALK));
+    assert!(rt; !has_any(rt.alloc(), "snmpget", LETTERS_OF_BOTH_WALKS));
 }
 
 #[test]
@@ -164,7 +168,7 @@ fn help_names_the_manual_and_the_version(rt: HostRuntime) {
         "-v <VERSION>             The version of SNMP: 2c alone, which is the default, and neither \
          1 nor 3",
     ];
-    for command in ASKING {
+    for command in COMMANDS_WITH_AGENT {
         assert!(rt; has_all(rt.alloc(), command, MANUAL));
         assert!(rt; has_all(rt.alloc(), command, VERSION));
     }

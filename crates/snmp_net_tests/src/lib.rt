@@ -1,6 +1,6 @@
-//! Tests of the network: the words for agents, walks over loopback, and links in memory; and of the
-//! words of the command line: what each command makes of them, the ranges of numbers, the help, and
-//! what is said of mistakes.
+//! Tests of the network: the addresses of agents, walks over loopback, and links in memory. Also
+//! tests of the command line: what each command makes of its arguments, the ranges of numbers, the
+//! help, and the messages for mistakes.
 #![tactic(auto)]
 
 #[cfg(test)]

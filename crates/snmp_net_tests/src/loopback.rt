@@ -1,4 +1,4 @@
-//! Walks over UDP sockets of this machine, in one process with no thread.
+//! Walks over UDP sockets of this machine, in one process without threads.
 ghost use Rattle.std.specs.Prelude.{◌≤◌, length};
 ghost use Rattle.snmp_walk.specs.Facts.{IsFresh};
 
@@ -11,11 +11,11 @@ use std::net::{Net, SocketAddr, UdpSocket};
 use std::process::Abort;
 use std::time::Duration;
 
-/// Three rows in no order.
+/// Three rows that aren't in order.
 const THREE: &[u8] =
     b"1.3.6.1.4.1.32473.1.10.0|2|3\n1.3.6.1.4.1.32473.1.2.0|4|wes\n1.3.6.1.4.1.32473.1.1.0|2|1\n";
 
-/// The agent of `public`.
+/// Returns the configuration of the agent of `public`.
 fn public() -> Config<'static> {
     Config {
         community: b"public",
@@ -23,7 +23,7 @@ fn public() -> Config<'static> {
     }
 }
 
-/// The walk of the three rows.
+/// Returns the walk of the three rows.
 fn core_of(rt: &impl Abort) -> WalkCore
     ensures { IsFresh result }
 {
@@ -32,13 +32,13 @@ fn core_of(rt: &impl Abort) -> WalkCore
     core.expect(rt, "a root that can be sent")
 }
 
-/// The table of the three rows.
+/// Returns the table of the three rows.
 fn three(rt: &impl Abort, alloc: Global) -> Table {
     Table::read(alloc, THREE).expect(rt, "a table")
 }
 
-/// Collects the last number but one of each name, and each integer, two decimal digits each, and
-/// counts the rows.
+/// A sink that counts the rows. It also collects the last number but one of each name, and each
+/// integer, as two decimal digits each.
 #[derive(Drop)]
 struct Columns {
     number: u64,
@@ -66,7 +66,7 @@ impl Sink for Columns {
     }
 }
 
-/// A link over which an agent of the same process serves a turn before each receive.
+/// A link whose agent is in the same process, and serves one turn before each receive.
 #[derive(Drop)]
 struct Looped<'a, N> {
     wire: UdpLink,
@@ -115,25 +115,26 @@ impl<'a, N: Net> Link for Looped<'a, N> {
     }
 }
 
-/// A door at a free port.
+/// Opens a door, the socket of a server, at a free port.
 fn open_door<N: Net>(rt: &impl Abort, links: &mut MachineLinks<N>) -> UdpSocket {
     links.bind("127.0.0.1", 0).expect(rt, "a door")
 }
 
-/// The port of a door.
+/// Returns the port of `door`.
 fn port_of(rt: &impl Abort, door: &UdpSocket) -> u16 {
     door.local_addr().expect(rt, "the address of a door").port()
 }
 
-/// A link to this door.
+/// Opens a link to `door`.
 fn wire_to<N: Net>(rt: &impl Abort, links: &mut MachineLinks<N>, door: &UdpSocket) -> UdpLink {
     links
         .open("127.0.0.1", port_of(rt, door), 1)
         .expect(rt, "a link")
 }
 
-/// Whether the walk ends in this way, with this many rows, whose columns are these.
-fn walk_gives<L: Link>(
+/// Runs a walk over `link`, and returns whether it ends with `end`, has `rows` rows, and their
+/// columns are collected as `number`.
+fn walk_returns<L: Link>(
     link: &mut L,
     core: WalkCore,
     retries: u32,
@@ -149,8 +150,9 @@ fn walk_gives<L: Link>(
         && columns.number == number
 }
 
-/// Whether a walk gives the three rows, by the replies of four turns.
-fn gives_each_row<N: Net>(looped: &mut Looped<'_, N>, core: WalkCore) -> bool
+/// Returns whether a walk returns the three rows, and took four turns of the agent with a reply
+/// each.
+fn returns_each_row<N: Net>(looped: &mut Looped<'_, N>, core: WalkCore) -> bool
     requires { IsFresh core }
 {
     let served = Served {
@@ -159,13 +161,14 @@ fn gives_each_row<N: Net>(looped: &mut Looped<'_, N>, core: WalkCore) -> bool
         idle: 0,
         faults: 0,
     };
-    walk_gives(looped, core, 0, &WalkEnd::Done(3), 3, 101021003)
+    walk_returns(looped, core, 0, &WalkEnd::Done(3), 3, 101021003)
         && looped.served == served
         && looped.faults() == 0
         && looped.links.faults() == 0
 }
 
-/// The walk over this link, to whose door the table of the three rows is served, gives them.
+/// Asserts that a walk over `wire`, whose agent serves the table of the three rows at `door`,
+/// returns each of them.
 fn assert_each_row<N: Net + Drop>(
     rt: &impl Abort,
     alloc: Global,
@@ -181,11 +184,11 @@ fn assert_each_row<N: Net + Drop>(
         table: &table,
         served: Served::default(),
     };
-    assert!(rt; gives_each_row(&mut looped, core_of(rt)));
+    assert!(rt; returns_each_row(&mut looped, core_of(rt)));
 }
 
 #[test]
-fn a_walk_over_loopback_gives_each_row(rt: HostRuntime) {
+fn a_walk_over_loopback_returns_each_row(rt: HostRuntime) {
     let mut links = MachineLinks::new(&rt);
     let door = open_door(&rt, &mut links);
     let wire = wire_to(&rt, &mut links, &door);
@@ -193,20 +196,20 @@ fn a_walk_over_loopback_gives_each_row(rt: HostRuntime) {
 }
 
 #[test]
-fn a_walk_over_a_link_of_the_caller_gives_each_row(rt: HostRuntime) {
+fn a_walk_over_a_link_of_the_caller_returns_each_row(rt: HostRuntime) {
     let mut links = MachineLinks::new(&rt);
     let door = open_door(&rt, &mut links);
     let wire = UdpLink::open(&rt, "127.0.0.1", port_of(&rt, &door), 1).expect(&rt, "a link");
     assert_each_row(&rt, rt.alloc(), links, door, wire);
 }
 
-/// The octets of the next datagram that comes to this door, in the buffer.
+/// Returns the next datagram that arrives at `door`, in `buffer`.
 fn received<'a>(rt: &impl Abort, door: &UdpSocket, buffer: &'a mut [u8; 1472]) -> &'a [u8] {
     let (size, _) = door.recv_from(buffer).expect(rt, "a datagram");
     buffer.get(..size).unwrap_or(&[])
 }
 
-/// Whether two datagrams came to this door that are the same and not empty, and no third.
+/// Returns whether two equal datagrams arrived at `door` that aren't empty, and no third.
 fn has_two_alike(rt: &impl Abort, door: &UdpSocket) -> bool {
     let mut first = [0; 1472];
     let mut second = [0; 1472];
@@ -217,22 +220,22 @@ fn has_two_alike(rt: &impl Abort, door: &UdpSocket) -> bool {
         && door.recv_from(&mut third).is_err()
 }
 
-/// The walk over this link, to which this door doesn't reply, sends its first request twice.
+/// Asserts that a walk over `wire` sends its first request twice, if no reply is sent from `door`.
 fn assert_silent(rt: &impl Abort, wire: &mut UdpLink, door: &UdpSocket) {
-    assert!(rt; walk_gives(wire, core_of(rt), 1, &WalkEnd::NoResponse, 0, 0));
+    assert!(rt; walk_returns(wire, core_of(rt), 1, &WalkEnd::NoResponse, 0, 0));
     assert!(rt; wire.faults() == 0);
     assert!(rt; has_two_alike(rt, door));
 }
 
 #[test]
-fn a_silent_agent_is_asked_as_often_as_allowed(rt: HostRuntime) {
+fn a_silent_agent_is_asked_again_once_per_retry(rt: HostRuntime) {
     let mut links = MachineLinks::new(&rt);
     let door = open_door(&rt, &mut links);
     let mut wire = wire_to(&rt, &mut links, &door);
     assert_silent(&rt, &mut wire, &door);
 }
 
-/// Sends a request over the link, and returns who sent what came to the door.
+/// Sends a request over `wire`, and returns the sender of the datagram that arrives at `door`.
 fn sender_of(rt: &impl Abort, wire: &mut UdpLink, door: &UdpSocket) -> SocketAddr {
     let mut buffer = [0; 1472];
     assert!(rt; wire.send(b"request").is_ok());
@@ -241,7 +244,7 @@ fn sender_of(rt: &impl Abort, wire: &mut UdpLink, door: &UdpSocket) -> SocketAdd
     sender
 }
 
-/// Whether the link receives a stray of no octets, the reply, and nothing more.
+/// Returns whether `wire` receives a stray without octets, then the reply, and nothing more.
 fn receives_reply(wire: &mut UdpLink) -> bool {
     let mut buffer = [0; 1472];
     wire.receive(&mut buffer) == Ok(Some(0))
@@ -251,7 +254,8 @@ fn receives_reply(wire: &mut UdpLink) -> bool {
         && wire.faults() == 0
 }
 
-/// Of two datagrams that come to the link, that of its own door is the reply.
+/// Sends two datagrams to `wire`, the first from another door. Asserts that the one from its own
+/// door is the reply.
 fn assert_reply(rt: &impl Abort, wire: &mut UdpLink, door: &UdpSocket, other: &UdpSocket) {
     let sender = sender_of(rt, wire, door);
     assert!(rt; other.send_to(b"another", sender).is_ok());
@@ -260,7 +264,7 @@ fn assert_reply(rt: &impl Abort, wire: &mut UdpLink, door: &UdpSocket, other: &U
 }
 
 #[test]
-fn a_datagram_of_another_sender_is_a_stray(rt: HostRuntime) {
+fn a_datagram_from_another_sender_is_a_stray(rt: HostRuntime) {
     let mut links = MachineLinks::new(&rt);
     let door = open_door(&rt, &mut links);
     let other = open_door(&rt, &mut links);
@@ -268,12 +272,12 @@ fn a_datagram_of_another_sender_is_a_stray(rt: HostRuntime) {
     assert_reply(&rt, &mut wire, &door, &other);
 }
 
-/// Whether no link is opened to this host, and this is the fault of this number.
+/// Returns whether no link to `host` is opened, and this is fault number `number`.
 fn is_open_refused<N: Net>(links: &mut MachineLinks<N>, host: &str, number: u64) -> bool {
     links.open(host, 161, 1).is_err() && links.faults() == number
 }
 
-/// Whether no door is opened at this port, and this is the fault of this number.
+/// Returns whether no door at this port is opened, and this is fault number `number`.
 fn is_bind_refused<N: Net>(
     links: &mut MachineLinks<N>,
     host: &str,
@@ -283,20 +287,20 @@ fn is_bind_refused<N: Net>(
     links.bind(host, port).is_err() && links.faults() == number
 }
 
-/// Whether the port of an open door is refused, as the third fault.
+/// Returns whether the port of an open door is refused, and this is the third fault.
 fn is_port_refused<N: Net>(rt: &impl Abort, links: &mut MachineLinks<N>) -> bool {
     let door = open_door(rt, links);
     is_bind_refused(links, "127.0.0.1", port_of(rt, &door), 3)
 }
 
-/// Whether a datagram that is too long isn't sent, and this is the first fault.
+/// Returns whether a datagram that is too long isn't sent, and this is the first fault.
 fn is_send_refused<N: Net>(rt: &impl Abort, links: &mut MachineLinks<N>) -> bool {
     let mut wire = links.open("127.0.0.1", 1, 1).expect(rt, "a link");
     wire.send(&[0; 65508]).is_err() && wire.faults() == 1
 }
 
 #[test]
-fn each_refusal_is_counted(rt: HostRuntime) {
+fn each_failed_call_is_counted(rt: HostRuntime) {
     let mut links = MachineLinks::new(&rt);
     assert!(rt; is_open_refused(&mut links, "::1", 1));
     assert!(rt; UdpLink::open(&rt, "::1", 161, 1).is_err());
@@ -305,19 +309,19 @@ fn each_refusal_is_counted(rt: HostRuntime) {
     assert!(rt; is_send_refused(&rt, &mut links));
 }
 
-/// Whether a receive at this door waits a second.
+/// Returns whether a receive at `door` waits for a second.
 fn waits_a_second(door: &UdpSocket) -> bool {
     matches!(door.read_timeout(), Ok(Some(time)) if time == Duration::from_secs(1))
 }
 
-/// Whether a turn at a door to which nothing comes waits a second, and is idle.
+/// Returns whether a turn at a door where nothing arrives waits for a second, and is idle.
 fn is_idle_turn<N: Net>(rt: &impl Abort, links: &mut MachineLinks<N>, table: &Table) -> bool {
     let mut door = links.bind("localhost", 0).expect(rt, "a door");
     waits_a_second(&door) && links.serve(&mut door, table, &public(), 1).idle == 1
 }
 
 #[test]
-fn a_turn_takes_a_second_at_most(rt: HostRuntime) {
+fn a_turn_waits_for_a_second_at_most(rt: HostRuntime) {
     let table = three(&rt, rt.alloc());
     assert!(rt; is_idle_turn(&rt, &mut MachineLinks::new(&rt), &table));
 }

@@ -1,4 +1,4 @@
-//! Links and doors in memory.
+//! Links and doors in memory. A door is the socket of a server.
 ghost use Rattle.std.specs.Prelude.{◌≤◌, length};
 
 use snmp_agent::{Config, Table};
@@ -9,20 +9,20 @@ use snmp_wire::{Binding, parse_numeric};
 use std::alloc::Global;
 use std::process::Abort;
 
-/// The Get of sysName.0, in community `public` with id 1.
+/// The GetRequest of sysName.0, with community `public` and id 1.
 const GET: [u8; 40] = [
     0x30, 0x26, 0x02, 0x01, 0x01, 0x04, 0x06, 0x70, 0x75, 0x62, 0x6C, 0x69, 0x63, 0xA0, 0x19, 0x02,
     0x01, 0x01, 0x02, 0x01, 0x00, 0x02, 0x01, 0x00, 0x30, 0x0E, 0x30, 0x0C, 0x06, 0x08, 0x2B, 0x06,
     0x01, 0x02, 0x01, 0x01, 0x05, 0x00, 0x05, 0x00,
 ];
 
-/// The agent of `public`.
+/// The configuration of the agent of `public`.
 const PUBLIC: Config<'static> = Config {
     community: b"public",
     max_size: 1472,
 };
 
-/// Takes each row.
+/// A sink that takes each row.
 #[derive(Drop)]
 struct Any;
 
@@ -34,7 +34,7 @@ impl Sink for Any {
     }
 }
 
-/// The walk of `system` over the link to this port of host `a` gives this many rows.
+/// Asserts that the walk of `system` over the link to this port of host `a` returns `rows` rows.
 fn assert_rows(rt: &impl Abort, links: &mut MemoryLinks<'_>, port: u16, rows: u64) {
     let root = parse_numeric(b"1.3.6.1.2.1.1").expect(rt, "a name");
     let core = WalkCore::start(root, Mode::NoLast, Method::Next, b"public", 1);
@@ -43,8 +43,8 @@ fn assert_rows(rt: &impl Abort, links: &mut MemoryLinks<'_>, port: u16, rows: u6
     assert!(rt; run_walk(&mut wire, core, 0, &mut Any) == WalkEnd::Done(rows));
 }
 
-/// Whether links that had no fault refuse a link where there is no agent, and a door where there is
-/// one, and count each as a fault.
+/// Returns whether links without a fault so far refuse a link to an address without an agent, and a
+/// door at the address of an agent, and count each refusal as a fault.
 fn are_refusals_counted(links: &mut MemoryLinks<'_>) -> bool {
     links.faults() == 0
         && links.open("b", 161, 1).is_err()
@@ -53,19 +53,20 @@ fn are_refusals_counted(links: &mut MemoryLinks<'_>) -> bool {
         && links.faults() == 3
 }
 
-/// Of four turns at a door, one replies to the Get, one drops what is no message, and two are idle.
+/// Asserts that of four turns at a door, one replies to the Get, one drops a datagram that isn't a
+/// message, and two are idle.
 fn assert_served(rt: &impl Abort, links: &mut MemoryLinks<'_>, table: &Table) {
     let mut door = links.bind("b", 161).expect(rt, "a door");
     let served = links.serve(&mut door, table, &PUBLIC, 4);
     assert!(rt; served.replies == 1 && served.dropped == 1 && served.idle == 2);
 }
 
-/// The table of this text.
+/// Returns the table that `text` contains.
 fn table_of(rt: &impl Abort, alloc: Global, text: &[u8]) -> Table {
     Table::read(alloc, text).expect(rt, "a table")
 }
 
-/// The agent at this port of host `a`.
+/// Returns the agent at this port of host `a`.
 fn agent(port: u16, table: &Table) -> MemoryAgent<'_> {
     MemoryAgent {
         host: "a",
@@ -76,7 +77,7 @@ fn agent(port: u16, table: &Table) -> MemoryAgent<'_> {
     }
 }
 
-/// The links to three agents, two of them at one port, reach the first at each port.
+/// Asserts that links to three agents, two of them at one port, reach the first agent at each port.
 fn assert_links(rt: &impl Abort, alloc: Global, one: &Table, none: &Table) {
     let agents = [agent(161, one), agent(162, none), agent(161, none)];
     let requests = [GET.as_slice(), b"no message".as_slice()];
@@ -88,7 +89,7 @@ fn assert_links(rt: &impl Abort, alloc: Global, one: &Table, none: &Table) {
 }
 
 #[test]
-fn each_agent_has_its_link(rt: HostRuntime) {
+fn links_reach_the_first_agent_at_a_port(rt: HostRuntime) {
     let one = table_of(&rt, rt.alloc(), b"1.3.6.1.2.1.1.5.0|4|wes\n");
     let none = table_of(&rt, rt.alloc(), b"");
     assert_links(&rt, rt.alloc(), &one, &none);

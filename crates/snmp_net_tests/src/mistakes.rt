@@ -1,11 +1,11 @@
-//! What is said of mistakes in the words: the whole text, with what was expected and which help to
-//! read.
+//! The messages for mistakes in the arguments. Each is compared as a whole: the mistake, tips on
+//! what is expected, and the help to read.
 
 use snmp_words::{UsageError, read_words};
 use std::alloc::Global;
 use std::process::Abort;
 
-/// Whether the words are refused with this text.
+/// Returns whether `words` are refused with the message `wanted`.
 fn says(alloc: Global, words: &[&str], wanted: &str) -> bool {
     let read = read_words(alloc, words);
     let said = match &read {
@@ -16,14 +16,14 @@ fn says(alloc: Global, words: &[&str], wanted: &str) -> bool {
     said
 }
 
-/// Asserts of each row that its words are refused with its text.
+/// Asserts that the arguments of each row are refused with its message.
 fn assert_said(rt: &impl Abort, alloc: Global, rows: &[(&[&str], &str)]) {
     for (words, text) in rows {
         assert!(rt; says(alloc, words, text), "{words:?}");
     }
 }
 
-const OF_NET_SNMP: &[(&[&str], &str)] = &[
+const NET_SNMP_ARGUMENTS: &[(&[&str], &str)] = &[
     (
         &["snmp", "snmpwalk", "-m", "ALL", "router"],
         "error: unexpected argument '-m' found\n\n\
@@ -109,11 +109,11 @@ const OF_NET_SNMP: &[(&[&str], &str)] = &[
 ];
 
 #[test]
-fn words_of_net_snmp_get_a_tip(rt: HostRuntime) {
-    assert_said(&rt, rt.alloc(), OF_NET_SNMP);
+fn arguments_of_net_snmp_get_a_tip(rt: HostRuntime) {
+    assert_said(&rt, rt.alloc(), NET_SNMP_ARGUMENTS);
 }
 
-const OTHERS: &[(&[&str], &str)] = &[
+const OTHER_MISTAKES: &[(&[&str], &str)] = &[
     (
         &["snmp", "snmpwalk", "-q", "router"],
         "error: unexpected argument '-q' found\n\n\
@@ -166,11 +166,11 @@ const OTHERS: &[(&[&str], &str)] = &[
 ];
 
 #[test]
-fn other_mistakes_name_the_word_and_the_help(rt: HostRuntime) {
-    assert_said(&rt, rt.alloc(), OTHERS);
+fn other_mistakes_name_the_argument_and_the_help(rt: HostRuntime) {
+    assert_said(&rt, rt.alloc(), OTHER_MISTAKES);
 }
 
-const VALUES: &[(&[&str], &str)] = &[
+const BAD_VALUES: &[(&[&str], &str)] = &[
     (
         &["snmp", "snmpwalk", "-r", "x", "router"],
         "error: invalid value 'x' for '-r <RETRIES>': invalid digit found in string\n\n\
@@ -240,11 +240,11 @@ const VALUES: &[(&[&str], &str)] = &[
 ];
 
 #[test]
-fn values_that_are_refused_say_what_is_expected(rt: HostRuntime) {
-    assert_said(&rt, rt.alloc(), VALUES);
+fn refused_values_get_a_tip_on_what_is_expected(rt: HostRuntime) {
+    assert_said(&rt, rt.alloc(), BAD_VALUES);
 }
 
-const VERSIONS: &[(&[&str], &str)] = &[
+const OTHER_VERSIONS: &[(&[&str], &str)] = &[
     (
         &["snmp", "snmpwalk", "-v1", "-m", "ALL", "router"],
         "error: unexpected argument '-m' found\n\n\
@@ -276,6 +276,6 @@ const VERSIONS: &[(&[&str], &str)] = &[
 ];
 
 #[test]
-fn a_mistake_beside_another_version_has_a_tip_on_that(rt: HostRuntime) {
-    assert_said(&rt, rt.alloc(), VERSIONS);
+fn a_mistake_beside_another_version_gets_a_tip_on_the_version(rt: HostRuntime) {
+    assert_said(&rt, rt.alloc(), OTHER_VERSIONS);
 }

@@ -1,12 +1,13 @@
-//! The ranges of numbers, at their ends and past them.
+//! The ranges of numbers: at their limits and past them.
 
 use crate::commands::{are_refused, assert_refused};
 use snmp_words::{Job, read_words};
 use std::alloc::Global;
 use std::process::Abort;
 
-/// What a walk has of this option: its retries, seconds and greatest size.
-fn asked(alloc: Global, option: &str, number: &str) -> Option<(u64, u64, u64)> {
+/// Returns the retries, the seconds and the greatest message size of a walk with this option.
+/// Returns `None` if the arguments are refused.
+fn walk_numbers(alloc: Global, option: &str, number: &str) -> Option<(u64, u64, u64)> {
     let words = ["snmp", "snmpwalk", option, number, "router"];
     let read = read_words(alloc, &words);
     let numbers = match &read {
@@ -21,8 +22,9 @@ fn asked(alloc: Global, option: &str, number: &str) -> Option<(u64, u64, u64)> {
     numbers
 }
 
-/// What an agent has of this option: its greatest size and turns.
-fn served(alloc: Global, option: &str, number: &str) -> Option<(u64, u64)> {
+/// Returns the greatest message size and the turns of an agent with this option. Returns `None` if
+/// the arguments are refused.
+fn agent_numbers(alloc: Global, option: &str, number: &str) -> Option<(u64, u64)> {
     let words = ["snmp", "snmpd", "--table=t.tab", option, number];
     let read = read_words(alloc, &words);
     let numbers = match &read {
@@ -33,8 +35,9 @@ fn served(alloc: Global, option: &str, number: &str) -> Option<(u64, u64)> {
     numbers
 }
 
-/// Options and numbers, each with the retries, seconds and greatest size that a walk then has.
-const ASKED: &[(&str, &str, (u64, u64, u64))] = &[
+/// Options with numbers, each with the retries, the seconds and the greatest message size that a
+/// walk then has.
+const WALK_NUMBERS: &[(&str, &str, (u64, u64, u64))] = &[
     ("-r", "0", (0, 1, 1472)),
     ("-r", "1000", (1000, 1, 1472)),
     ("-r", "007", (7, 1, 1472)),
@@ -47,18 +50,18 @@ const ASKED: &[(&str, &str, (u64, u64, u64))] = &[
     ("--max-size", "0484", (5, 1, 484)),
 ];
 
-/// Whether a walk with this option and number is refused, and no help is asked for.
+/// Returns whether a walk with this option is refused as a mistake.
 fn is_refused(alloc: Global, option: &str, number: &str) -> bool {
     are_refused(alloc, &["snmp", "snmpwalk", option, number, "router"])
 }
 
-/// Whether a bulk walk with this option and number is refused, and no help is asked for.
+/// Returns whether a bulk walk with this option is refused as a mistake.
 fn is_refused_in_bulk(alloc: Global, option: &str, number: &str) -> bool {
     are_refused(alloc, &["snmp", "snmpbulkwalk", option, number, "router"])
 }
 
-/// Options of walks with numbers past their ends.
-const NOT_ASKED: &[(&str, &str)] = &[
+/// Options of walks with numbers past their limits.
+const BAD_WALK_NUMBERS: &[(&str, &str)] = &[
     ("-r", "1001"),
     ("-r", "18446744073709551616"),
     ("-t", "0"),
@@ -67,37 +70,37 @@ const NOT_ASKED: &[(&str, &str)] = &[
     ("--max-size", "65508"),
 ];
 
-const NO_NUMBERS: &[&str] = &["", "x", "1.5", "0x10", "-1", " 1"];
+const NOT_NUMBERS: &[&str] = &["", "x", "1.5", "0x10", "-1", " 1"];
 
-/// Asserts that the option of walks is refused with a text that is no number.
-fn assert_number(rt: &impl Abort, alloc: Global, option: &str) {
-    for text in NO_NUMBERS {
+/// Asserts that a walk refuses `option` with each text that isn't a whole number.
+fn assert_only_numbers(rt: &impl Abort, alloc: Global, option: &str) {
+    for text in NOT_NUMBERS {
         assert!(rt; is_refused(alloc, option, text), "{option} {text:?}");
     }
 }
 
 #[test]
-fn numbers_of_requests(rt: HostRuntime) {
-    for (option, text, numbers) in ASKED {
+fn numbers_of_walks_stay_within_their_ranges(rt: HostRuntime) {
+    for (option, text, numbers) in WALK_NUMBERS {
         assert!(rt;
-            asked(rt.alloc(), option, text) == Some(*numbers),
+            walk_numbers(rt.alloc(), option, text) == Some(*numbers),
             "{option} {text}"
         );
     }
-    for (option, text) in NOT_ASKED {
+    for (option, text) in BAD_WALK_NUMBERS {
         assert!(rt; is_refused(rt.alloc(), option, text), "{option} {text}");
         assert!(rt;
             is_refused_in_bulk(rt.alloc(), option, text),
             "{option} {text}"
         );
     }
-    assert_number(&rt, rt.alloc(), "-r");
-    assert_number(&rt, rt.alloc(), "-t");
-    assert_number(&rt, rt.alloc(), "--max-size");
+    assert_only_numbers(&rt, rt.alloc(), "-r");
+    assert_only_numbers(&rt, rt.alloc(), "-t");
+    assert_only_numbers(&rt, rt.alloc(), "--max-size");
 }
 
-/// Options and numbers, each with the greatest size and the turns that an agent then has.
-const SERVED: &[(&str, &str, (u64, u64))] = &[
+/// Options with numbers, each with the greatest message size and the turns that an agent then has.
+const AGENT_NUMBERS: &[(&str, &str, (u64, u64))] = &[
     ("--max-size", "1", (1, u64::MAX)),
     ("--max-size", "65507", (65507, u64::MAX)),
     ("--turns", "0", (1472, 0)),
@@ -105,8 +108,8 @@ const SERVED: &[(&str, &str, (u64, u64))] = &[
     ("--turns", "18446744073709551615", (1472, u64::MAX)),
 ];
 
-/// Options of an agent with numbers past their ends, or with none.
-const NOT_SERVED: &[&[&str]] = &[
+/// Options of an agent with numbers past their limits, or without a number.
+const BAD_AGENT_NUMBERS: &[&[&str]] = &[
     &["snmp", "snmpd", "--table=t.tab", "--max-size", "0"],
     &["snmp", "snmpd", "--table=t.tab", "--max-size", "65508"],
     &[
@@ -121,12 +124,12 @@ const NOT_SERVED: &[&[&str]] = &[
 ];
 
 #[test]
-fn numbers_of_an_agent(rt: HostRuntime) {
-    for (option, text, numbers) in SERVED {
+fn numbers_of_an_agent_stay_within_their_ranges(rt: HostRuntime) {
+    for (option, text, numbers) in AGENT_NUMBERS {
         assert!(rt;
-            served(rt.alloc(), option, text) == Some(*numbers),
+            agent_numbers(rt.alloc(), option, text) == Some(*numbers),
             "{option} {text}"
         );
     }
-    assert_refused(&rt, rt.alloc(), NOT_SERVED);
+    assert_refused(&rt, rt.alloc(), BAD_AGENT_NUMBERS);
 }

@@ -1,31 +1,31 @@
-//! Which words name agents.
+//! Arguments that are addresses: of agents, and to listen at.
 
 use snmp_net::{AgentAddress, UdpAddress};
 
-/// Whether the word means the agent at this port of this host.
+/// Returns whether `word` is the address of the agent at this port of this host.
 fn is_udp(word: &str, host: &str, port: u16) -> bool {
     let at = UdpAddress { host, port };
     AgentAddress::read(word) == Some(AgentAddress::Udp(at))
 }
 
-/// Whether the word means the agent of the table in this file.
+/// Returns whether `word` names the agent whose table is in this file.
 fn is_table(word: &str, path: &str) -> bool {
     AgentAddress::read(word) == Some(AgentAddress::Table(path))
 }
 
-/// Whether the word means no agent.
+/// Returns whether `word` isn't the address of an agent.
 fn is_no_agent(word: &str) -> bool {
     AgentAddress::read(word).is_none()
 }
 
-/// Whether the word means no place to listen.
-fn is_no_place(word: &str) -> bool {
+/// Returns whether `word` isn't an address to listen at.
+fn is_no_listen_address(word: &str) -> bool {
     UdpAddress::read(word).is_none()
 }
 
 #[test]
-fn words_for_agents_are_read(rt: HostRuntime) {
-    // The word, and the host and the port of the agent.
+fn addresses_of_agents_are_read(rt: HostRuntime) {
+    // The argument, and the host and the port of the agent.
     const AGENTS: &[(&str, &str, u16)] = &[
         ("router", "router", 161),
         ("192.0.2.1", "192.0.2.1", 161),
@@ -44,7 +44,7 @@ fn words_for_agents_are_read(rt: HostRuntime) {
     for &(word, host, port) in AGENTS {
         assert!(rt; is_udp(word, host, port));
     }
-    // The word, and the path of the agent's table.
+    // The argument, and the path of the agent's table.
     const TABLES: &[(&str, &str)] = &[
         ("table:three.tab", "three.tab"),
         ("table:udp:a:b", "udp:a:b"),
@@ -56,8 +56,8 @@ fn words_for_agents_are_read(rt: HostRuntime) {
 }
 
 #[test]
-fn other_words_name_no_agent(rt: HostRuntime) {
-    const WORDS: &[&str] = &[
+fn other_arguments_are_no_address_of_an_agent(rt: HostRuntime) {
+    const OTHERS: &[&str] = &[
         "",
         ":",
         ":161",
@@ -78,30 +78,30 @@ fn other_words_name_no_agent(rt: HostRuntime) {
         "udp:udp:a:1",
         "a:99999999999999999999",
     ];
-    for word in WORDS {
+    for word in OTHERS {
         assert!(rt; is_no_agent(word));
     }
 }
 
-/// Whether the word is a place to listen, at this port of this host.
-fn is_place(word: &str, host: &str, port: u16) -> bool {
+/// Returns whether `word` is an address to listen at: this port of this host.
+fn is_listen_address(word: &str, host: &str, port: u16) -> bool {
     UdpAddress::read(word) == Some(UdpAddress { host, port })
 }
 
 #[test]
-fn a_place_to_listen_has_its_port(rt: HostRuntime) {
-    // The word, and the host and the port.
-    const PLACES: &[(&str, &str, u16)] = &[
+fn an_address_to_listen_at_has_a_port(rt: HostRuntime) {
+    // The argument, and its host and port.
+    const ADDRESSES: &[(&str, &str, u16)] = &[
         ("127.0.0.1:1161", "127.0.0.1", 1161),
         ("0.0.0.0:161", "0.0.0.0", 161),
         ("host:161", "host", 161),
         ("tables:161", "tables", 161),
         ("udp.example:161", "udp.example", 161),
     ];
-    for &(word, host, port) in PLACES {
-        assert!(rt; is_place(word, host, port));
+    for &(word, host, port) in ADDRESSES {
+        assert!(rt; is_listen_address(word, host, port));
     }
-    const WORDS: &[&str] = &[
+    const OTHERS: &[&str] = &[
         "127.0.0.1",
         "udp:127.0.0.1:161",
         "udp:161",
@@ -114,7 +114,7 @@ fn a_place_to_listen_has_its_port(rt: HostRuntime) {
         "table:x",
         "",
     ];
-    for word in WORDS {
-        assert!(rt; is_no_place(word));
+    for word in OTHERS {
+        assert!(rt; is_no_listen_address(word));
     }
 }
