@@ -1,56 +1,56 @@
-//! Datagrams and their replies, worked out by hand.
+//! Datagrams and the replies to them, worked out by hand.
 ghost use Rattle.std.specs.Prelude.{IsTrue};
 ghost use Rattle.snmp_wire.specs.Canon.{IsEncodable};
 ghost use Rattle.snmp_wire.specs.ber.Canon.{IsEncodableValue};
 ghost use Rattle.snmp_wire.specs.ber.Value.{datum};
 ghost use Rattle.snmp_wire.specs.Message.{var_bind};
 
-use crate::table::{repeated, table_of};
+use crate::table::{repeated_text, table_of};
 use snmp_agent::{Config, Outcome, Table, Why, answer};
 use snmp_wire::{
     Binding, MessageRef, Parts, ValueRef, binding_size, decode, encode_binding, encode_head,
 };
 use std::process::Abort;
 
-/// The table of sysName.0 alone.
+/// A table file with sysName.0 only.
 pub(crate) const SYS_NAME: &[u8] = b"1.3.6.1.2.1.1.5.0|4|wes";
 
-/// The Get of sysName.0, in community `public` with id 1.
+/// The GetRequest of sysName.0, with community `public` and id 1.
 pub(crate) const GET: [u8; 40] = [
     0x30, 0x26, 0x02, 0x01, 0x01, 0x04, 0x06, 0x70, 0x75, 0x62, 0x6C, 0x69, 0x63, 0xA0, 0x19, 0x02,
     0x01, 0x01, 0x02, 0x01, 0x00, 0x02, 0x01, 0x00, 0x30, 0x0E, 0x30, 0x0C, 0x06, 0x08, 0x2B, 0x06,
     0x01, 0x02, 0x01, 0x01, 0x05, 0x00, 0x05, 0x00,
 ];
 
-/// Its Response, with the string `wes`.
+/// The Response to `GET`, with the string `wes`.
 pub(crate) const GOT: [u8; 43] = [
     0x30, 0x29, 0x02, 0x01, 0x01, 0x04, 0x06, 0x70, 0x75, 0x62, 0x6C, 0x69, 0x63, 0xA2, 0x1C, 0x02,
     0x01, 0x01, 0x02, 0x01, 0x00, 0x02, 0x01, 0x00, 0x30, 0x11, 0x30, 0x0F, 0x06, 0x08, 0x2B, 0x06,
     0x01, 0x02, 0x01, 0x01, 0x05, 0x00, 0x04, 0x03, 0x77, 0x65, 0x73,
 ];
 
-/// The Response to it where that fits no message of the agent: tooBig.
+/// The Response to `GET` if `GOT` doesn't fit into a message of the agent: tooBig.
 const TOO_BIG: [u8; 26] = [
     0x30, 0x18, 0x02, 0x01, 0x01, 0x04, 0x06, 0x70, 0x75, 0x62, 0x6C, 0x69, 0x63, 0xA2, 0x0B, 0x02,
     0x01, 0x01, 0x02, 0x01, 0x01, 0x02, 0x01, 0x00, 0x30, 0x00,
 ];
 
-/// A Set of sysName.0.
+/// A SetRequest of sysName.0.
 const SET: [u8; 41] = [
     0x30, 0x27, 0x02, 0x01, 0x01, 0x04, 0x06, 0x70, 0x75, 0x62, 0x6C, 0x69, 0x63, 0xA3, 0x1A, 0x02,
     0x01, 0x01, 0x02, 0x01, 0x00, 0x02, 0x01, 0x00, 0x30, 0x0F, 0x30, 0x0D, 0x06, 0x08, 0x2B, 0x06,
     0x01, 0x02, 0x01, 0x01, 0x05, 0x00, 0x02, 0x01, 0x01,
 ];
 
-/// Its Response: notWritable, at the first binding.
+/// The Response to `SET`: notWritable, at the first binding.
 const NOT_SET: [u8; 41] = [
     0x30, 0x27, 0x02, 0x01, 0x01, 0x04, 0x06, 0x70, 0x75, 0x62, 0x6C, 0x69, 0x63, 0xA2, 0x1A, 0x02,
     0x01, 0x01, 0x02, 0x01, 0x11, 0x02, 0x01, 0x01, 0x30, 0x0F, 0x30, 0x0D, 0x06, 0x08, 0x2B, 0x06,
     0x01, 0x02, 0x01, 0x01, 0x05, 0x00, 0x02, 0x01, 0x01,
 ];
 
-/// What the agent of `public`, with messages of at most `max_size` octets, from 1 to 65507, does
-/// with the request.
+/// Returns what the agent of `public` does with `request`. Its messages have at most `max_size`
+/// octets, from 1 to 65507.
 pub(crate) fn outcome(
     table: &Table,
     max_size: usize,
@@ -65,8 +65,7 @@ pub(crate) fn outcome(
     answer(table, &config, request, out)
 }
 
-/// Whether the agent of `public`, with messages of at most `max_size` octets, from 1 to 65507,
-/// replies with just these octets.
+/// Returns whether the agent of [`outcome`] replies with exactly the octets of `reply`.
 fn is_reply(table: &Table, max_size: usize, request: &[u8], reply: &[u8]) -> bool {
     let mut out = [0; 65507];
     match outcome(table, max_size, request, &mut out) {
@@ -75,13 +74,12 @@ fn is_reply(table: &Table, max_size: usize, request: &[u8], reply: &[u8]) -> boo
     }
 }
 
-/// Asserts that it does.
+/// Asserts [`is_reply`].
 fn assert_reply(rt: &impl Abort, table: &Table, max_size: usize, request: &[u8], reply: &[u8]) {
     assert!(rt; is_reply(table, max_size, request, reply), "{request:?}");
 }
 
-/// Asserts that the agent of `public`, with messages of at most `max_size` octets, from 1 to 65507,
-/// drops the request for this reason.
+/// Asserts that the agent of [`outcome`] drops the request for this reason.
 pub(crate) fn assert_dropped(
     rt: &impl Abort,
     table: &Table,
@@ -108,7 +106,7 @@ fn a_get_has_its_reply_in_the_shortest_encoding(rt: HostRuntime) {
 }
 
 #[test]
-fn a_reply_too_long_is_too_big(rt: HostRuntime) {
+fn a_reply_that_does_not_fit_becomes_too_big(rt: HostRuntime) {
     let table = table_of(&rt, rt.alloc(), SYS_NAME);
     assert_reply(&rt, &table, 42, &GET, &TOO_BIG);
     assert_reply(&rt, &table, 26, &GET, &TOO_BIG);
@@ -116,13 +114,13 @@ fn a_reply_too_long_is_too_big(rt: HostRuntime) {
 }
 
 #[test]
-fn nothing_is_written(rt: HostRuntime) {
+fn a_set_gets_not_writable(rt: HostRuntime) {
     let table = table_of(&rt, rt.alloc(), SYS_NAME);
     assert_reply(&rt, &table, 1472, &SET, &NOT_SET);
 }
 
 #[test]
-fn a_get_next_gives_the_next_variable(rt: HostRuntime) {
+fn a_get_next_returns_the_next_variable(rt: HostRuntime) {
     let table = table_of(&rt, rt.alloc(), b"1.3.6.1.2.1.1.5.1|4|wes");
     let mut request = GET;
     request[13] = 0xA1;
@@ -131,16 +129,17 @@ fn a_get_next_gives_the_next_variable(rt: HostRuntime) {
     assert_reply(&rt, &table, 1472, &request, &reply);
 }
 
-/// The request with this octet at the place.
-fn with_octet(request: &[u8; 40], place: usize, octet: u8) -> [u8; 40] {
+/// Returns `request` with `octet` at this offset.
+fn with_octet(request: &[u8; 40], offset: usize, octet: u8) -> [u8; 40] {
     let mut changed = *request;
-    if place < 40 {
-        changed[place] = octet;
+    if offset < 40 {
+        changed[offset] = octet;
     }
     changed
 }
 
-/// Places of the Get, each with an octet that is put there, and why the agent then drops it.
+/// Offsets in `GET`, each with an octet that replaces the one there, and why the agent then drops
+/// it.
 const OTHERS: &[(usize, u8, Why)] = &[
     (1, 0x80, Why::Undecodable),
     (4, 0x00, Why::Version),
@@ -152,7 +151,7 @@ const OTHERS: &[(usize, u8, Why)] = &[
     (13, 0xA4, Why::Undecodable),
 ];
 
-/// No beginning of the Get is a message, and neither is the Get with an octet more.
+/// Asserts that the agent drops each proper prefix of `GET`, and `GET` with one octet more.
 fn assert_other_lengths_dropped(rt: &impl Abort, table: &Table) {
     let mut longer = [0; 41];
     longer[..40].copy_from_slice(&GET);
@@ -163,22 +162,24 @@ fn assert_other_lengths_dropped(rt: &impl Abort, table: &Table) {
 }
 
 #[test]
-fn others_are_dropped(rt: HostRuntime) {
+fn other_datagrams_are_dropped(rt: HostRuntime) {
     let table = table_of(&rt, rt.alloc(), SYS_NAME);
-    for (place, octet, why) in OTHERS {
-        assert_dropped(&rt, &table, 1472, &with_octet(&GET, *place, *octet), *why);
+    for (offset, octet, why) in OTHERS {
+        assert_dropped(&rt, &table, 1472, &with_octet(&GET, *offset, *octet), *why);
     }
     assert_other_lengths_dropped(&rt, &table);
 }
 
-/// A Set of sysName.0 to a Counter32 of 200, without the zero octet in front of its high bit.
+/// A SetRequest that sets sysName.0 to the Counter32 200, encoded without a zero octet before its
+/// high bit.
 const SET_COUNTER: [u8; 41] = [
     0x30, 0x27, 0x02, 0x01, 0x01, 0x04, 0x06, 0x70, 0x75, 0x62, 0x6C, 0x69, 0x63, 0xA3, 0x1A, 0x02,
     0x01, 0x01, 0x02, 0x01, 0x00, 0x02, 0x01, 0x00, 0x30, 0x0F, 0x30, 0x0D, 0x06, 0x08, 0x2B, 0x06,
     0x01, 0x02, 0x01, 0x01, 0x05, 0x00, 0x41, 0x01, 0xC8,
 ];
 
-/// Its Response: notWritable, at the first binding, with that octet.
+/// The Response to `SET_COUNTER`: notWritable, at the first binding, whose value has that zero
+/// octet.
 const NOT_SET_COUNTER: [u8; 42] = [
     0x30, 0x28, 0x02, 0x01, 0x01, 0x04, 0x06, 0x70, 0x75, 0x62, 0x6C, 0x69, 0x63, 0xA2, 0x1B, 0x02,
     0x01, 0x01, 0x02, 0x01, 0x11, 0x02, 0x01, 0x01, 0x30, 0x10, 0x30, 0x0E, 0x06, 0x08, 0x2B, 0x06,
@@ -186,20 +187,20 @@ const NOT_SET_COUNTER: [u8; 42] = [
 ];
 
 #[test]
-fn values_of_a_set_come_back_in_the_shortest_encoding(rt: HostRuntime) {
+fn values_of_a_set_return_in_the_shortest_encoding(rt: HostRuntime) {
     let table = table_of(&rt, rt.alloc(), SYS_NAME);
     assert_reply(&rt, &table, 42, &SET_COUNTER, &NOT_SET_COUNTER);
     assert_reply(&rt, &table, 41, &SET_COUNTER, &TOO_BIG);
 }
 
-/// The GetNext of 1.3.6.
+/// The GetNextRequest of 1.3.6.
 const NEXT: [u8; 34] = [
     0x30, 0x20, 0x02, 0x01, 0x01, 0x04, 0x06, 0x70, 0x75, 0x62, 0x6C, 0x69, 0x63, 0xA1, 0x13, 0x02,
     0x01, 0x01, 0x02, 0x01, 0x00, 0x02, 0x01, 0x00, 0x30, 0x08, 0x30, 0x06, 0x06, 0x02, 0x2B, 0x06,
     0x05, 0x00,
 ];
 
-/// Whether the reply to the GetNext has the longest name of the table.
+/// Returns whether the reply to `NEXT` has the longest name, which the table has.
 fn has_longest_name(table: &Table) -> bool {
     let mut out = [0; 65507];
     let name = [
@@ -210,20 +211,20 @@ fn has_longest_name(table: &Table) -> bool {
         && out[36..].starts_with(&name)
 }
 
-/// Asserts that it has.
+/// Asserts [`has_longest_name`].
 fn assert_longest_name(rt: &impl Abort, table: &Table) {
     assert!(rt; has_longest_name(table));
 }
 
 #[test]
-fn the_longest_name_is_given(rt: HostRuntime) {
-    let text = repeated(&rt, rt.alloc(), b"1.3.6", b".4294967295", 125, b"|2|1");
+fn the_longest_name_is_returned(rt: HostRuntime) {
+    let text = repeated_text(&rt, rt.alloc(), b"1.3.6", b".4294967295", 125, b"|2|1");
     let table = table_of(&rt, rt.alloc(), &text);
     assert_longest_name(&rt, &table);
     assert_reply(&rt, &table, 669, &NEXT, &TOO_BIG);
 }
 
-/// Asserts that a binding has an encoding.
+/// Asserts that `binding` has an encoding.
 fn assert_encodable(rt: &impl Abort, binding: &Binding<'_>)
     ensures { IsEncodable (var_bind binding.now) }
 {
@@ -231,7 +232,7 @@ fn assert_encodable(rt: &impl Abort, binding: &Binding<'_>)
     assert!(rt; is_encodable(&binding.value));
 }
 
-/// Whether a value has an encoding.
+/// Returns whether `value` has an encoding.
 fn is_encodable(value: &ValueRef<'_>) -> bool
     ensures { IsTrue result → IsEncodableValue (datum value.now) }
 {
@@ -242,7 +243,7 @@ fn is_encodable(value: &ValueRef<'_>) -> bool
     }
 }
 
-/// How many octets the bindings of a message take, each in its shortest encoding.
+/// Returns the length of the bindings of a message, each in its shortest encoding.
 fn octets_of_bindings(rt: &impl Abort, message: &MessageRef<'_>) -> u64 {
     let mut total: u64 = 0;
     for binding in message.bindings() {
@@ -252,7 +253,8 @@ fn octets_of_bindings(rt: &impl Abort, message: &MessageRef<'_>) -> u64 {
     total
 }
 
-/// Writes the shortest encoding of a message up to its bindings, which take `total` octets.
+/// Writes the shortest encoding of a message up to its bindings, which take `total` octets, and
+/// returns its length.
 fn write_head(rt: &impl Abort, message: &MessageRef<'_>, total: u64, out: &mut [u8]) -> usize {
     let parts = Parts {
         version: message.version(),
@@ -267,10 +269,10 @@ fn write_head(rt: &impl Abort, message: &MessageRef<'_>, total: u64, out: &mut [
     encode_head(&parts, total, out).expect(rt, "room for the head")
 }
 
-/// Asserts that the octets are the shortest encoding of the message that they encode.
+/// Asserts that `octets` are the shortest encoding of the message that they encode.
 fn assert_shortest(rt: &impl Abort, octets: &[u8]) {
     let Ok(message) = decode(octets) else {
-        panic!(rt; "they encode a message")
+        panic!(rt; "expected a message")
     };
     let mut out = [0; 1472];
     let mut size = write_head(rt, &message, octets_of_bindings(rt, &message), &mut out);
@@ -283,13 +285,13 @@ fn assert_shortest(rt: &impl Abort, octets: &[u8]) {
     assert!(rt; out.get(..size) == Some(octets));
 }
 
-/// With any octet of the request changed to any other, it is dropped, or its reply is a message in
-/// its shortest encoding.
+/// Changes each octet of the request to each other octet. Asserts that the request is dropped, or
+/// its reply is a message in its shortest encoding.
 fn assert_messages(rt: &impl Abort, table: &Table, request: &[u8; 40]) {
     let mut out = [0; 65507];
-    for place in 0..40 {
+    for offset in 0..40 {
         for octet in 0..=255 {
-            let changed = with_octet(request, place, octet);
+            let changed = with_octet(request, offset, octet);
             if let Outcome::Reply(size) = outcome(table, 1472, &changed, &mut out) {
                 assert_shortest(rt, &out[..size.min(1472)]);
             }

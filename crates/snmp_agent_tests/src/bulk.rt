@@ -1,4 +1,4 @@
-//! GetBulks and their replies, worked out by hand.
+//! GetBulkRequests and their replies, worked out by hand.
 
 use crate::agent::{assert_dropped, outcome};
 use crate::table::table_of;
@@ -7,20 +7,20 @@ use snmp_wire::{Binding, Bindings, ValueRef, decode};
 use std::alloc::{AllocError, Global};
 use std::process::Abort;
 
-/// Six integers, each its place, from 1 on. A binding has 18 octets.
+/// Six rows, whose values are their numbers from 1. The binding of one takes 18 octets.
 const SIX: &[u8] =
     b"1.3.6.1.4.1.32473.1.1.0|2|1\n1.3.6.1.4.1.32473.1.2.0|2|2\n1.3.6.1.4.1.32473.1.3.0|2|3\n\
 1.3.6.1.4.1.32473.1.4.0|2|4\n1.3.6.1.4.1.32473.1.5.0|2|5\n1.3.6.1.4.1.32473.1.6.0|2|6";
 
-/// The GetBulk of 1.3.6.1.4.1.32473.1 with 10 repetitions, in community `public` with id 1.
+/// The GetBulk of 1.3.6.1.4.1.32473.1 with max-repetitions 10, community `public` and id 1.
 const BULK: [u8; 41] = [
     0x30, 0x27, 0x02, 0x01, 0x01, 0x04, 0x06, 0x70, 0x75, 0x62, 0x6C, 0x69, 0x63, 0xA5, 0x1A, 0x02,
     0x01, 0x01, 0x02, 0x01, 0x00, 0x02, 0x01, 0x0A, 0x30, 0x0F, 0x30, 0x0D, 0x06, 0x09, 0x2B, 0x06,
     0x01, 0x04, 0x01, 0x81, 0xFD, 0x59, 0x01, 0x05, 0x00,
 ];
 
-/// Whether the binding is of this row: at the end of its name the number of the row, then its
-/// value, -1 for endOfMibView.
+/// Returns whether `binding` is of `row`. This is the last number but one of its name, and its
+/// value, or -1 for endOfMibView.
 fn is_of_row(binding: &Binding<'_>, row: (u32, i32)) -> bool {
     let number = match binding.value {
         ValueRef::Integer(number) => number,
@@ -31,7 +31,7 @@ fn is_of_row(binding: &Binding<'_>, row: (u32, i32)) -> bool {
     numbers.len() == 10 && numbers[8] == row.0 && number == row.1
 }
 
-/// Whether there is a next binding, of this row.
+/// Returns whether there is a next binding, and it is of `row`.
 fn has_row(bindings: &mut Bindings<'_>, row: (u32, i32)) -> bool {
     match bindings.next() {
         Some(binding) => is_of_row(&binding, row),
@@ -39,7 +39,7 @@ fn has_row(bindings: &mut Bindings<'_>, row: (u32, i32)) -> bool {
     }
 }
 
-/// Whether there are bindings of just these rows.
+/// Returns whether the bindings are of `rows`, and there are no others.
 fn have_rows(bindings: &mut Bindings<'_>, rows: &[(u32, i32)]) -> bool {
     let mut all = true;
     for row in rows {
@@ -48,7 +48,7 @@ fn have_rows(bindings: &mut Bindings<'_>, rows: &[(u32, i32)]) -> bool {
     all && bindings.next().is_none()
 }
 
-/// Whether the reply has no error, and just these rows.
+/// Returns whether `reply` is a message without an error, and its bindings are of `rows`.
 fn is_reply_of(reply: &[u8], rows: &[(u32, i32)]) -> bool {
     match decode(reply) {
         Ok(message) => {
@@ -58,8 +58,7 @@ fn is_reply_of(reply: &[u8], rows: &[(u32, i32)]) -> bool {
     }
 }
 
-/// Whether the reply has `octets` octets, and integers with these numbers: at the end of each name
-/// the number of its row, then its value, -1 for endOfMibView.
+/// Returns whether the reply has `octets` octets and no error, and its bindings are of `rows`.
 fn has_integers(
     table: &Table,
     max_size: usize,
@@ -74,7 +73,7 @@ fn has_integers(
     }
 }
 
-/// Asserts that it has.
+/// Asserts [`has_integers`].
 fn assert_integers(
     rt: &impl Abort,
     table: &Table,
@@ -91,7 +90,8 @@ fn assert_integers(
 
 const ALL: &[(u32, i32)] = &[(1, 1), (2, 2), (3, 3), (4, 4), (5, 5), (6, 6), (6, -1)];
 
-/// In messages of each of these sizes the reply has so many octets, and so many of the integers.
+/// Asserts for each greatest size of a message how many octets the reply has, and how many
+/// bindings.
 fn assert_fits(rt: &impl Abort, table: &Table, cases: &[(usize, usize, usize)]) {
     for &(max_size, octets, rows) in cases {
         assert_integers(rt, table, max_size, &BULK, octets, &ALL[..rows.min(7)]);
@@ -99,13 +99,13 @@ fn assert_fits(rt: &impl Abort, table: &Table, cases: &[(usize, usize, usize)]) 
 }
 
 #[test]
-fn as_many_come_as_fit(rt: HostRuntime) {
+fn a_reply_has_as_many_bindings_as_fit(rt: HostRuntime) {
     let table = table_of(&rt, rt.alloc(), SIX);
     assert_fits(&rt, &table, &[(134, 116, 5), (135, 135, 6), (1472, 153, 7)]);
 }
 
 #[test]
-fn a_reply_fits_to_the_octet(rt: HostRuntime) {
+fn the_room_in_a_message_is_used_to_the_octet(rt: HostRuntime) {
     const CASES: &[(usize, usize, usize)] = &[
         (153, 153, 7),
         (152, 135, 6),
@@ -118,8 +118,8 @@ fn a_reply_fits_to_the_octet(rt: HostRuntime) {
     assert_dropped(&rt, &table, 25, &BULK, Why::TooLong);
 }
 
-/// The GetBulk of three names, 1.3.6.1.4.1.32473.1 twice and 1.3.6.1.4.1.32473.1.5.0, with
-/// non-repeaters and max-repetitions in four octets each.
+/// The GetBulk of three names, 1.3.6.1.4.1.32473.1 twice and 1.3.6.1.4.1.32473.1.5.0. Its
+/// non-repeaters and max-repetitions take four octets each.
 const THREE: [u8; 79] = [
     0x30, 0x4D, 0x02, 0x01, 0x01, 0x04, 0x06, 0x70, 0x75, 0x62, 0x6C, 0x69, 0x63, 0xA5, 0x40, 0x02,
     0x01, 0x01, 0x02, 0x04, 0x00, 0x00, 0x00, 0x00, 0x02, 0x04, 0x00, 0x00, 0x00, 0x00, 0x30, 0x2F,
@@ -128,8 +128,8 @@ const THREE: [u8; 79] = [
     0x06, 0x0B, 0x2B, 0x06, 0x01, 0x04, 0x01, 0x81, 0xFD, 0x59, 0x01, 0x05, 0x00, 0x05, 0x00,
 ];
 
-/// The GetBulk of the three names with these numbers has these rows in its reply, in `octets`
-/// octets.
+/// Asserts that the reply to the GetBulk of the three names, with these numbers, has `octets`
+/// octets and bindings of `rows`.
 fn assert_three(
     rt: &impl Abort,
     table: &Table,
@@ -148,24 +148,25 @@ fn assert_three(
 const FIRST: &[(u32, i32)] = &[(1, 1), (1, 1), (6, 6)];
 
 #[test]
-fn names_repeat_after_those_that_do_not(rt: HostRuntime) {
+fn repeating_names_come_after_non_repeaters(rt: HostRuntime) {
     let table = table_of(&rt, rt.alloc(), SIX);
     let wanted = &[(1, 1), (1, 1), (6, 6), (2, 2), (6, -1)];
     assert_three(&rt, &table, 1, 2, 115, wanted);
 }
 
-const FEW: &[i32] = &[-5, -1, 0, i32::MIN];
+const AT_MOST_ZERO: &[i32] = &[-5, -1, 0, i32::MIN];
 
-const MANY: &[i32] = &[3, 9, i32::MAX];
+const AT_LEAST_THREE: &[i32] = &[3, 9, i32::MAX];
 
-/// Numbers below 0 are taken for 0, and more non-repeaters than names for their count.
+/// Asserts that numbers below 0 count as 0, and more non-repeaters than names as the number of
+/// names.
 fn assert_bounds(rt: &impl Abort, table: &Table) {
-    for few in FEW {
+    for few in AT_MOST_ZERO {
         assert_three(rt, table, *few, 1, 80, FIRST);
         assert_three(rt, table, 1, *few, 44, &FIRST[..1]);
         assert_three(rt, table, *few, *few, 26, &[]);
     }
-    for many in MANY {
+    for many in AT_LEAST_THREE {
         assert_three(rt, table, *many, 1, 80, FIRST);
         assert_three(rt, table, *many, i32::MAX, 80, FIRST);
         assert_three(rt, table, *many, -1, 80, FIRST);
@@ -173,12 +174,12 @@ fn assert_bounds(rt: &impl Abort, table: &Table) {
 }
 
 #[test]
-fn numbers_are_taken_within_bounds(rt: HostRuntime) {
+fn numbers_out_of_bounds_count_as_the_nearest_bound(rt: HostRuntime) {
     let table = table_of(&rt, rt.alloc(), SIX);
     assert_bounds(&rt, &table);
 }
 
-/// The successor of the first name, and all rounds of the others.
+/// The successor of the first name, and all rounds of the other two.
 const ROUNDS: &[(u32, i32)] = &[
     (1, 1),
     (1, 1),
@@ -198,27 +199,27 @@ const ROUNDS: &[(u32, i32)] = &[
 ];
 
 #[test]
-fn a_round_of_ends_is_the_last(rt: HostRuntime) {
+fn a_round_of_only_end_of_mib_view_is_the_last(rt: HostRuntime) {
     let table = table_of(&rt, rt.alloc(), SIX);
     assert_three(&rt, &table, 1, i32::MAX, 295, ROUNDS);
     assert_three(&rt, &table, 1, 7, 295, ROUNDS);
 }
 
-/// The octets of the length of an element, in the form of three octets.
+/// Returns the encoding of a length in three octets.
 fn long_length(length: u16) -> [u8; 3] {
     let [high, low] = length.to_be_bytes();
     [0x82, high, low]
 }
 
-/// The GetBulk of `count` names, 1.3.6.128 and those after it, with three repetitions: ten octets a
-/// binding.
+/// Returns the GetBulk of `count` names, 1.3.6.128 and those after it, with max-repetitions 3. Each
+/// binding takes ten octets.
 fn bulk_of(alloc: Global, count: u16) -> Result<Vec<u8>, AllocError> {
     let mut octets = Vec::new(alloc);
     add_bulk(&mut octets, count)?;
     Ok(octets)
 }
 
-/// Adds the octets of that GetBulk.
+/// Appends the GetBulk of [`bulk_of`].
 fn add_bulk(octets: &mut Vec<u8>, count: u16) -> Result<(), AllocError> {
     let size = count.wrapping_mul(10);
     octets.push(0x30)?;
@@ -227,8 +228,8 @@ fn add_bulk(octets: &mut Vec<u8>, count: u16) -> Result<(), AllocError> {
     octets.extend_from_slice(&long_length(size.wrapping_add(13)))?;
     octets.extend_from_slice(b"\x02\x01\x01\x02\x01\x00\x02\x01\x03\x30")?;
     octets.extend_from_slice(&long_length(size))?;
-    for place in 0..count {
-        let [high, low] = place.wrapping_add(128).wrapping_mul(2).to_be_bytes();
+    for i in 0..count {
+        let [high, low] = i.wrapping_add(128).wrapping_mul(2).to_be_bytes();
         let binding = [
             0x30,
             0x08,
@@ -246,8 +247,8 @@ fn add_bulk(octets: &mut Vec<u8>, count: u16) -> Result<(), AllocError> {
     Ok(())
 }
 
-/// The text of a row for each number from 128 to `last`: its name is 1.3.6 and the number, and its
-/// value is the number.
+/// Returns the lines of a row for each number from 128 to `last`: its name is 1.3.6 and the number,
+/// and its value is the number.
 fn numbers_to(alloc: Global, last: u32) -> Result<String, AllocError> {
     let mut text = String::new(alloc);
     for number in 128..=last {
@@ -256,36 +257,35 @@ fn numbers_to(alloc: Global, last: u32) -> Result<String, AllocError> {
     Ok(text)
 }
 
-/// The table of these rows.
+/// Returns the table of [`numbers_to`].
 pub(crate) fn table_to(rt: &impl Abort, alloc: Global, last: u32) -> Table {
     let text = numbers_to(alloc, last).expect(rt, "memory for rows");
     table_of(rt, alloc, text.as_bytes())
 }
 
-/// Whether the binding is the row of this number, or past the last endOfMibView with its name.
+/// Returns whether `binding` is the row of `number`. Past the last row, it is endOfMibView with the
+/// name of the last row.
 fn is_number(binding: &Binding<'_>, number: u32, last: u32) -> bool {
     let name = binding.name.as_slice();
-    let is_given = match binding.value {
+    let is_expected = match binding.value {
         ValueRef::Counter32(held) => held == number && number <= last,
         ValueRef::EndOfMibView => number > last,
         _ => false,
     };
-    name.len() == 4 && name[3] == number.min(last) && is_given
+    name.len() == 4 && name[3] == number.min(last) && is_expected
 }
 
-/// How many bindings the reply has, where they are the rounds of `count` names one after the other.
+/// Returns the number of bindings in the reply, if they are the rounds of `count` names in order.
 fn rounds_in(reply: &[u8], count: u32, last: u32) -> Option<u32> {
     let message = decode(reply).ok()?;
     let mut bindings = message.bindings();
     let mut binding = Binding::empty();
     let count = count.max(1);
-    for place in 0..10000 {
+    for i in 0..10000 {
         if !bindings.read_next(&mut binding) {
-            return Some(place);
+            return Some(i);
         }
-        let number = (place % count)
-            .wrapping_add(place / count)
-            .wrapping_add(129);
+        let number = (i % count).wrapping_add(i / count).wrapping_add(129);
         if !is_number(&binding, number, last) {
             return None;
         }
@@ -293,8 +293,8 @@ fn rounds_in(reply: &[u8], count: u32, last: u32) -> Option<u32> {
     None
 }
 
-/// How many bindings the reply to the GetBulk of `count` names has, where they are its rounds. The
-/// last name comes to the end of the view in the last of them.
+/// Returns the number of bindings in the reply to the GetBulk of `count` names, if they are its
+/// rounds. The last name reaches the end of the view in the last round.
 fn rounds_of(rt: &impl Abort, alloc: Global, count: u16) -> Option<u32> {
     let request = bulk_of(alloc, count).ok()?;
     let last = u32::from(count).wrapping_add(129);
@@ -307,8 +307,9 @@ fn rounds_of(rt: &impl Abort, alloc: Global, count: u16) -> Option<u32> {
 }
 
 #[test]
-fn many_names_have_their_rounds(rt: HostRuntime) {
-    // Of 4,000 names there is room for one round and a part of another, of 12 octets a binding.
+fn the_rounds_of_many_names_are_in_order(rt: HostRuntime) {
+    // For 4,000 names there is room for one round and a part of the next: a binding takes 12
+    // octets.
     const CASES: &[(u16, u32)] = &[(1, 3), (63, 189), (64, 192), (65, 195), (4000, 5456)];
     for &(count, bindings) in CASES {
         assert!(rt;

@@ -1,16 +1,16 @@
 //! Rows that are put into a table and removed again.
 
-use crate::table::{all_rows, assert_get, gives, name, table_of};
+use crate::table::{all_rows, assert_get, get_returns, name, table_of};
 use snmp_agent::{PutError, Table};
 use snmp_wire::{Binding, Oid, ValueRef, parse_numeric};
 use std::process::Abort;
 
-/// 1.3.6.1.4.1.32473.1, a number, and 0.
+/// Returns 1.3.6.1.4.1.32473.1.`number`.0.
 pub(crate) fn name_of(number: u32) -> Option<Oid> {
     Oid::from_slice(&[1, 3, 6, 1, 4, 1, 32473, 1, number, 0]).ok()
 }
 
-/// Whether the binding is the row of the number, with this value.
+/// Returns whether `binding` is the row of `number`, with this value.
 pub(crate) fn is_numbered(binding: &Binding<'_>, number: u32, value: u32) -> bool {
     match name_of(number) {
         Some(name) => {
@@ -20,8 +20,8 @@ pub(crate) fn is_numbered(binding: &Binding<'_>, number: u32, value: u32) -> boo
     }
 }
 
-/// Whether the rows are those of the numbers from `low` to `high`, each with its number, and no
-/// others.
+/// Returns whether the rows are those of the numbers from `low` to `high`, each with its number as
+/// its value, and no others.
 fn has_rows(table: &Table, low: u32, high: u32) -> bool {
     let mut binding = Binding::empty();
     let Some(mut rows) = all_rows(table) else {
@@ -37,7 +37,7 @@ fn has_rows(table: &Table, low: u32, high: u32) -> bool {
     matches!(binding.value, ValueRef::EndOfMibView)
 }
 
-/// Puts the row of the number, with the number as its value, and returns whether there was none.
+/// Puts the row of `number`, with the number as its value, and returns whether there was none.
 fn is_added(table: &mut Table, number: u32) -> bool {
     match name_of(number) {
         Some(name) => matches!(table.put(&name, ValueRef::Counter32(number)), Ok(false)),
@@ -45,7 +45,7 @@ fn is_added(table: &mut Table, number: u32) -> bool {
     }
 }
 
-/// Removes the row of the number, and returns whether there was one.
+/// Removes the row of `number`, and returns whether there was one.
 fn is_removed(table: &mut Table, number: u32) -> bool {
     match name_of(number) {
         Some(name) => table.remove(&name),
@@ -53,7 +53,8 @@ fn is_removed(table: &mut Table, number: u32) -> bool {
     }
 }
 
-/// Asserts that rows are put in falling order, and then removed in rising order.
+/// Puts rows in decreasing order and removes them in increasing order, and asserts that the table
+/// has the right rows after each change.
 fn assert_changed(rt: &impl Abort, table: &mut Table) {
     for number in (1..=600).rev() {
         assert!(rt;
@@ -72,7 +73,7 @@ fn assert_changed(rt: &impl Abort, table: &mut Table) {
 }
 
 #[test]
-fn rows_put_in_falling_order_are_removed_in_rising_order(rt: HostRuntime) {
+fn rows_put_in_decreasing_order_are_removed_in_increasing_order(rt: HostRuntime) {
     let mut table = table_of(&rt, rt.alloc(), b"object 1.3.6.1.4.1.32473.1\n");
     assert_changed(&rt, &mut table);
     // The object prefix stays.
@@ -84,7 +85,7 @@ fn rows_put_in_falling_order_are_removed_in_rising_order(rt: HostRuntime) {
     );
 }
 
-/// Puts the value at the name, and returns whether there was a row.
+/// Puts `value` at `name`, and returns whether there was a row.
 fn is_put_again(table: &mut Table, name: &[u8], value: ValueRef<'_>) -> bool {
     match parse_numeric(name) {
         Ok(name) => matches!(table.put(&name, value), Ok(true)),
@@ -92,9 +93,10 @@ fn is_put_again(table: &mut Table, name: &[u8], value: ValueRef<'_>) -> bool {
     }
 }
 
-/// Asserts that the row of 1.3.6.2 has the new value, once it is put there.
+/// Puts `value` at the row of 1.3.6.2, and asserts that the row has it then. `same` is equal to
+/// `value`.
 fn assert_replaced(rt: &impl Abort, table: &mut Table, value: ValueRef<'_>, same: &ValueRef<'_>) {
-    assert!(rt; is_put_again(table, b"1.3.6.2", value) && gives(table, b"1.3.6.2", same));
+    assert!(rt; is_put_again(table, b"1.3.6.2", value) && get_returns(table, b"1.3.6.2", same));
 }
 
 #[test]
@@ -117,7 +119,7 @@ fn is_refused(table: &mut Table, name: &[u8], value: ValueRef<'_>, error: PutErr
     }
 }
 
-/// Asserts that no value is put at the name.
+/// Asserts that no value can be put at `name`.
 fn assert_bad_name(rt: &impl Abort, table: &mut Table, name: &[u8]) {
     assert!(rt;
         is_refused(table, name, ValueRef::Integer(1), PutError::BadName)
@@ -126,13 +128,13 @@ fn assert_bad_name(rt: &impl Abort, table: &mut Table, name: &[u8]) {
     );
 }
 
-/// Whether the value is not put at 1.3.6.1, which keeps 1.
+/// Returns whether `value` is refused at 1.3.6.1, whose value stays 1.
 fn is_bad_value(table: &mut Table, value: ValueRef<'_>) -> bool {
     is_refused(table, b"1.3.6.1", value, PutError::BadValue)
-        && gives(table, b"1.3.6.1", &ValueRef::Integer(1))
+        && get_returns(table, b"1.3.6.1", &ValueRef::Integer(1))
 }
 
-/// Asserts that values that no instance holds, and this one, are not put at 1.3.6.1.
+/// Asserts that `value`, and what isn't the value of an instance, is refused at 1.3.6.1.
 fn assert_bad_values(rt: &impl Abort, table: &mut Table, value: ValueRef<'_>) {
     assert!(rt; is_bad_value(table, ValueRef::Null));
     assert!(rt; is_bad_value(table, ValueRef::NoSuchObject));
@@ -141,7 +143,7 @@ fn assert_bad_values(rt: &impl Abort, table: &mut Table, value: ValueRef<'_>) {
     assert!(rt; is_bad_value(table, value));
 }
 
-/// Asserts that a string of all 65536 octets is not put at 1.3.6.1, and that one of 65535 is.
+/// Asserts that a string of all 65536 octets is refused at 1.3.6.1, and one of 65535 is put there.
 fn assert_longest(rt: &impl Abort, table: &mut Table, octets: &[u8; 65536]) {
     assert!(rt; is_bad_value(table, ValueRef::Octets(octets)));
     assert!(rt; is_bad_value(table, ValueRef::Opaque(octets)));
@@ -149,7 +151,7 @@ fn assert_longest(rt: &impl Abort, table: &mut Table, octets: &[u8; 65536]) {
 }
 
 #[test]
-fn bad_names_and_values_are_not_put(rt: HostRuntime) {
+fn bad_names_and_values_are_refused(rt: HostRuntime) {
     let id = name(&rt, b"1");
     let mut table = table_of(&rt, rt.alloc(), b"1.3.6.1|2|1");
     for name in [b"1.3".as_slice(), b".", b"1.40.1", b"3.1.1"] {

@@ -1,4 +1,5 @@
-//! An agent that is asked in turn, and keeps a hint from one request to the next.
+//! An agent that answers a series of requests, with a hint from one request to the next: its
+//! replies are those without a hint.
 
 use crate::bulk::table_to;
 use crate::table::table_of;
@@ -7,15 +8,17 @@ use snmp_wire::{EncodedName, Kind, MAX_CONTENT, Oid, Parts, encode_asking, seal}
 use std::alloc::{AllocError, Global};
 use std::process::Abort;
 
-/// The tags of a Get, a GetNext and a GetBulk.
+/// The tag of a GetRequest.
 const GET: u8 = 0xA0;
 
+/// The tag of a GetNextRequest.
 const NEXT: u8 = 0xA1;
 
+/// The tag of a GetBulkRequest.
 const BULK: u8 = 0xA5;
 
-/// The request with this tag for 1.3.6 and this number, from 128 to 16383. A GetBulk has five
-/// repetitions.
+/// Returns the request with this tag for 1.3.6.`number`, from 128 to 16383. A GetBulk has
+/// max-repetitions 5.
 fn request_of(tag: u8, number: u16) -> [u8; 36] {
     let [high, low] = number.wrapping_mul(2).to_be_bytes();
     let mut request = [
@@ -30,7 +33,7 @@ fn request_of(tag: u8, number: u16) -> [u8; 36] {
     request
 }
 
-/// Whether the agent has a reply to the request, and the same with the hint as without one.
+/// Returns whether the agent replies to `request`, and in the same way with `hint` as without one.
 fn is_same(table: &Table, request: &[u8], hint: &mut Hint) -> bool {
     let config = Config {
         community: b"public",
@@ -49,17 +52,24 @@ fn is_same(table: &Table, request: &[u8], hint: &mut Hint) -> bool {
     }
 }
 
-/// Asserts that the reply to the request, at this place in this round, is the same with the hint.
+/// Asserts that the reply to `request` is the same with `hint`. `at` is for the message: the index
+/// or number of a row, and the round.
 fn assert_same(rt: &impl Abort, table: &Table, request: &[u8], hint: &mut Hint, at: (u32, u32)) {
-    let (place, round) = at;
+    let (index, round) = at;
     assert!(rt;
         is_same(table, request, hint),
-        "{place} in {round}: {request:?}"
+        "{index} in {round}: {request:?}"
     );
 }
 
-/// [`assert_same`] for the request with this tag for this number.
-fn assert_asked(rt: &impl Abort, table: &Table, asked: (u8, u16), hint: &mut Hint, round: u32) {
+/// Asserts that the request with this tag for this number has the same reply with `hint`.
+fn assert_same_reply(
+    rt: &impl Abort,
+    table: &Table,
+    asked: (u8, u16),
+    hint: &mut Hint,
+    round: u32,
+) {
     let (tag, number) = asked;
     let request = request_of(tag, number);
     assert_same(rt, table, &request, hint, (u32::from(number), round));
@@ -70,16 +80,16 @@ fn no_hint_changes_a_reply(rt: HostRuntime) {
     let many = table_to(&rt, rt.alloc(), 700);
     let few = table_to(&rt, rt.alloc(), 130);
     let mut hint = Hint::default();
-    // In turn, past the end too; then from elsewhere, with the hint of another row.
+    // Each name in turn, also past the last row. Then other names, with the hint of another row.
     for number in 128..=702 {
-        assert_asked(&rt, &many, (NEXT, number), &mut hint, 0);
+        assert_same_reply(&rt, &many, (NEXT, number), &mut hint, 0);
     }
     for &number in &[383, 128, 384, 700, 639, 640, 129] {
-        assert_asked(&rt, &many, (NEXT, number), &mut hint, 1);
-        // The hint is that of another table.
-        assert_asked(&rt, &few, (NEXT, 129), &mut hint, 1);
+        assert_same_reply(&rt, &many, (NEXT, number), &mut hint, 1);
+        // This hint is from another table.
+        assert_same_reply(&rt, &few, (NEXT, 129), &mut hint, 1);
         let mut other = hint;
-        assert_asked(&rt, &many, (NEXT, number), &mut other, 2);
+        assert_same_reply(&rt, &many, (NEXT, number), &mut other, 2);
     }
 }
 
@@ -89,7 +99,7 @@ fn is_removed(rt: &impl Abort, table: &mut Table, name: &[u32]) -> bool {
     table.remove(&name)
 }
 
-/// Asserts that there was a row of this number, which is removed.
+/// Removes the row of this number, and asserts that there was one.
 fn assert_removed(rt: &impl Abort, table: &mut Table, number: u32) {
     assert!(rt;
         is_removed(rt, table, &[1, 3, 6, number]),
@@ -102,12 +112,12 @@ fn a_hint_that_is_out_of_date_changes_no_reply(rt: HostRuntime) {
     let mut table = table_to(&rt, rt.alloc(), 700);
     let mut hint = Hint::default();
     for number in 300..500 {
-        assert_asked(&rt, &table, (NEXT, number), &mut hint, 0);
-        // The row of the hint goes, or one before it.
+        assert_same_reply(&rt, &table, (NEXT, number), &mut hint, 0);
+        // Removes the row of the hint, or one before it.
         let back = if number % 2 == 0 { 0 } else { 100 };
         let last = u32::from(number).wrapping_add(1).wrapping_sub(back);
         assert_removed(&rt, &mut table, last);
-        assert_asked(&rt, &table, (NEXT, number.wrapping_add(1)), &mut hint, 1);
+        assert_same_reply(&rt, &table, (NEXT, number.wrapping_add(1)), &mut hint, 1);
     }
 }
 
@@ -116,16 +126,16 @@ fn names_asked_for_again_have_the_same_replies(rt: HostRuntime) {
     let mut table = table_to(&rt, rt.alloc(), 900);
     let few = table_to(&rt, rt.alloc(), 130);
     let mut hint = Hint::default();
-    // Names of four octets, in no order; each is asked for by a Get, a GetNext and a GetBulk.
+    // Names of four octets, in no order. Each is in a Get, a GetNext and a GetBulk.
     for round in 0..4 {
         for step in 0..800_u16 {
             let number = step.wrapping_mul(331) % 800 + 128;
             for &tag in &[GET, NEXT, BULK] {
-                assert_asked(&rt, &table, (tag, number), &mut hint, round);
+                assert_same_reply(&rt, &table, (tag, number), &mut hint, round);
             }
         }
-        assert_asked(&rt, &few, (GET, 129), &mut hint, round);
-        // Rows go, so that others stand elsewhere.
+        assert_same_reply(&rt, &few, (GET, 129), &mut hint, round);
+        // Removes rows, so that others move.
         for number in 0..60_u32 {
             let last = number.wrapping_mul(13).wrapping_add(128 + round);
             let _ = is_removed(&rt, &mut table, &[1, 3, 6, last]);
@@ -133,8 +143,8 @@ fn names_asked_for_again_have_the_same_replies(rt: HostRuntime) {
     }
 }
 
-/// The GetNext of 1.3.6.1.4.1.1 and this number, from 128 to 16383: a name of eight octets.
-fn marked_next_of(number: u16) -> [u8; 40] {
+/// Returns the GetNext of 1.3.6.1.4.1.1.`number`, from 128 to 16383: a name of eight octets.
+fn next_request_of(number: u16) -> [u8; 40] {
     let [high, low] = number.wrapping_mul(2).to_be_bytes();
     let mut request = [
         0x30, 0x26, 0x02, 0x01, 0x01, 0x04, 0x06, 0x70, 0x75, 0x62, 0x6C, 0x69, 0x63, 0xA1, 0x19,
@@ -146,8 +156,8 @@ fn marked_next_of(number: u16) -> [u8; 40] {
     request
 }
 
-/// The text of the rows of each second number from 128 to `last` below 1.3.6.1.4.1.1.
-fn marked_rows(alloc: Global, last: u32) -> Result<String, AllocError> {
+/// Returns the lines of rows for the even numbers from 128 to `last`, below 1.3.6.1.4.1.1.
+fn even_rows(alloc: Global, last: u32) -> Result<String, AllocError> {
     let mut text = String::new(alloc);
     for number in 64..=last / 2 {
         write!(
@@ -160,21 +170,22 @@ fn marked_rows(alloc: Global, last: u32) -> Result<String, AllocError> {
 }
 
 #[test]
-fn more_names_than_a_hint_keeps_have_the_same_replies(rt: HostRuntime) {
-    let text = marked_rows(rt.alloc(), 2200).expect(&rt, "memory for rows");
+fn more_names_than_a_hint_stores_have_the_same_replies(rt: HostRuntime) {
+    let text = even_rows(rt.alloc(), 2200).expect(&rt, "memory for rows");
     let mut table = table_of(&rt, rt.alloc(), text.as_bytes());
     let mut hint = Hint::default();
-    // Rows and names between them, in no order and asked for again; a hint keeps 1,024 names.
+    // Names of rows and names between them, in no order and in three rounds. A hint stores 1,024
+    // names.
     for round in 0..3_u32 {
         for step in 0..1500_u16 {
             let number = step.wrapping_mul(331) % 1500 + 650;
-            let mut request = marked_next_of(number);
+            let mut request = next_request_of(number);
             for &tag in &[GET, NEXT] {
                 request[13] = tag;
                 assert_same(&rt, &table, &request, &mut hint, (u32::from(number), round));
             }
         }
-        // Rows go, so that others stand elsewhere.
+        // Removes rows, so that others move.
         for number in 0..60_u32 {
             let last = number
                 .wrapping_mul(26)
@@ -185,16 +196,17 @@ fn more_names_than_a_hint_keeps_have_the_same_replies(rt: HostRuntime) {
     }
 }
 
-/// How many columns and rows the table of [`routes`] has.
+/// The number of columns in the table of [`routes`].
 const COLUMNS: u32 = 6;
 
+/// The number of rows in each column.
 const ROUTES: u32 = 90;
 
-/// The name of the row of this place, from 0 on, in a table of routes, whose index has many
-/// numbers: the names of its rows differ in the middle alone.
-fn route(place: u32) -> Option<Oid> {
-    let column = place / ROUTES % COLUMNS + 1;
-    let row = place % ROUTES;
+/// Returns the name of the row at index `index` in a table of routes. An INDEX there has many
+/// numbers, so the names of rows differ only in the middle.
+fn route(index: u32) -> Option<Oid> {
+    let column = index / ROUTES % COLUMNS + 1;
+    let row = index % ROUTES;
     Oid::from_slice(&[
         1, 3, 6, 1, 2, 1, 4, 24, 7, 1, column, 2, 16, 253, 0, 170, 187, 204, row, 0, 0, 0, 0, 0, 0,
         0, 0, 0, 0, 64, 2, 0, 0, 1, 4, 10, 1, 1, 1,
@@ -202,7 +214,7 @@ fn route(place: u32) -> Option<Oid> {
     .ok()
 }
 
-/// The text of that table.
+/// Returns the text of the table of routes.
 fn routes(alloc: Global) -> Result<String, AllocError> {
     let mut text = String::new(alloc);
     for column in 1..=COLUMNS {
@@ -217,26 +229,26 @@ fn routes(alloc: Global) -> Result<String, AllocError> {
     Ok(text)
 }
 
-/// That table.
+/// Returns the table of routes.
 fn routes_table(rt: &impl Abort, alloc: Global) -> Table {
     let text = routes(alloc).expect(rt, "memory for rows");
     table_of(rt, alloc, text.as_bytes())
 }
 
-/// Writes a request for the names of `count` rows of that table, `step` places apart, and returns
-/// its length.
-fn asking(
+/// Writes a request for `count` rows of the table of routes, `step` rows apart from row `index` on,
+/// and returns its length.
+fn write_request(
     kind: Kind,
     repetitions: i32,
-    place: u32,
+    index: u32,
     step: u32,
     count: u32,
     out: &mut [u8; 65507],
 ) -> usize {
     let mut total: usize = 0;
     for i in 0..count {
-        if let Some(name) = route(place.wrapping_add(step.wrapping_mul(i))) {
-            total = total.saturating_add(written(&name, total, out));
+        if let Some(name) = route(index.wrapping_add(step.wrapping_mul(i))) {
+            total = total.saturating_add(write_binding(&name, total, out));
         }
     }
     let parts = Parts {
@@ -254,8 +266,9 @@ fn asking(
     seal(&parts, 0, total, out).unwrap_or(0)
 }
 
-/// Writes the binding that asks for a name from a place on, and returns how many octets it takes.
-fn written(name: &Oid, from: usize, out: &mut [u8; 65507]) -> usize {
+/// Writes the binding that asks for `name` to `out` at offset `from`. Returns its length, or 0 if
+/// it isn't written.
+fn write_binding(name: &Oid, from: usize, out: &mut [u8; 65507]) -> usize {
     let mut content = [0; MAX_CONTENT];
     if !name.is_wire() {
         return 0;
@@ -271,11 +284,12 @@ fn columns_of_rows_with_a_long_index_have_the_same_replies(rt: HostRuntime) {
     let table = routes_table(&rt, rt.alloc());
     let mut hint = Hint::default();
     let mut request = [0; 65507];
-    // All columns of one row after the other, again and again; and past the last column.
+    // All columns of one row after the other, in three rounds. After the last row of a column come
+    // the next column and, after the last column, the end.
     for round in 0..3 {
         for row in 0..ROUTES {
             for &kind in &[Kind::GetRequest, Kind::GetNextRequest, Kind::GetBulkRequest] {
-                let size = asking(kind, 3, row, ROUTES, COLUMNS, &mut request);
+                let size = write_request(kind, 3, row, ROUTES, COLUMNS, &mut request);
                 let request = &request[..size.min(65507)];
                 assert_same(&rt, &table, request, &mut hint, (row, round));
             }
@@ -284,13 +298,14 @@ fn columns_of_rows_with_a_long_index_have_the_same_replies(rt: HostRuntime) {
 }
 
 #[test]
-fn walks_in_turn_have_the_same_replies(rt: HostRuntime) {
+fn interleaved_walks_have_the_same_replies(rt: HostRuntime) {
     let table = routes_table(&rt, rt.alloc());
     let mut hint = Hint::default();
     let mut request = [0; 65507];
-    // Two by GetNext, two by GetBulk of one column, one by GetBulk of two, and Gets between them.
+    // Six series in turn: two walks by GetNext, two by GetBulk of one column, one by GetBulk of two
+    // columns, and Gets.
     for step in 0..ROUTES * COLUMNS {
-        for &(kind, repetitions, place, count) in &[
+        for &(kind, repetitions, index, count) in &[
             (Kind::GetNextRequest, 0, step, 1),
             (Kind::GetBulkRequest, 5, step.wrapping_mul(5), 1),
             (Kind::GetNextRequest, 0, step.wrapping_add(200), 1),
@@ -298,9 +313,9 @@ fn walks_in_turn_have_the_same_replies(rt: HostRuntime) {
             (Kind::GetBulkRequest, 2, step.wrapping_mul(2), 2),
             (Kind::GetRequest, 0, step.wrapping_mul(3), 2),
         ] {
-            let size = asking(kind, repetitions, place, ROUTES, count, &mut request);
+            let size = write_request(kind, repetitions, index, ROUTES, count, &mut request);
             let request = &request[..size.min(65507)];
-            assert_same(&rt, &table, request, &mut hint, (place, step));
+            assert_same(&rt, &table, request, &mut hint, (index, step));
         }
     }
 }

@@ -1,4 +1,5 @@
-//! A server over loopback, in one process with no thread, and at an endpoint whose calls fail.
+//! A server over loopback, in one process without threads, and a server at an endpoint whose calls
+//! fail.
 ghost use Rattle.std.specs.Prelude.{◌≤◌, length};
 
 use crate::agent::{GET, GOT, SYS_NAME};
@@ -8,7 +9,7 @@ use std::net::{Net, UdpSocket};
 use std::process::Abort;
 use std::time::Duration;
 
-/// A socket on a free port of loopback, which waits a tenth of a second.
+/// Returns a socket at a free port of loopback. Its receives wait for a tenth of a second.
 fn socket_of(rt: &(impl Net + Abort)) -> UdpSocket {
     let socket = UdpSocket::bind(rt, "127.0.0.1:0").expect(rt, "a socket");
     socket
@@ -17,7 +18,7 @@ fn socket_of(rt: &(impl Net + Abort)) -> UdpSocket {
     socket
 }
 
-/// The agent of `public`.
+/// Returns the configuration of the agent of `public`.
 fn public() -> Config<'static> {
     Config {
         community: b"public",
@@ -25,7 +26,7 @@ fn public() -> Config<'static> {
     }
 }
 
-/// What was served: replies, dropped datagrams, idle turns and faults.
+/// Returns what was served: replies, dropped datagrams, idle turns and faults.
 fn of_counts(replies: u64, dropped: u64, idle: u64, faults: u64) -> Served {
     Served {
         replies,
@@ -35,7 +36,7 @@ fn of_counts(replies: u64, dropped: u64, idle: u64, faults: u64) -> Served {
     }
 }
 
-/// Asserts what is served in so many turns.
+/// Asserts that `turns` turns serve what `wanted` says.
 fn assert_turns(rt: &impl Abort, server: &UdpSocket, table: &Table, turns: u64, wanted: Served) {
     assert!(rt;
         serve(server, table, &public(), turns) == wanted,
@@ -43,19 +44,19 @@ fn assert_turns(rt: &impl Abort, server: &UdpSocket, table: &Table, turns: u64, 
     );
 }
 
-/// Connects the server with the client.
+/// Connects the server to the client.
 fn connect(rt: &impl Abort, server: &UdpSocket, client: &UdpSocket) {
     let address = client.local_addr().expect(rt, "an address");
     server.connect(address).expect(rt, "a connection");
 }
 
-/// Sends the server the datagram.
+/// Sends `datagram` from the client to the server.
 fn send(rt: &impl Abort, client: &UdpSocket, server: &UdpSocket, datagram: &[u8]) {
     let address = server.local_addr().expect(rt, "an address");
     client.send_to(datagram, address).expect(rt, "a send");
 }
 
-/// Asserts that the client has a reply of the server, with this id.
+/// Asserts that the client receives a reply of the server, with this id.
 fn assert_reply(rt: &impl Abort, client: &UdpSocket, server: &UdpSocket, id: u8) {
     let mut buffer = [0; 1472];
     let mut reply = GOT;
@@ -66,7 +67,7 @@ fn assert_reply(rt: &impl Abort, client: &UdpSocket, server: &UdpSocket, id: u8)
 }
 
 #[test]
-fn a_request_has_its_reply(rt: HostRuntime) {
+fn a_request_gets_its_reply(rt: HostRuntime) {
     let table = table_of(&rt, rt.alloc(), SYS_NAME);
     let server = socket_of(&rt);
     let client = socket_of(&rt);
@@ -76,14 +77,15 @@ fn a_request_has_its_reply(rt: HostRuntime) {
 }
 
 #[test]
-fn a_silent_socket_is_idle(rt: HostRuntime) {
+fn a_turn_without_a_datagram_is_idle(rt: HostRuntime) {
     let table = table_of(&rt, rt.alloc(), SYS_NAME);
     let server = socket_of(&rt);
     assert_turns(&rt, &server, &table, 2, of_counts(0, 0, 2, 0));
     assert_turns(&rt, &server, &table, 0, Served::default());
 }
 
-/// Asserts that two senders of two datagrams each have one reply each, to its own request.
+/// Sends two datagrams from each of two clients. Asserts that each client receives one reply, to
+/// its own request.
 fn assert_own_replies(
     rt: &impl Abort,
     table: &Table,
@@ -104,7 +106,7 @@ fn assert_own_replies(
 }
 
 #[test]
-fn each_sender_has_its_own_reply(rt: HostRuntime) {
+fn each_sender_gets_its_own_reply(rt: HostRuntime) {
     let table = table_of(&rt, rt.alloc(), SYS_NAME);
     let server = socket_of(&rt);
     let first = socket_of(&rt);
@@ -112,10 +114,10 @@ fn each_sender_has_its_own_reply(rt: HostRuntime) {
     assert_own_replies(&rt, &table, &server, &first, &second);
 }
 
-/// The reply goes to a port that is closed by then, which the next receive of a connected socket
-/// reports as an error, once.
+/// The reply goes to a port that is closed by then. The next receive of a connected socket reports
+/// this as an error, once.
 #[test]
-fn a_receive_that_fails_at_a_socket_is_a_fault(rt: HostRuntime) {
+fn a_failed_receive_is_a_fault(rt: HostRuntime) {
     let table = table_of(&rt, rt.alloc(), SYS_NAME);
     let server = socket_of(&rt);
     let client = socket_of(&rt);
@@ -125,7 +127,7 @@ fn a_receive_that_fails_at_a_socket_is_a_fault(rt: HostRuntime) {
     assert_turns(&rt, &server, &table, 3, of_counts(1, 0, 1, 1));
 }
 
-/// An endpoint at which each second receive fails, and each second reply.
+/// An endpoint at which every second receive fails, and every second reply.
 #[derive(Drop)]
 struct Failing {
     receives: u64,
@@ -166,7 +168,7 @@ impl Endpoint for Failing {
 }
 
 #[test]
-fn what_fails_is_counted_and_the_next_turn_follows(rt: HostRuntime) {
+fn failures_are_counted_and_the_next_turn_follows(rt: HostRuntime) {
     let table = table_of(&rt, rt.alloc(), SYS_NAME);
     let mut endpoint = Failing {
         receives: 0,

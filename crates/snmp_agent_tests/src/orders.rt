@@ -1,4 +1,4 @@
-//! Tables in no order, beside a plain model: rows put one by one.
+//! Tables whose rows are in no order are compared with a simple model, which puts row by row.
 
 use crate::pages::{EVEN, Random, has_rows, map_of, text_of};
 use crate::table::{add_row, fault_of};
@@ -7,63 +7,64 @@ use std::alloc::{AllocError, Global};
 use std::collections::BTreeMap;
 use std::process::Abort;
 
-/// How many rows in order, of the even numbers, stand before the others. They fill so many pages
-/// that a table takes the others to be in no order where these come to many pages, and gathers
-/// them.
+/// The number of rows at the start, which are in order and have even numbers. They fill so many
+/// pages that a table gathers the other rows if these belong to many pages, instead of putting them
+/// one by one.
 const FIRST_ROWS: u32 = 10_000;
 
-/// How many of the others are put one by one before a table gathers the next: three samples.
+/// The number of other rows that are put one by one before a table gathers the next: three samples.
 const SEEN: u32 = 384;
 
-/// The order in which the other rows come, whose numbers are odd.
+/// The order of the other rows, whose numbers are odd.
 #[derive(Clone, Copy, Debug)]
 struct Order {
-    /// How many rows there are.
+    /// The number of rows.
     count: u32,
-    /// The rows are those of so many columns, row by row; with one the numbers rise by the step.
+    /// The number of columns that the rows form. They come row by row, across the columns. With 1,
+    /// the numbers increase by `step`.
     columns: u32,
-    /// The numbers go up by this, from the first on again behind the last; with 0 they fall.
+    /// By how much the numbers increase, modulo `FIRST_ROWS`. With 0 they decrease.
     step: u32,
 }
 
-/// Lines that state something else than the row that they stand for.
+/// Lines that differ from those of the rows in turn.
 #[derive(Clone, Copy, Debug)]
 struct Wrong {
-    /// The line of this number has the row of an earlier one.
+    /// The index of the row whose line has an earlier row instead.
     again: u32,
-    /// The place of that row.
+    /// The index of that earlier row.
     first: u32,
-    /// The line of this number is faulty.
+    /// The index of the row whose line is faulty instead.
     bad: u32,
-    /// The kind of its fault.
+    /// The kind of the fault.
     kind: u32,
 }
 
-/// A text, and what it states: these rows, or else this fault.
+/// A table file, and what it contains: these rows, or this fault.
 #[derive(Drop)]
-struct Stated {
+struct TableFile {
     text: String,
     map: BTreeMap<u32, u32>,
     fault: Option<TableError>,
 }
 
 impl Order {
-    /// The number of the row at this place, which is odd.
-    fn number(&self, place: u32) -> u32 {
-        let place = if self.step == 0 {
-            FIRST_ROWS.saturating_sub(place.wrapping_add(1))
+    /// Returns the number of the row at index `index`, which is odd.
+    fn number(&self, index: u32) -> u32 {
+        let index = if self.step == 0 {
+            FIRST_ROWS.saturating_sub(index.wrapping_add(1))
         } else {
-            place.wrapping_mul(self.step) % FIRST_ROWS
+            index.wrapping_mul(self.step) % FIRST_ROWS
         };
         let columns = self.columns.max(1);
-        let number = (place % columns)
+        let number = (index % columns)
             .wrapping_mul(FIRST_ROWS / columns)
-            .wrapping_add(place / columns);
+            .wrapping_add(index / columns);
         number.wrapping_mul(2).wrapping_add(1)
     }
 }
 
-/// A line with a fault of this kind, and the fault.
+/// Returns a line with a fault of this kind, and the fault.
 fn faulty_line(kind: u32, line: usize) -> (&'static str, TableError) {
     match kind % 3 {
         0 => ("no row\n", TableError::BadLine { line }),
@@ -75,30 +76,34 @@ fn faulty_line(kind: u32, line: usize) -> (&'static str, TableError) {
     }
 }
 
-/// The lines of the rows that stand first.
+/// Returns the lines of the rows at the start.
 fn first_lines(rt: &impl Abort, alloc: Global) -> String {
     text_of(alloc, FIRST_ROWS, 1, EVEN).expect(rt, "memory")
 }
 
-/// A text that begins with those lines, in the second format where it is marked.
+/// Returns a text that begins with `first_lines`, in the second format if `is_marked`.
 fn beginning(alloc: Global, first_lines: &str, is_marked: bool) -> Result<String, AllocError> {
     let mark = if is_marked { "#snmptab 2\n" } else { "" };
     format!(in alloc; "{mark}{first_lines}")
 }
 
-impl Stated {
-    /// The rows that stand first, in the second format where the text is marked.
-    fn of_first(alloc: Global, first_lines: &str, is_marked: bool) -> Result<Stated, AllocError> {
+impl TableFile {
+    /// Returns the file of the rows at the start, in the second format if `is_marked`.
+    fn of_first(
+        alloc: Global,
+        first_lines: &str,
+        is_marked: bool,
+    ) -> Result<TableFile, AllocError> {
         let text = beginning(alloc, first_lines, is_marked)?;
         let map = map_of(alloc, FIRST_ROWS, EVEN).ok_or(AllocError)?;
-        Ok(Stated {
+        Ok(TableFile {
             text,
             map,
             fault: None,
         })
     }
 
-    /// Adds the line of this number, of a row.
+    /// Appends the line with number `line`: the row of `number`.
     fn add_row(&mut self, line: usize, number: u32, value: u32) -> Result<(), AllocError> {
         add_row(&mut self.text, number, value)?;
         if self.map.contains_key(&number) {
@@ -109,7 +114,7 @@ impl Stated {
         Ok(())
     }
 
-    /// Adds the line of this number, with a fault of this kind.
+    /// Appends the line with number `line`: a fault of this kind.
     fn add_fault(&mut self, line: usize, kind: u32) -> Result<(), AllocError> {
         let (shown, fault) = faulty_line(kind, line);
         self.text.push_str(shown)?;
@@ -117,28 +122,27 @@ impl Stated {
         Ok(())
     }
 
-    /// Adds the lines of the other rows, after `lines` lines.
+    /// Appends the lines of the other rows, after `lines` lines.
     fn add_rows(&mut self, order: &Order, wrong: &Wrong, lines: usize) -> Result<(), AllocError> {
         let mut line = lines;
-        for place in 0..order.count {
+        for index in 0..order.count {
             line = line.wrapping_add(1);
-            if place == wrong.bad {
+            if index == wrong.bad {
                 self.add_fault(line, wrong.kind)?;
                 continue;
             }
-            let row = if place == wrong.again {
+            let row = if index == wrong.again {
                 wrong.first
             } else {
-                place
+                index
             };
-            self.add_row(line, order.number(row), place)?;
+            self.add_row(line, order.number(row), index)?;
         }
         Ok(())
     }
 }
 
-/// Asserts that the text of such rows, in the second format where it is marked, is read as it is
-/// stated.
+/// Asserts that the file of such rows is read as expected, in the second format if `is_marked`.
 fn assert_read_so(
     rt: &impl Abort,
     alloc: Global,
@@ -147,26 +151,26 @@ fn assert_read_so(
     wrong: &Wrong,
     is_marked: bool,
 ) {
-    let mut stated = Stated::of_first(alloc, first_lines, is_marked).expect(rt, "memory");
+    let mut file = TableFile::of_first(alloc, first_lines, is_marked).expect(rt, "memory");
     let lines = (FIRST_ROWS as usize).wrapping_add(usize::from(is_marked));
-    let added = stated.add_rows(order, wrong, lines);
+    let added = file.add_rows(order, wrong, lines);
     assert!(rt;
-        added.is_ok() && is_read_so(alloc, &stated),
+        added.is_ok() && is_read_so(alloc, &file),
         "{order:?}, {wrong:?}, marked: {is_marked}"
     );
 }
 
-/// Whether the text is read as it is stated.
-fn is_read_so(alloc: Global, stated: &Stated) -> bool {
-    match (Table::read(alloc, stated.text.as_bytes()), stated.fault) {
-        (Ok(table), None) => has_rows(&table, &stated.map),
+/// Returns whether the text of the file is read as its rows, or refused with its fault.
+fn is_read_so(alloc: Global, file: &TableFile) -> bool {
+    match (Table::read(alloc, file.text.as_bytes()), file.fault) {
+        (Ok(table), None) => has_rows(&table, &file.map),
         (Err(error), Some(fault)) => error == fault,
         _ => false,
     }
 }
 
-/// An order of up to 1,700 rows: falling, of one column, or of some. The first are put one by one;
-/// where a step is long, or the columns are many, the others are gathered.
+/// Returns a random order of 100 to 1,699 rows: decreasing, of one column, or of several. The first
+/// rows are put one by one. If the step is long, or the columns are many, the others are gathered.
 fn any_order(random: &mut Random) -> Order {
     let count = random.below(1600);
     let steps = [0, 1, 619, 1543, 3089];
@@ -180,7 +184,7 @@ fn any_order(random: &mut Random) -> Order {
     }
 }
 
-/// Faults at random places, of which some stand behind all lines.
+/// Returns faults at random indices, some of which are past the last row.
 fn any_wrong(random: &mut Random, count: u32) -> Wrong {
     let more = count.saturating_mul(2);
     let again = random.below(more);
@@ -193,7 +197,7 @@ fn any_wrong(random: &mut Random, count: u32) -> Wrong {
 }
 
 #[test]
-fn tables_in_any_order_are_read_as_row_by_row(rt: HostRuntime) {
+fn tables_in_any_order_are_read_as_if_row_by_row(rt: HostRuntime) {
     let first_lines = first_lines(&rt, rt.alloc());
     let mut random = Random { state: 7 };
     for _ in 0..12 {
@@ -205,7 +209,7 @@ fn tables_in_any_order_are_read_as_row_by_row(rt: HostRuntime) {
 }
 
 #[test]
-fn the_first_double_where_rows_begin_to_be_gathered_is_told(rt: HostRuntime) {
+fn the_first_repeated_row_is_reported_where_gathering_begins(rt: HostRuntime) {
     let first_lines = first_lines(&rt, rt.alloc());
     for again in SEEN - 2..SEEN + 3 {
         let order = Order {
@@ -225,9 +229,9 @@ fn the_first_double_where_rows_begin_to_be_gathered_is_told(rt: HostRuntime) {
     }
 }
 
-/// Pairs of names that have one hash: while rows are gathered, the second is taken for the first
-/// until all rows are in their places.
-const OF_ONE_HASH: [(&str, &str); 6] = [
+/// Pairs of names with the same hash. While rows are gathered, the second name looks like one that
+/// is in the table, until all rows are sorted into the pages.
+const WITH_SAME_HASH: [(&str, &str); 6] = [
     (
         "1.3.6.1.4.1.66.68.108.100.113.111.62.21.33.53.94",
         "1.3.6.1.4.1.30.97.72.73.74.104.26.33.125.0.110",
@@ -254,36 +258,36 @@ const OF_ONE_HASH: [(&str, &str); 6] = [
     ),
 ];
 
-/// Adds the first name of each such pair, `before` rows in no order, the second name of each pair,
-/// and the row of the place `again`.
+/// Appends the first name of each such pair, `before` rows in no order, the second name of each
+/// pair, and the row at index `again`.
 fn add_names(text: &mut String, before: u32, again: u32) -> Result<(), AllocError> {
     let order = Order {
         count: before,
         columns: 1,
         step: 619,
     };
-    for (name, _) in &OF_ONE_HASH {
+    for (name, _) in &WITH_SAME_HASH {
         write!(text, "{name}|65|1\n")?;
     }
-    for place in 0..before {
-        add_row(text, order.number(place), 1)?;
+    for index in 0..before {
+        add_row(text, order.number(index), 1)?;
     }
-    for (_, name) in &OF_ONE_HASH {
+    for (_, name) in &WITH_SAME_HASH {
         write!(text, "{name}|65|1\n")?;
     }
     add_row(text, order.number(again), 1)
 }
 
-/// The fault of a text of the first rows and those names and rows.
+/// Returns the fault of a text with the rows at the start, and those of [`add_names`].
 fn fault_of_names(alloc: Global, first_lines: &str, before: u32, again: u32) -> Option<TableError> {
     let mut text = beginning(alloc, first_lines, false).ok()?;
     add_names(&mut text, before, again).ok()?;
     fault_of(alloc, text.as_bytes())
 }
 
-/// Asserts that the text of those names and rows has a row twice where that of `again` is one of
-/// those before.
-fn assert_told(rt: &impl Abort, alloc: Global, first_lines: &str, before: u32, again: u32) {
+/// Asserts that the last row of [`add_names`] is reported as a repetition if `again` is below
+/// `before`, and that the text is a table otherwise.
+fn assert_double(rt: &impl Abort, alloc: Global, first_lines: &str, before: u32, again: u32) {
     let double = Some(TableError::Double {
         line: (FIRST_ROWS as usize)
             .saturating_add(before as usize)
@@ -297,11 +301,11 @@ fn assert_told(rt: &impl Abort, alloc: Global, first_lines: &str, before: u32, a
 }
 
 #[test]
-fn names_of_one_hash_are_told_apart(rt: HostRuntime) {
+fn names_with_the_same_hash_are_told_apart(rt: HostRuntime) {
     let first_lines = first_lines(&rt, rt.alloc());
     for before in [377, 378, 379, 1000] {
         for again in [0, 378, 999] {
-            assert_told(&rt, rt.alloc(), &first_lines, before, again);
+            assert_double(&rt, rt.alloc(), &first_lines, before, again);
         }
     }
 }

@@ -8,21 +8,22 @@ use std::alloc::{AllocError, Global};
 use std::collections::BTreeMap;
 use std::process::Abort;
 
-/// Numbers in no order, the same in each run.
+/// Pseudo-random numbers, the same in each run.
 #[derive(Drop)]
 pub(crate) struct Random {
     pub(crate) state: u32,
 }
 
 impl Random {
-    /// The next number below the bound.
+    /// Returns the next number below `bound`.
     pub(crate) fn below(&mut self, bound: u32) -> u32 {
         self.state = self.state.wrapping_mul(1664525).wrapping_add(1013904223);
         (self.state >> 8) % bound.max(1)
     }
 }
 
-/// Whether the rows are those of the map, from each number to its value, and no others.
+/// Returns whether the rows of `table` are those of `map`, from the number of each to its value,
+/// and no others.
 pub(crate) fn has_rows(table: &Table, map: &BTreeMap<u32, u32>) -> bool {
     let mut binding = Binding::empty();
     let Some(mut rows) = all_rows(table) else {
@@ -38,8 +39,8 @@ pub(crate) fn has_rows(table: &Table, map: &BTreeMap<u32, u32>) -> bool {
     matches!(binding.value, ValueRef::EndOfMibView)
 }
 
-/// Puts the value at the row of the number, in both, and returns whether both say that there was
-/// none, or both that there was one.
+/// Puts the value at the row of the number, in both. Returns whether both say the same: that there
+/// was such a row, or that there was none.
 fn is_put(table: &mut Table, map: &mut BTreeMap<u32, u32>, number: u32, value: u32) -> bool {
     let Some(name) = name_of(number) else {
         return false;
@@ -53,8 +54,8 @@ fn is_put(table: &mut Table, map: &mut BTreeMap<u32, u32>, number: u32, value: u
     }
 }
 
-/// Removes the row of the number from both, and returns whether both say that there was one, or
-/// both that there was none.
+/// Removes the row of the number from both. Returns whether both say the same: that there was such
+/// a row, or that there was none.
 fn is_removed(table: &mut Table, map: &mut BTreeMap<u32, u32>, number: u32) -> bool {
     match name_of(number) {
         Some(name) => table.remove(&name) == map.remove(&number).is_some(),
@@ -62,7 +63,7 @@ fn is_removed(table: &mut Table, map: &mut BTreeMap<u32, u32>, number: u32) -> b
     }
 }
 
-/// Asserts that changes of both in no order are the same.
+/// Asserts that both have the same rows after the same random changes.
 fn assert_changed(rt: &impl Abort, table: &mut Table, map: &mut BTreeMap<u32, u32>) {
     let mut random = Random { state: 1 };
     for change in 0..10000 {
@@ -79,28 +80,29 @@ fn assert_changed(rt: &impl Abort, table: &mut Table, map: &mut BTreeMap<u32, u3
 }
 
 #[test]
-fn changes_in_no_order_are_those_of_a_map(rt: HostRuntime) {
+fn random_changes_have_the_same_effect_on_a_map(rt: HostRuntime) {
     let mut table = table_of(&rt, rt.alloc(), b"");
     let mut map = BTreeMap::new(rt.alloc());
     assert_changed(&rt, &mut table, &mut map);
 }
 
-/// How the number of a row is made of a smaller one: the factors of its square and of itself.
+/// How the number of a row is made of a smaller number: the factors of its square and of itself.
 pub(crate) type Spread = (u32, u32);
 
 /// Each number as it is.
 const PLAIN: Spread = (0, 1);
 
-/// The double of each number.
+/// Each number doubled.
 pub(crate) const EVEN: Spread = (0, 2);
 
-/// The number of a row that is made of this one.
+/// Returns the number of the row that is made of `number`.
 fn spread(number: u32, (square, single): Spread) -> u32 {
     let squares = number.wrapping_mul(number).wrapping_mul(square);
     squares.wrapping_add(number.wrapping_mul(single))
 }
 
-/// The text of `count` rows, whose numbers go up by `step`, modulo `count`, and are spread so.
+/// Returns the lines of `count` rows. Their numbers begin with 0, increase by `step` modulo
+/// `count`, and are then spread by `factors`.
 pub(crate) fn text_of(
     alloc: Global,
     count: u32,
@@ -117,7 +119,7 @@ pub(crate) fn text_of(
     Ok(text)
 }
 
-/// The map from the number of each such row to its value.
+/// Returns the map from the number of each row of [`text_of`] to its value.
 pub(crate) fn map_of(alloc: Global, count: u32, factors: Spread) -> Option<BTreeMap<u32, u32>> {
     let mut map = BTreeMap::new(alloc);
     for number in 0..count {
@@ -127,13 +129,13 @@ pub(crate) fn map_of(alloc: Global, count: u32, factors: Spread) -> Option<BTree
     Some(map)
 }
 
-/// The table that is read of such rows.
+/// Returns the table of [`text_of`].
 fn table_read(alloc: Global, count: u32, step: u32, factors: Spread) -> Option<Table> {
     let text = text_of(alloc, count, step, factors).ok()?;
     Table::read(alloc, text.as_bytes()).ok()
 }
 
-/// Whether a table that is read of `count` such rows has them.
+/// Returns whether the table of [`text_of`] has the rows of [`map_of`].
 fn is_read(alloc: Global, count: u32, step: u32, factors: Spread) -> Option<bool> {
     let table = table_read(alloc, count, step, factors)?;
     let map = map_of(alloc, count, factors)?;
@@ -141,8 +143,8 @@ fn is_read(alloc: Global, count: u32, step: u32, factors: Spread) -> Option<bool
 }
 
 #[test]
-fn rows_are_read_around_the_size_of_a_page(rt: HostRuntime) {
-    // A step that has no factor in common with a count comes to each number once.
+fn counts_of_rows_around_the_size_of_a_page_are_read(rt: HostRuntime) {
+    // A step without a common factor with a count reaches each number once.
     for &count in &[0, 1, 127, 128, 129, 255, 256, 257, 512, 513] {
         assert!(rt;
             is_read(rt.alloc(), count, 1, PLAIN) == Some(true),
@@ -155,10 +157,10 @@ fn rows_are_read_around_the_size_of_a_page(rt: HostRuntime) {
     }
 }
 
-/// Counts of rows, each with a step by which many of them come before the one in front. At the last
-/// counts these are so many that a table gathers them, and puts them in place when they may be as
-/// many as the others, once before the end.
-const IN_NO_ORDER: [(u32, u32); 14] = [
+/// Counts of rows, each with a step by which many rows have a smaller name than the line before. At
+/// the last counts these are so many that a table gathers them. It sorts them into the pages when
+/// they may be as many as the rows there, which happens once before the end.
+const UNORDERED: [(u32, u32); 14] = [
     (100, 61),
     (129, 79),
     (190, 117),
@@ -176,8 +178,8 @@ const IN_NO_ORDER: [(u32, u32); 14] = [
 ];
 
 #[test]
-fn rows_in_no_order_are_read_around_the_times_when_they_are_put_in_place(rt: HostRuntime) {
-    for &(count, step) in &IN_NO_ORDER {
+fn unordered_rows_are_read_before_and_after_they_are_sorted_in(rt: HostRuntime) {
+    for &(count, step) in &UNORDERED {
         assert!(rt;
             is_read(rt.alloc(), count, step, PLAIN) == Some(true),
             "{count} rows"
@@ -186,8 +188,9 @@ fn rows_in_no_order_are_read_around_the_times_when_they_are_put_in_place(rt: Hos
 }
 
 #[test]
-fn names_of_short_and_long_numbers_in_no_order_are_read(rt: HostRuntime) {
-    // Up to 2,999 times itself and 400, which 32 bits hold: encodings of one octet to five.
+fn unordered_names_of_short_and_long_numbers_are_read(rt: HostRuntime) {
+    // The greatest number is 400 * 2,999 * 2,999, which fits into 32 bits. The encodings have one
+    // octet to five.
     for &(count, step) in &[(200, 123), (1000, 619), (3000, 1853)] {
         assert!(rt;
             is_read(rt.alloc(), count, step, (400, 0)) == Some(true),
@@ -196,18 +199,18 @@ fn names_of_short_and_long_numbers_in_no_order_are_read(rt: HostRuntime) {
     }
 }
 
-/// The line of a row, the line that has the same row, and the line that states no row, if there is
-/// one. Lines count from 1.
+/// Three lines, counted from 1: that of a row, that of the same row again, and one that isn't a
+/// row. 0 is for none.
 type Lines = (u32, u32, u32);
 
-/// Adds `count` such rows, with these faults.
+/// Appends `count` rows, in the order of [`text_of`], with these faults.
 fn add_rows(text: &mut String, count: u32, step: u32, lines: Lines) -> Result<(), AllocError> {
     let (first, again, bad) = lines;
     let mut number: u32 = 0;
-    for place in 0..count {
-        if place.wrapping_add(1) == bad {
+    for index in 0..count {
+        if index.wrapping_add(1) == bad {
             text.push_str("no row\n")?;
-        } else if place.wrapping_add(1) == again {
+        } else if index.wrapping_add(1) == again {
             let number = first.wrapping_sub(1).wrapping_mul(step) % count.max(1);
             add_row(text, number, 1)?;
         } else {
@@ -218,14 +221,14 @@ fn add_rows(text: &mut String, count: u32, step: u32, lines: Lines) -> Result<()
     Ok(())
 }
 
-/// The fault of a text of such rows.
+/// Returns the fault of a table file with the rows of [`add_rows`].
 fn fault_of_rows(alloc: Global, count: u32, step: u32, lines: Lines) -> Option<TableError> {
     let mut text = String::new(alloc);
     add_rows(&mut text, count, step, lines).ok()?;
     fault_of(alloc, text.as_bytes())
 }
 
-/// The first and the second line of a name.
+/// The first and the second line with the same name.
 const TWICE: [(u32, u32); 10] = [
     (1, 2),
     (1, 100),
@@ -240,7 +243,7 @@ const TWICE: [(u32, u32); 10] = [
 ];
 
 #[test]
-fn a_name_that_is_there_is_told_behind_gathered_rows_that_were_put_in_place(rt: HostRuntime) {
+fn a_repeated_name_is_reported_after_gathered_rows_were_sorted_in(rt: HostRuntime) {
     for &(first, again) in &[(1, 39_000), (20_000, 39_999), (38_000, 38_500)] {
         let double = Some(TableError::Double {
             line: again as usize,
@@ -253,7 +256,7 @@ fn a_name_that_is_there_is_told_behind_gathered_rows_that_were_put_in_place(rt: 
 }
 
 #[test]
-fn the_first_line_of_a_name_that_is_there_is_told(rt: HostRuntime) {
+fn the_first_line_that_repeats_a_name_is_reported(rt: HostRuntime) {
     for &(first, again) in &TWICE {
         let double = Some(TableError::Double {
             line: again as usize,
@@ -275,24 +278,25 @@ fn the_first_line_of_a_name_that_is_there_is_told(rt: HostRuntime) {
     }
 }
 
-/// The numbers before and after which an encoding becomes longer.
-const EDGES: [u32; 7] = [127, 128, 16383, 16384, 2097151, 2097152, 4294967295];
+/// The numbers just below and above the limits at which an encoding becomes longer, and the
+/// greatest.
+const LIMITS: [u32; 7] = [127, 128, 16383, 16384, 2097151, 2097152, 4294967295];
 
-/// Puts the rows of these numbers in their permutation of this number, and returns whether there
-/// were none of them.
+/// Puts the rows of the numbers in `remaining`, in their permutation number `order`. Returns
+/// whether each was put, and `table` and `map` agree on whether it was there.
 fn are_put(
     table: &mut Table,
     map: &mut BTreeMap<u32, u32>,
-    left: &mut Vec<u32>,
+    remaining: &mut Vec<u32>,
     order: usize,
 ) -> bool {
     let mut order = order;
-    for _ in 0..EDGES.len() {
-        let count = left.len();
+    for _ in 0..LIMITS.len() {
+        let count = remaining.len();
         if count == 0 {
             return false;
         }
-        let number = left.remove(order % count);
+        let number = remaining.remove(order % count);
         order /= count;
         if !is_put(table, map, number, number) {
             return false;
@@ -301,17 +305,17 @@ fn are_put(
     true
 }
 
-/// Whether the rows of the edges are in order, once they were put in their permutation of this
-/// number.
+/// Returns whether the rows of `LIMITS` are in order after they were put in their permutation
+/// number `order`.
 fn is_ordered(alloc: Global, order: usize) -> Option<bool> {
-    let mut left = Vec::from_array(alloc, EDGES).ok()?;
+    let mut remaining = Vec::from_array(alloc, LIMITS).ok()?;
     let mut table = Table::read(alloc, b"").ok()?;
     let mut map = BTreeMap::new(alloc);
-    Some(are_put(&mut table, &mut map, &mut left, order) && has_rows(&table, &map))
+    Some(are_put(&mut table, &mut map, &mut remaining, order) && has_rows(&table, &map))
 }
 
 #[test]
-fn names_at_the_edges_of_encodings_are_in_order(rt: HostRuntime) {
+fn names_at_the_limits_of_encodings_are_in_order(rt: HostRuntime) {
     for order in 0..5040 {
         assert!(rt;
             is_ordered(rt.alloc(), order) == Some(true),
@@ -320,18 +324,18 @@ fn names_at_the_edges_of_encodings_are_in_order(rt: HostRuntime) {
     }
 }
 
-/// Whether a table of `count` rows, of even numbers, has the rows of a map after each change at
-/// this place.
-fn is_changed_at(alloc: Global, count: u32, place: u32) -> Option<bool> {
+/// Returns whether a table of `count` rows with even numbers has the rows of a map after each
+/// change at index `index`.
+fn is_changed_at(alloc: Global, count: u32, index: u32) -> Option<bool> {
     let mut table = table_read(alloc, count, 1, EVEN)?;
     let mut map = map_of(alloc, count, EVEN)?;
-    Some(is_changed(&mut table, &mut map, place))
+    Some(is_changed(&mut table, &mut map, index))
 }
 
-/// Whether the table has the rows of the map after each change: the row at this place gets a new
-/// value, one is put beside it, and both are removed.
-fn is_changed(table: &mut Table, map: &mut BTreeMap<u32, u32>, place: u32) -> bool {
-    let number = place.wrapping_mul(2);
+/// Returns whether the table has the rows of the map after each change: the row at index `index`
+/// gets a new value, one is put next to it, and both are removed.
+fn is_changed(table: &mut Table, map: &mut BTreeMap<u32, u32>, index: u32) -> bool {
+    let number = index.wrapping_mul(2);
     let beside = number.wrapping_add(1);
     let replaced = is_put(table, map, number, 7) && has_rows(table, map);
     let inserted = is_put(table, map, beside, 8) && has_rows(table, map);
@@ -344,11 +348,11 @@ fn is_changed(table: &mut Table, map: &mut BTreeMap<u32, u32>, place: u32) -> bo
 fn rows_change_at_the_ends_and_in_the_middle_of_each_page(rt: HostRuntime) {
     // Rows that are read in order fill pages of 128.
     for &count in &[1, 128, 129, 256, 257, 513] {
-        for &place in &[0, 1, 127, 128, 129, 254, 255, 256, 257, 384, 510, 511, 512] {
-            if place < count {
+        for &index in &[0, 1, 127, 128, 129, 254, 255, 256, 257, 384, 510, 511, 512] {
+            if index < count {
                 assert!(rt;
-                    is_changed_at(rt.alloc(), count, place) == Some(true),
-                    "at {place} of {count}"
+                    is_changed_at(rt.alloc(), count, index) == Some(true),
+                    "at {index} of {count}"
                 );
             }
         }

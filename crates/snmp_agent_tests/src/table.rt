@@ -1,16 +1,16 @@
-//! The worked examples of tables: what their lines give, and each fault with its line.
+//! Table files: the rows of their lines, and each fault with its line.
 
 use snmp_agent::{Successors, Table, TableError};
 use snmp_wire::{Binding, EncodedName, MAX_CONTENT, Oid, ValueRef, parse_numeric};
 use std::alloc::{AllocError, Global};
 use std::process::Abort;
 
-/// Rows that aren't in order, with each way to end a line.
+/// Three rows that aren't in order, with each kind of line ending.
 const ROWS: &[u8] =
     b"# three rows\r\nobject 1.3.6.1.4.1.32473.1\n\n1.3.6.1.4.1.32473.1.10.0|2|3\r\n\
 1.3.6.1.4.1.32473.1.2.0|4|wes\n.1.3.6.1.4.1.32473.1.1.0|2|1";
 
-/// Whether the binding is the variable of this name and value.
+/// Returns whether `binding` has this name and value.
 fn is_variable(binding: &Binding<'_>, name: &[u8], value: &ValueRef<'_>) -> bool {
     match parse_numeric(name) {
         Ok(name) => binding.name == name && binding.value == *value,
@@ -18,24 +18,24 @@ fn is_variable(binding: &Binding<'_>, name: &[u8], value: &ValueRef<'_>) -> bool
     }
 }
 
-/// What a GetNext of the name gives.
+/// Returns the binding that a GetNext of `name` returns.
 fn next<'a>(table: &'a Table, name: &EncodedName<'_>) -> Binding<'a> {
     let mut binding = Binding::empty();
     table.read_next_after(name, 0, &mut binding);
     binding
 }
 
-/// The table of this text.
+/// Returns the table of this text.
 pub(crate) fn table_of(rt: &impl Abort, alloc: Global, text: &[u8]) -> Table {
     Table::read(alloc, text).expect(rt, "a table")
 }
 
-/// The identifier of this text.
+/// Returns the identifier of this text.
 pub(crate) fn name(rt: &impl Abort, text: &[u8]) -> Oid {
     parse_numeric(text).expect(rt, "a name")
 }
 
-/// The rows behind the name, if it has an encoding.
+/// Returns the rows after `name`, or `None` if `name` has no encoding.
 fn rows_after<'a>(table: &'a Table, name: &Oid) -> Option<Successors<'a>> {
     if !name.is_wire() {
         return None;
@@ -44,13 +44,13 @@ fn rows_after<'a>(table: &'a Table, name: &Oid) -> Option<Successors<'a>> {
     Some(table.after(&EncodedName::write(name, &mut content)))
 }
 
-/// All rows: those behind 0.0, which is no row's name.
+/// Returns all rows: those after 0.0, which isn't the name of a row.
 pub(crate) fn all_rows<'a>(table: &'a Table) -> Option<Successors<'a>> {
     Some(table.after(&EncodedName::read(&[0])?))
 }
 
-/// Whether this variable is read `rounds` rows past the one after `from`, into a binding that held
-/// the one after `from`.
+/// Returns whether this variable is read `rounds` rows past the first row after `from`, into a
+/// binding that held that first row.
 fn is_read(table: &Table, from: &[u8], rounds: usize, name: &[u8], value: &ValueRef<'_>) -> bool {
     match parse_numeric(from) {
         Ok(from) if from.is_wire() => {
@@ -74,7 +74,7 @@ const LAST: &[u8] = b"1.3.6.1.4.1.32473.1.10.0";
 
 const PAST: &[u8] = b"2.100.3";
 
-/// Asserts that each row comes after the one before.
+/// Asserts that each row comes after the one before, and endOfMibView after the last.
 fn assert_order(rt: &impl Abort, table: &Table) {
     let rows = [
         (ROOT, 0, FIRST, ValueRef::Integer(1)),
@@ -100,7 +100,7 @@ fn rows_are_in_order(rt: HostRuntime) {
     assert_order(&rt, &table);
 }
 
-/// A binding that walks along the rows of a table.
+/// A binding that moves along the rows of a table.
 #[derive(Drop)]
 struct Walk<'a> {
     rows: Successors<'a>,
@@ -108,14 +108,14 @@ struct Walk<'a> {
 }
 
 impl Walk<'_> {
-    /// Advances the binding. Whether it is the variable of this name and value then.
-    fn comes_to(&mut self, name: &[u8], value: &ValueRef<'_>) -> bool {
+    /// Advances the binding, and returns whether it has this name and value then.
+    fn advances_to(&mut self, name: &[u8], value: &ValueRef<'_>) -> bool {
         self.rows.advance(&mut self.binding);
         is_variable(&self.binding, name, value)
     }
 }
 
-/// Asserts that the walk comes to each row, and then to the end.
+/// Asserts that the walk reaches each row, and then the end.
 fn assert_walk(rt: &impl Abort, walk: &mut Walk<'_>) {
     let steps = [
         (FIRST, ValueRef::Integer(1)),
@@ -125,12 +125,12 @@ fn assert_walk(rt: &impl Abort, walk: &mut Walk<'_>) {
         (LAST, ValueRef::EndOfMibView),
     ];
     for (name, value) in &steps {
-        assert!(rt; walk.comes_to(name, value), "{name:?}");
+        assert!(rt; walk.advances_to(name, value), "{name:?}");
     }
 }
 
 #[test]
-fn a_binding_walks_along_the_rows(rt: HostRuntime) {
+fn a_binding_advances_along_the_rows(rt: HostRuntime) {
     let name = name(&rt, ROOT);
     let table = table_of(&rt, rt.alloc(), ROWS);
     let mut walk = Walk {
@@ -143,22 +143,22 @@ fn a_binding_walks_along_the_rows(rt: HostRuntime) {
     assert_walk(&rt, &mut walk);
 }
 
-/// Whether a Get of the name gives the value.
-pub(crate) fn gives(table: &Table, name: &[u8], value: &ValueRef<'_>) -> bool {
+/// Returns whether a Get of `name` returns `value`.
+pub(crate) fn get_returns(table: &Table, name: &[u8], value: &ValueRef<'_>) -> bool {
     match parse_numeric(name) {
         Ok(name) => table.get(&name) == *value,
         Err(_) => false,
     }
 }
 
-/// Asserts that it does.
+/// Asserts that a Get of `name` returns `value`.
 pub(crate) fn assert_get(rt: &impl Abort, table: &Table, name: &[u8], value: &ValueRef<'_>) {
-    assert!(rt; gives(table, name, value), "{name:?}");
+    assert!(rt; get_returns(table, name, value), "{name:?}");
 }
 
-/// Asserts that names without a row have exceptions.
+/// Asserts that a Get of a row returns its value, and a Get of another name an exception.
 fn assert_exceptions(rt: &impl Abort, table: &Table) {
-    let given = [
+    let rows = [
         (LAST, ValueRef::Integer(3)),
         (ROOT, ValueRef::NoSuchInstance),
         (b"1.3.6.1.4.1.32473.1.3", ValueRef::NoSuchInstance),
@@ -166,7 +166,7 @@ fn assert_exceptions(rt: &impl Abort, table: &Table) {
         (b"1.3.6.1.4.1.32473.2", ValueRef::NoSuchObject),
         (b".", ValueRef::NoSuchObject),
     ];
-    for (name, value) in &given {
+    for (name, value) in &rows {
         assert_get(rt, table, name, value);
     }
 }
@@ -177,21 +177,21 @@ fn names_without_a_row_have_exceptions(rt: HostRuntime) {
     assert_exceptions(&rt, &table);
 }
 
-/// Whether the line states this value of 1.3.6.
-fn states(alloc: Global, line: &[u8], value: &ValueRef<'_>) -> bool {
+/// Returns whether 1.3.6 has this value in the table of `line`.
+fn line_has_value(alloc: Global, line: &[u8], value: &ValueRef<'_>) -> bool {
     match Table::read(alloc, line) {
-        Ok(table) => gives(&table, b"1.3.6", value),
+        Ok(table) => get_returns(&table, b"1.3.6", value),
         Err(_) => false,
     }
 }
 
-/// Asserts that it does.
-fn assert_states(rt: &impl Abort, alloc: Global, line: &[u8], value: &ValueRef<'_>) {
-    assert!(rt; states(alloc, line, value), "of {line:?}");
+/// Asserts that 1.3.6 has this value in the table of `line`.
+fn assert_line(rt: &impl Abort, alloc: Global, line: &[u8], value: &ValueRef<'_>) {
+    assert!(rt; line_has_value(alloc, line, value), "of {line:?}");
 }
 
 #[test]
-fn each_tag_states_its_values(rt: HostRuntime) {
+fn each_tag_has_its_values(rt: HostRuntime) {
     let id = name(&rt, b"2.4294967295.0");
     let rows = [
         (
@@ -221,11 +221,11 @@ fn each_tag_states_its_values(rt: HostRuntime) {
         (b"1.3.6|6|2.4294967295.0", ValueRef::ObjectId(id)),
     ];
     for (line, value) in &rows {
-        assert_states(&rt, rt.alloc(), line, value);
+        assert_line(&rt, rt.alloc(), line, value);
     }
 }
 
-/// Texts, each with the fault of its first faulty line.
+/// Table files, each with the fault of its first faulty line.
 const FAULTS: &[(&[u8], TableError)] = &[
     (
         b"1.3.6.1.4.1.32473.1.0|2|1\n1.3.6.1.4.1.32473.1.0|2|1",
@@ -266,7 +266,7 @@ const FAULTS: &[(&[u8], TableError)] = &[
         b"1.3.6|2|1\nobject 1\nobject 1\n1.3.6|4|a\n?",
         TableError::Double { line: 4 },
     ),
-    // The second format: its mark, and bars within quotes.
+    // The second format: the line that marks it, and bars within quotes.
     (b"\"a|b\"|2|1", TableError::BadLine { line: 1 }),
     (b"#snmptab 2\n\"a|b\"|2|1", TableError::BadName { line: 2 }),
     (b"#snmptab 2\r\n'a|b'|2|1", TableError::BadName { line: 2 }),
@@ -289,12 +289,12 @@ const FAULTS: &[(&[u8], TableError)] = &[
     ),
 ];
 
-/// The fault of the text, if it states no table.
+/// Returns the fault of `text`, or `None` if it is a table.
 pub(crate) fn fault_of(alloc: Global, text: &[u8]) -> Option<TableError> {
     Table::read(alloc, text).err()
 }
 
-/// The text has this fault.
+/// Asserts that `text` has this fault.
 fn assert_fault(rt: &impl Abort, alloc: Global, text: &[u8], fault: TableError) {
     assert!(rt; fault_of(alloc, text) == Some(fault), "of {text:?}");
 }
@@ -306,13 +306,13 @@ fn the_first_faulty_line_is_reported(rt: HostRuntime) {
     }
 }
 
-/// Adds these octets.
+/// Appends `octets` to `text`.
 fn put(rt: &impl Abort, text: &mut Vec<u8>, octets: &[u8]) {
     text.extend_from_slice(octets).expect(rt, "memory");
 }
 
-/// `before`, `part` repeated `count` times, and `after`.
-pub(crate) fn repeated(
+/// Returns `before`, then `part` repeated `count` times, then `after`.
+pub(crate) fn repeated_text(
     rt: &impl Abort,
     alloc: Global,
     before: &[u8],
@@ -329,12 +329,12 @@ pub(crate) fn repeated(
     text
 }
 
-/// Adds the line of the row of this number, 1.3.6.1.4.1.32473.1, the number and 0, with this value.
+/// Appends the line of row 1.3.6.1.4.1.32473.1.`number`.0, with the Counter32 `value`.
 pub(crate) fn add_row(text: &mut String, number: u32, value: u32) -> Result<(), AllocError> {
     write!(text, "1.3.6.1.4.1.32473.1.{number}.0|65|{value}\n")
 }
 
-/// Whether the name after 1.3.6 in the table of the text has 128 numbers.
+/// Returns whether the first name after 1.3.6 in the table of `text` has 128 numbers.
 fn has_longest_name(alloc: Global, text: &[u8]) -> bool {
     let Some(root) = EncodedName::read(&[0x2b, 6]) else {
         return false;
@@ -345,7 +345,7 @@ fn has_longest_name(alloc: Global, text: &[u8]) -> bool {
     }
 }
 
-/// Asserts that it has.
+/// Asserts [`has_longest_name`].
 fn assert_longest_name(rt: &impl Abort, alloc: Global, text: &[u8]) {
     assert!(rt; has_longest_name(alloc, text));
 }
@@ -353,14 +353,14 @@ fn assert_longest_name(rt: &impl Abort, alloc: Global, text: &[u8]) {
 #[test]
 fn names_have_128_numbers_at_most(rt: HostRuntime) {
     let alloc = rt.alloc();
-    let longest = repeated(&rt, alloc, b"1.3.6", b".4294967295", 125, b"|2|1");
+    let longest = repeated_text(&rt, alloc, b"1.3.6", b".4294967295", 125, b"|2|1");
     assert_longest_name(&rt, alloc, &longest);
-    let longer = repeated(&rt, alloc, b"1.3.6", b".4294967295", 126, b"|2|1");
+    let longer = repeated_text(&rt, alloc, b"1.3.6", b".4294967295", 126, b"|2|1");
     assert_fault(&rt, alloc, &longer, TableError::BadName { line: 1 });
 }
 
-/// Whether a Get of 1.3.6 gives a string of 65535 octets.
-fn gives_longest(table: &Table) -> bool {
+/// Returns whether a Get of 1.3.6 returns a string of 65535 octets.
+fn has_longest_string(table: &Table) -> bool {
     match parse_numeric(b"1.3.6") {
         Ok(name) => match table.get(&name) {
             ValueRef::Octets(octets) => octets.len() == 65535,
@@ -370,16 +370,16 @@ fn gives_longest(table: &Table) -> bool {
     }
 }
 
-/// Asserts that the table of the text gives that.
+/// Asserts that the table of `text` has a string of 65535 octets at 1.3.6.
 fn assert_longest_string(rt: &impl Abort, alloc: Global, text: &[u8]) {
-    assert!(rt; gives_longest(&table_of(rt, alloc, text)));
+    assert!(rt; has_longest_string(&table_of(rt, alloc, text)));
 }
 
 /// Asserts that a string of 65535 parts after the tag is read, and that one part more is a fault.
 fn assert_longest(rt: &impl Abort, alloc: Global, tag: &[u8], part: &[u8]) {
-    let longest = repeated(rt, alloc, tag, part, 65535, b"");
+    let longest = repeated_text(rt, alloc, tag, part, 65535, b"");
     assert_longest_string(rt, alloc, &longest);
-    let longer = repeated(rt, alloc, tag, part, 65536, b"");
+    let longer = repeated_text(rt, alloc, tag, part, 65536, b"");
     assert_fault(rt, alloc, &longer, TableError::BadValue { line: 1 });
 }
 
