@@ -1,4 +1,4 @@
-//! Texts that are refused, with the fault and its line, and the smallest texts that are read.
+//! Texts that are refused, each with its fault and line, and the smallest texts that are accepted.
 
 use crate::reading::{
     assert_fault_of_each, assert_faults, bad_byte, counts, fault_of, fault_of_pieces, is_named,
@@ -9,7 +9,7 @@ use std::alloc::{AllocError, Global};
 use std::process::Abort;
 use std::test::Fail;
 
-/// The fault of a second definition on this line.
+/// Returns the fault of a second definition on this line.
 fn double_name(line: usize) -> Option<ParseError> {
     Some(ParseError::DoubleName { line })
 }
@@ -24,7 +24,7 @@ const NO_MODULES: &[&[u8]] = &[
     b"-- one -- -- two\n",
 ];
 
-/// Texts of a module with nothing in it.
+/// Texts of an empty module.
 const EMPTY_MODULES: &[&[u8]] = &[
     b"A DEFINITIONS ::= BEGIN END",
     b"A -- note -- DEFINITIONS ::= BEGIN END",
@@ -32,7 +32,7 @@ const EMPTY_MODULES: &[&[u8]] = &[
 ];
 
 #[test]
-fn no_modules_and_empty_ones(rt: HostRuntime) {
+fn texts_without_a_module_and_empty_modules_are_accepted(rt: HostRuntime) {
     let alloc = rt.alloc();
     for text in NO_MODULES {
         assert_eq!(rt; counts(alloc, text), Ok((0, 0)));
@@ -49,7 +49,7 @@ fn no_modules_and_empty_ones(rt: HostRuntime) {
     );
 }
 
-/// Whether a text is one module A, with nothing in it.
+/// Returns whether `text` is one module A, which is empty.
 fn is_empty_module(alloc: Global, text: &[u8]) -> bool {
     match parse_modules(alloc, text) {
         Ok(modules) => are_empty_module(&modules),
@@ -57,7 +57,7 @@ fn is_empty_module(alloc: Global, text: &[u8]) -> bool {
     }
 }
 
-/// Whether modules are one module A, with nothing in it.
+/// Returns whether `modules` are one module A, which is empty.
 fn are_empty_module(modules: &[Module]) -> bool {
     let [module] = modules else {
         return false;
@@ -69,7 +69,7 @@ fn are_empty_module(modules: &[Module]) -> bool {
 }
 
 #[test]
-fn faults_and_their_lines(rt: HostRuntime) {
+fn each_fault_has_its_line(rt: HostRuntime) {
     let alloc = rt.alloc();
     let rows = [
         (b"A DEFINITIONS BEGIN\nEND".as_slice(), syntax(1)),
@@ -79,7 +79,7 @@ fn faults_and_their_lines(rt: HostRuntime) {
         ),
         (b"A\n\n\"open", open_string(3)),
         (b"A DEFINITIONS ::= BEGIN\n? END", bad_byte(2)),
-        // A fault in the first of two lines, and in the middle of a text.
+        // A fault on the first line, and in the middle of a text.
         (b"::=\nA DEFINITIONS ::= BEGIN END", syntax(1)),
         (b"END\n\n\n", syntax(1)),
         (
@@ -122,7 +122,7 @@ fn faults_and_their_lines(rt: HostRuntime) {
 }
 
 #[test]
-fn names_that_are_defined_twice(rt: HostRuntime) {
+fn a_second_definition_of_a_name_is_a_fault(rt: HostRuntime) {
     let alloc = rt.alloc();
     let rows = [
         (
@@ -165,7 +165,7 @@ fn names_that_are_defined_twice(rt: HostRuntime) {
             b"A DEFINITIONS ::= BEGIN IMPORTS X, X FROM B X FROM B; X ::= BITS END",
             None,
         ),
-        // The fault of a definition comes first.
+        // A fault in a definition comes before a repeated name.
         (
             b"A DEFINITIONS ::= BEGIN\nX ::= BITS\nX ::= ;\nX ::= BITS END",
             syntax(3),
@@ -175,7 +175,7 @@ fn names_that_are_defined_twice(rt: HostRuntime) {
 }
 
 #[test]
-fn the_first_fault_of_several(rt: HostRuntime) {
+fn the_first_of_several_faults_is_reported(rt: HostRuntime) {
     let alloc = rt.alloc();
     let rows = [
         // A second definition before and after a fault of the lexer.
@@ -191,11 +191,11 @@ fn the_first_fault_of_several(rt: HostRuntime) {
             b"A DEFINITIONS ::= BEGIN X ::= BITS\nX ::= BITS END\n\"open",
             double_name(2),
         ),
-        // A token that can't stand there before and after one.
+        // An unexpected token before and after a fault of the lexer.
         (b"A DEFINITIONS BEGIN\n?", syntax(1)),
         (b"A DEFINITIONS\n? BEGIN", bad_byte(2)),
         (b"A DEFINITIONS ::= BEGIN END\n'1", open_string(2)),
-        // Tokens that are kept unchanged end at a fault too.
+        // Raw tokens end at a fault too.
         (
             b"A DEFINITIONS ::= BEGIN\nX ::= CHOICE { { ?\n} } END",
             bad_byte(2),
@@ -238,13 +238,13 @@ const OUT_OF_RANGE: &[&str] = &[
 ];
 
 #[test]
-fn numbers_in_their_ranges(rt: HostRuntime) -> Result<(), Fail> {
+fn numbers_out_of_their_range_are_faults(rt: HostRuntime) -> Result<(), Fail> {
     assert_fault_of_each(&rt, rt.alloc(), IN_RANGE, None)?;
     assert_fault_of_each(&rt, rt.alloc(), OUT_OF_RANGE, syntax(2))?;
     Ok(())
 }
 
-/// Definitions with a clause in a wrong place, or without one.
+/// Definitions with a misplaced clause, or with a missing one.
 const MISPLACED: &[&str] = &[
     "x OBJECT IDENTIFIER ::= iso",
     "x OBJECT-TYPE SYNTAX BITS STATUS current DESCRIPTION \"\" MAX-ACCESS read-only \
@@ -294,7 +294,7 @@ const MISPLACED: &[&str] = &[
 ];
 
 #[test]
-fn clauses_in_wrong_places(rt: HostRuntime) -> Result<(), Fail> {
+fn misplaced_clauses_are_faults(rt: HostRuntime) -> Result<(), Fail> {
     let alloc = rt.alloc();
     for text in MISPLACED {
         assert!(rt;
@@ -305,7 +305,7 @@ fn clauses_in_wrong_places(rt: HostRuntime) -> Result<(), Fail> {
     Ok(())
 }
 
-/// Appends 10,000 braces.
+/// Appends 10,000 times `brace`.
 fn put_braces(text: &mut Vec<u8>, brace: u8) -> Result<(), AllocError> {
     for _ in 0..10000 {
         text.push(brace)?;
@@ -313,13 +313,13 @@ fn put_braces(text: &mut Vec<u8>, brace: u8) -> Result<(), AllocError> {
     Ok(())
 }
 
-/// The fault of a text that ends its last line.
+/// Returns the fault of `text` with a line feed after it.
 fn fault_of_line(alloc: Global, text: &[u8]) -> Result<Option<ParseError>, AllocError> {
     fault_of_pieces(alloc, &[text, b"\n"])
 }
 
-/// Appends 10,000 braces that open and as many that close to the front of a module, and asserts
-/// that it is refused at its last line until `rest`, which closes the brace before them, is
+/// Appends 10,000 opening braces and as many closing ones to `text`, the start of a module. Asserts
+/// that it is refused on its last line until `rest`, which closes the brace before them, is
 /// appended.
 fn assert_deep(
     rt: &impl Abort,
@@ -337,7 +337,7 @@ fn assert_deep(
 }
 
 #[test]
-fn deep_braces(rt: HostRuntime) -> Result<(), Fail> {
+fn deep_braces_are_accepted(rt: HostRuntime) -> Result<(), Fail> {
     let alloc = rt.alloc();
     let mut text = Vec::from_slice(alloc, b"A DEFINITIONS ::= BEGIN\nX ::= CHOICE {")?;
     assert_deep(&rt, alloc, &mut text, b"}\nEND\n")?;
@@ -345,7 +345,7 @@ fn deep_braces(rt: HostRuntime) -> Result<(), Fail> {
 }
 
 #[test]
-fn deep_braces_of_a_default(rt: HostRuntime) -> Result<(), Fail> {
+fn deep_braces_in_a_default_are_accepted(rt: HostRuntime) -> Result<(), Fail> {
     let alloc = rt.alloc();
     let mut text = Vec::from_slice(
         alloc,

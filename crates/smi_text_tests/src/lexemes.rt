@@ -1,4 +1,4 @@
-//! Octets of every kind, as the parser meets them.
+//! Tokens, line ends, comments and signs, as the lexer and the parser read them.
 
 use crate::reading::{
     assert_counts, assert_fault_of_each, assert_faults, bad_byte, counts, definition, open_string,
@@ -12,7 +12,7 @@ use std::test::Fail;
 /// A token: its kind and text, where it begins and ends, and its line.
 type Row = (TokenKind, &'static str, usize, usize, usize);
 
-/// A text of which the first tokens are those of `TOKENS`; no token begins with what follows.
+/// A text that begins with `TOKENS`. The octets after them begin no token.
 const MIXED: &[u8] = b"A-b_9 x-- note --'0F'h -07..\n\"two\nlines\"::= :: '';";
 
 /// The tokens of `MIXED`.
@@ -28,7 +28,7 @@ const TOKENS: &[Row] = &[
     (TokenKind::Colon, ":", 45, 46, 3),
 ];
 
-/// Whether a token is this one.
+/// Returns whether `token` is this one.
 fn is_token(token: &Token<'_>, row: &Row) -> bool {
     let (kind, octets, start, end, line) = *row;
     token.kind == kind
@@ -38,7 +38,7 @@ fn is_token(token: &Token<'_>, row: &Row) -> bool {
 }
 
 #[test]
-fn tokens_spans_and_lines(rt: HostRuntime) -> Result<(), Fail> {
+fn tokens_have_their_spans_and_lines(rt: HostRuntime) -> Result<(), Fail> {
     let mut lexer = Lexer::new(MIXED);
     for row in TOKENS {
         let Some(Ok(token)) = lexer.next() else {
@@ -52,14 +52,14 @@ fn tokens_spans_and_lines(rt: HostRuntime) -> Result<(), Fail> {
     Ok(())
 }
 
-/// Whether a text defines the name on this line.
+/// Returns whether `text` defines `name` on this line.
 fn has_line(alloc: Global, text: &[u8], name: &str, line: usize) -> Result<bool, ParseError> {
     let modules = parse_modules(alloc, text)?;
     Ok(definition(&modules, name).is_some_and(|def| def.line == line))
 }
 
 #[test]
-fn ends_of_lines_and_pages(rt: HostRuntime) -> Result<(), Fail> {
+fn only_a_line_feed_ends_a_line(rt: HostRuntime) -> Result<(), Fail> {
     let alloc = rt.alloc();
     let text =
         b"A DEFINITIONS ::= BEGIN\r\nIMPORTS a\r\nFROM B;\r\n\x0cx OBJECT IDENTIFIER ::= {\r\n\
@@ -70,7 +70,7 @@ fn ends_of_lines_and_pages(rt: HostRuntime) -> Result<(), Fail> {
             b"A\x0cDEFINITIONS\x0b::=\tBEGIN\x0cEND\x0c".as_slice(),
             None,
         ),
-        // CR alone ends no line, nor do FF and VT.
+        // A CR by itself ends no line, nor do FF and VT.
         (b"A DEFINITIONS ::= BEGIN\r\x0c\x0b;\r\nEND", syntax(1)),
         (b"A DEFINITIONS ::= BEGIN\r\n;\r\nEND", syntax(2)),
         (b"-- a comment that a CR doesn't end \rA", None),
@@ -80,7 +80,7 @@ fn ends_of_lines_and_pages(rt: HostRuntime) -> Result<(), Fail> {
 }
 
 #[test]
-fn comments(rt: HostRuntime) {
+fn comments_are_skipped(rt: HostRuntime) {
     let alloc = rt.alloc();
     let rows = [
         (
@@ -103,7 +103,7 @@ fn comments(rt: HostRuntime) {
         ),
         (b"A DEFINITIONS ::= BEGIN --a-b-c-- END", Ok((1, 0))),
         (b"A DEFINITIONS ::= BEGIN X ::= A---b\nEND", Ok((1, 1))),
-        // The second run of hyphens ends the comment, so the word stands outside.
+        // The second run of hyphens ends the comment, so `title` is outside of it.
         (
             b"A DEFINITIONS ::= BEGIN\n-- ---- title ----\nEND",
             Err(ParseError::Syntax { line: 3 }),
@@ -114,7 +114,7 @@ fn comments(rt: HostRuntime) {
 }
 
 #[test]
-fn octets_that_begin_nothing(rt: HostRuntime) {
+fn octets_that_begin_no_token_are_faults(rt: HostRuntime) {
     let alloc = rt.alloc();
     let rows = [
         (b"\x00".as_slice(), bad_byte(1)),
@@ -158,7 +158,7 @@ fn octets_that_begin_nothing(rt: HostRuntime) {
     assert_faults(&rt, alloc, &rows);
 }
 
-/// Appends a module with a string in which each octet but its quote stands.
+/// Appends a module that has a string with each octet but the quote.
 fn put_any_string(text: &mut Vec<u8>) -> Result<(), AllocError> {
     text.extend_from_slice(b"A DEFINITIONS ::= BEGIN X ::= CHOICE { \"")?;
     for octet in 0..=255u8 {
@@ -171,14 +171,14 @@ fn put_any_string(text: &mut Vec<u8>) -> Result<(), AllocError> {
 }
 
 #[test]
-fn octets_in_a_string(rt: HostRuntime) -> Result<(), Fail> {
+fn a_string_has_any_octet_but_a_quote(rt: HostRuntime) -> Result<(), Fail> {
     let mut text = Vec::new(rt.alloc());
     put_any_string(&mut text)?;
     assert_eq!(rt; counts(rt.alloc(), &text), Ok((1, 1)));
     Ok(())
 }
 
-/// Definitions with raw text, in which every sign may stand.
+/// Definitions with raw text, in which every sign is accepted.
 const RAW: &[&str] = &[
     "x MODULE-COMPLIANCE { } } ( [ ] < > , ; : | . = .. -5 'a'H '1'B \"\" a B END \
         ::= { iso 1 }",
@@ -190,7 +190,7 @@ const RAW: &[&str] = &[
 const SIGNS: &[&str] = &["<", ">", ":", ".", "=", "|", ")", "]", "-1", "\"\"", "''H"];
 
 #[test]
-fn signs_that_only_raw_text_has(rt: HostRuntime) -> Result<(), Fail> {
+fn some_signs_are_accepted_only_in_raw_text(rt: HostRuntime) -> Result<(), Fail> {
     assert_fault_of_each(&rt, rt.alloc(), RAW, None)?;
     assert_fault_of_each(&rt, rt.alloc(), SIGNS, syntax(2))?;
     Ok(())

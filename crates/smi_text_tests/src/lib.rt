@@ -1,5 +1,6 @@
-//! Tests of the reading of module texts, through the public functions of `smi_text`: its tokens,
-//! its trees and its faults. They are a separate crate so that `smi_text` is proved only once.
+//! Tests of how the text of modules is read, through the public functions of `smi_text`: its
+//! tokens, its trees and its faults. They are a crate of their own, so that `smi_text` is proved
+//! only once.
 #![tactic(auto)]
 
 #[cfg(test)]

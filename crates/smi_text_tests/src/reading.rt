@@ -1,38 +1,38 @@
-//! Helpers of the tests: reading texts, and comparing what was read.
+//! Helpers of the tests, which read texts and compare what was read.
 
 use smi_text::{Def, LexError, Module, Name, ParseError, Part, Text, TokenText, parse_modules};
 use std::alloc::{AllocError, Global};
 use std::process::Abort;
 
-/// The fault of a text.
+/// Returns the fault of `text`, if it has one.
 pub(crate) fn fault(alloc: Global, text: &[u8]) -> Option<ParseError> {
     parse_modules(alloc, text).err()
 }
 
-/// The fault of wrong syntax on this line.
+/// Returns the fault of wrong syntax on this line.
 pub(crate) fn syntax(line: usize) -> Option<ParseError> {
     Some(ParseError::Syntax { line })
 }
 
-/// The fault of an octet on this line with which no token begins.
+/// Returns the fault of an octet on this line that begins no token.
 pub(crate) fn bad_byte(line: usize) -> Option<ParseError> {
     Some(ParseError::Lex(LexError::BadByte { line }))
 }
 
-/// The fault of a string that begins on this line and has no end.
+/// Returns the fault of a string that begins on this line and has no end.
 pub(crate) fn open_string(line: usize) -> Option<ParseError> {
     Some(ParseError::Lex(LexError::OpenString { line }))
 }
 
-/// Asserts that texts have these faults.
+/// Asserts that each text has its fault.
 pub(crate) fn assert_faults(rt: &impl Abort, alloc: Global, rows: &[(&[u8], Option<ParseError>)]) {
     for (text, expected) in rows {
         assert_eq!(rt; fault(alloc, text), *expected);
     }
 }
 
-/// The octets of pieces in turn.
-pub(crate) fn joined(alloc: Global, pieces: &[&[u8]]) -> Result<Vec<u8>, AllocError> {
+/// Returns the octets of `pieces`, one piece after the other.
+pub(crate) fn join_pieces(alloc: Global, pieces: &[&[u8]]) -> Result<Vec<u8>, AllocError> {
     let mut octets = Vec::new(alloc);
     for piece in pieces {
         octets.extend_from_slice(piece)?;
@@ -40,16 +40,16 @@ pub(crate) fn joined(alloc: Global, pieces: &[&[u8]]) -> Result<Vec<u8>, AllocEr
     Ok(octets)
 }
 
-/// The fault of a text of pieces.
+/// Returns the fault of the text that consists of `pieces`.
 pub(crate) fn fault_of_pieces(
     alloc: Global,
     pieces: &[&[u8]],
 ) -> Result<Option<ParseError>, AllocError> {
-    let text = joined(alloc, pieces)?;
+    let text = join_pieces(alloc, pieces)?;
     Ok(fault(alloc, &text))
 }
 
-/// The fault of a text of three pieces, the second of which is the whole second line.
+/// Returns the fault of a text of three pieces. The second, `piece`, is its second line.
 pub(crate) fn fault_in_line(
     alloc: Global,
     before: &[u8],
@@ -62,12 +62,12 @@ pub(crate) fn fault_in_line(
     )
 }
 
-/// The fault of a definition between the first and the last line of a module: its line is 2.
+/// Returns the fault of a module whose second line is `definition`, and which has nothing else.
 pub(crate) fn fault_of(alloc: Global, definition: &str) -> Result<Option<ParseError>, AllocError> {
     fault_in_line(alloc, b"A DEFINITIONS ::= BEGIN", definition, "END\n")
 }
 
-/// Asserts that each of these definitions has this fault.
+/// Asserts that each of these definitions has the fault `expected`.
 pub(crate) fn assert_fault_of_each(
     rt: &impl Abort,
     alloc: Global,
@@ -80,7 +80,7 @@ pub(crate) fn assert_fault_of_each(
     Ok(())
 }
 
-/// How many modules a text has, and how many definitions they have together.
+/// Returns the number of modules in `text`, and the number of definitions that they have together.
 pub(crate) fn counts(alloc: Global, text: &[u8]) -> Result<(usize, usize), ParseError> {
     let modules = parse_modules(alloc, text)?;
     let mut defs: usize = 0;
@@ -90,7 +90,7 @@ pub(crate) fn counts(alloc: Global, text: &[u8]) -> Result<(usize, usize), Parse
     Ok((modules.len(), defs))
 }
 
-/// Asserts that texts have so many modules and definitions, or these faults.
+/// Asserts that each text has these numbers of modules and definitions, or this fault.
 pub(crate) fn assert_counts(
     rt: &impl Abort,
     alloc: Global,
@@ -101,17 +101,17 @@ pub(crate) fn assert_counts(
     }
 }
 
-/// Whether a text of the tree has these octets.
+/// Returns whether `text` has these octets.
 pub(crate) fn is(text: &Text, octets: &str) -> bool {
     text.as_bytes() == octets.as_bytes()
 }
 
-/// Whether a name has these octets.
+/// Returns whether `name` has these octets.
 pub(crate) fn is_named(name: &Name, octets: &str) -> bool {
     name.as_bytes() == octets.as_bytes()
 }
 
-/// Whether there is a text, and it has these octets.
+/// Returns whether there is a text, and it has these octets.
 pub(crate) fn is_some(text: &Option<Text>, octets: &str) -> bool {
     match text {
         Some(text) => is(text, octets),
@@ -119,31 +119,31 @@ pub(crate) fn is_some(text: &Option<Text>, octets: &str) -> bool {
     }
 }
 
-/// Whether names are these words, in this order.
+/// Returns whether `names` are these words, in this order.
 pub(crate) fn are(names: &[Name], words: &str) -> bool {
-    let mut left = words.split_whitespace();
+    let mut rest = words.split_whitespace();
     for name in names {
-        match left.next() {
+        match rest.next() {
             Some(word) if is_named(name, word) => {}
             _ => return false,
         }
     }
-    left.next().is_none()
+    rest.next().is_none()
 }
 
-/// Whether tokens are these words, in this order.
+/// Returns whether `tokens` are these words, in this order.
 pub(crate) fn are_tokens(tokens: &[TokenText], words: &str) -> bool {
-    let mut left = words.split_whitespace();
+    let mut rest = words.split_whitespace();
     for token in tokens {
-        match left.next() {
+        match rest.next() {
             Some(word) if is(&token.text, word) => {}
             _ => return false,
         }
     }
-    left.next().is_none()
+    rest.next().is_none()
 }
 
-/// The definition of a name in a list of modules.
+/// Returns the definition of `name` in a list of modules.
 pub(crate) fn definition<'a>(modules: &'a [Module], name: &str) -> Option<&'a Def> {
     for module in modules {
         if let Some(def) = module.define(name.as_bytes()) {
@@ -153,7 +153,7 @@ pub(crate) fn definition<'a>(modules: &'a [Module], name: &str) -> Option<&'a De
     None
 }
 
-/// The parts of a definition's identifier value, none for a type.
+/// Returns the parts of a definition's identifier value; none for a type.
 pub(crate) fn parts_of(def: &Def) -> &[Part] {
     match def.identifier() {
         Some(parts) => parts.as_slice(),

@@ -10,10 +10,10 @@ use std::process::Abort;
 /// A token's kind, text and line.
 type Row = (TokenKind, &'static [u8], usize);
 
-/// A text, its tokens, and its fault if it breaks off.
+/// A text, its tokens, and its fault if it isn't read to its end.
 type Case = (&'static [u8], &'static [Row], Option<LexError>);
 
-/// Whether a token of a text is this one, also by the octets at its span.
+/// Returns whether a token of `text` is this one, also by the octets at its span.
 fn is_token(text: &[u8], token: &Token<'_>, row: &Row) -> bool {
     let (kind, octets, line) = row;
     let span = token.span;
@@ -23,7 +23,7 @@ fn is_token(text: &[u8], token: &Token<'_>, row: &Row) -> bool {
         && text.get(span.start..span.end) == Some(*octets)
 }
 
-/// Whether a text has these tokens and this fault, and the lexer ends after them.
+/// Returns whether `text` has these tokens and this fault, and the lexer ends after them.
 fn is_lexed(text: &[u8], rows: &[Row], fault: Option<LexError>) -> bool {
     let mut lexer = Lexer::new(text);
     for row in rows {
@@ -41,13 +41,13 @@ fn is_lexed(text: &[u8], rows: &[Row], fault: Option<LexError>) -> bool {
 }
 
 /// Asserts that each text has its tokens and its fault.
-fn expect(rt: &impl Abort, cases: &[Case]) {
+fn assert_lexed(rt: &impl Abort, cases: &[Case]) {
     for (text, rows, fault) in cases {
         assert!(rt; is_lexed(text, rows, *fault), "{text:?}");
     }
 }
 
-const GAPS: &[Case] = &[
+const BLANKS_AND_COMMENTS: &[Case] = &[
     (b"", &[], None),
     (b" \t\r\n\x0b\x0c", &[], None),
     (b"-- only a comment", &[], None),
@@ -227,26 +227,26 @@ const FAULTS: &[Case] = &[
 ];
 
 #[test]
-fn gaps_are_lexed(rt: HostRuntime) {
-    expect(&rt, GAPS);
+fn blanks_and_comments_are_skipped(rt: HostRuntime) {
+    assert_lexed(&rt, BLANKS_AND_COMMENTS);
 }
 
 #[test]
 fn words_and_numbers_are_lexed(rt: HostRuntime) {
-    expect(&rt, WORDS_AND_NUMBERS);
+    assert_lexed(&rt, WORDS_AND_NUMBERS);
 }
 
 #[test]
 fn strings_and_literals_are_lexed(rt: HostRuntime) {
-    expect(&rt, STRINGS_AND_LITERALS);
+    assert_lexed(&rt, STRINGS_AND_LITERALS);
 }
 
 #[test]
 fn symbols_are_lexed(rt: HostRuntime) {
-    expect(&rt, SYMBOLS);
+    assert_lexed(&rt, SYMBOLS);
 }
 
 #[test]
-fn faults_are_lexed(rt: HostRuntime) {
-    expect(&rt, FAULTS);
+fn octets_that_begin_no_token_are_faults(rt: HostRuntime) {
+    assert_lexed(&rt, FAULTS);
 }

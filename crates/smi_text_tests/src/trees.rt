@@ -1,4 +1,4 @@
-//! The trees of texts in which each production of the grammar stands.
+//! The trees of texts that use each production of the grammar.
 
 use crate::reading::{are, are_tokens, counts, definition, is, is_named, is_some, parts_of};
 use smi_text::{
@@ -10,19 +10,19 @@ use std::process::Abort;
 use std::test::Fail;
 
 #[test]
-fn tiny_modules(rt: HostRuntime) -> Result<(), Fail> {
+fn two_small_modules_have_17_definitions(rt: HostRuntime) -> Result<(), Fail> {
     assert_eq!(rt; counts(rt.alloc(), TINY), Ok((2, 17)));
     Ok(())
 }
 
 #[test]
-fn each_production_broken_off(rt: HostRuntime) -> Result<(), Fail> {
+fn an_incomplete_text_lacks_its_last_module(rt: HostRuntime) -> Result<(), Fail> {
     let alloc = rt.alloc();
-    // Without its last line feed the text is still whole; if it is any shorter, its last module has
-    // no end.
+    // Without its last line feed the text is still complete. If it is any shorter, its last module
+    // has no end.
     for len in 0..ALL.len().saturating_sub(1) {
-        let (front, _) = ALL.split_at(len);
-        if let Ok((modules, _)) = counts(alloc, front) {
+        let (prefix, _) = ALL.split_at(len);
+        if let Ok((modules, _)) = counts(alloc, prefix) {
             assert!(rt; modules < 2);
         }
     }
@@ -30,14 +30,14 @@ fn each_production_broken_off(rt: HostRuntime) -> Result<(), Fail> {
 }
 
 #[test]
-fn each_production(rt: HostRuntime) -> Result<(), Fail> {
+fn each_production_has_its_tree(rt: HostRuntime) -> Result<(), Fail> {
     let modules = parse_modules(rt.alloc(), ALL)?;
     assert_shapes(&rt, &modules);
     assert_clauses(&rt, &modules);
     Ok(())
 }
 
-/// Asserts that modules have their heads, and each definition its shape.
+/// Asserts that the modules have the expected heads, and each definition the expected shape.
 fn assert_shapes(rt: &impl Abort, modules: &[Module]) {
     assert!(rt; has_heads(modules), "heads");
     for row in SHAPES {
@@ -45,7 +45,7 @@ fn assert_shapes(rt: &impl Abort, modules: &[Module]) {
     }
 }
 
-/// Asserts that the definitions of modules have their clauses.
+/// Asserts that the definitions have the expected clauses.
 fn assert_clauses(rt: &impl Abort, modules: &[Module]) {
     assert_right(rt, has_identities(modules), "identities");
     assert_right(rt, has_groups(modules), "groups");
@@ -56,13 +56,13 @@ fn assert_clauses(rt: &impl Abort, modules: &[Module]) {
     assert_right(rt, has_raw_tokens(modules), "raw tokens");
 }
 
-/// Asserts that definitions are there, and that what they have is right.
+/// Asserts that the definitions exist and are as expected.
 fn assert_right(rt: &impl Abort, right: Option<bool>, what: &str) {
     assert_eq!(rt; right, Some(true), "{what}");
 }
 
-/// The name, line, words of the kind and identifier value of each definition, with `@` between
-/// them. An assigned type has no words.
+/// The name, the line, the words of the kind and the identifier value of each definition, with `@`
+/// between them. An assigned type has no words.
 const SHAPES: &[&str] = &[
     "m@5@MODULE-IDENTITY@iso 1",
     "o@7@OBJECT IDENTIFIER@iso org(3) dod(6) 1",
@@ -107,12 +107,12 @@ fn has_shape(modules: &[Module], row: &str) -> bool {
     }
 }
 
-/// Whether a name and its number are these.
+/// Returns whether `numbered` has this name and this number.
 fn is_numbered(numbered: &NamedNumber, name: &str, number: &str) -> bool {
     is_named(&numbered.name, name) && is(&numbered.number, number)
 }
 
-/// Whether a part is written like this.
+/// Returns whether `part` is written as `word`.
 fn is_part(part: &Part, word: &str) -> bool {
     match part {
         Part::Number(number) => is(number, word),
@@ -125,16 +125,16 @@ fn is_part(part: &Part, word: &str) -> bool {
     }
 }
 
-/// Whether parts are these, with blanks between them.
+/// Returns whether `parts` are these words, in this order.
 fn are_parts(parts: &[Part], words: &str) -> bool {
-    let mut left = words.split_whitespace();
+    let mut rest = words.split_whitespace();
     for part in parts {
-        match left.next() {
+        match rest.next() {
             Some(word) if is_part(part, word) => {}
             _ => return false,
         }
     }
-    left.next().is_none()
+    rest.next().is_none()
 }
 
 fn has_heads(modules: &[Module]) -> bool {
@@ -155,7 +155,7 @@ fn has_heads(modules: &[Module]) -> bool {
         && second.defs.len() == 0
 }
 
-/// Whether a FROM clause on this line imports these symbols from this module.
+/// Returns whether a FROM clause on this line imports these symbols from this module.
 fn is_import(import: &Import, symbols: &str, source: &str, line: usize) -> bool {
     are_tokens(import.symbols.as_slice(), symbols)
         && is_named(&import.source, source)
@@ -174,13 +174,13 @@ fn has_imports(first: &Module, second: &Module) -> bool {
         && none.len() == 0
 }
 
-/// What a name is defined as.
+/// Returns what `name` is defined as.
 fn kind<'a>(modules: &'a [Module], name: &str) -> Option<&'a DefKind> {
     let def = definition(modules, name)?;
     Some(&def.kind)
 }
 
-/// Whether STATUS, DESCRIPTION and REFERENCE are these; an empty text is none.
+/// Returns whether STATUS, DESCRIPTION and REFERENCE are these. An empty `reference` is for none.
 fn is_status(status: &Status, word: &str, description: &str, reference: &str) -> bool {
     let same = if reference.is_empty() {
         status.reference.is_none()
@@ -200,7 +200,7 @@ fn has_identities(modules: &[Module]) -> Option<bool> {
     Some(is_identity(m) && is_status(&oi.status, "current", "\"d\"", "\"r\""))
 }
 
-/// Whether a REVISION and its DESCRIPTION are these.
+/// Returns whether a REVISION and its DESCRIPTION are these.
 fn is_revision(revision: &Revision, date: &str, description: &str) -> bool {
     is(&revision.date, date) && is(&revision.description, description)
 }
@@ -275,7 +275,7 @@ fn has_objects(modules: &[Module]) -> Option<bool> {
     Some(first && second && all)
 }
 
-/// The type, if it isn't SEQUENCE OF.
+/// Returns the type, unless it is a SEQUENCE OF.
 fn as_simple(syntax: &Syntax) -> Option<&SimpleType> {
     match syntax {
         Syntax::Simple(simple) => Some(simple),
@@ -283,7 +283,7 @@ fn as_simple(syntax: &Syntax) -> Option<&SimpleType> {
     }
 }
 
-/// Whether a type is `INTEGER { a(1), b(-2) }`.
+/// Returns whether a type is `INTEGER { a(1), b(-2) }`.
 fn has_numbers(syntax: &Syntax) -> Option<bool> {
     let simple = as_simple(syntax)?;
     let Some(Refinement::Numbers(numbers)) = &simple.refinement else {
@@ -299,7 +299,7 @@ fn has_numbers(syntax: &Syntax) -> Option<bool> {
     )
 }
 
-/// Whether a type is SEQUENCE OF this row.
+/// Returns whether a type is SEQUENCE OF `name`.
 fn is_table_of(syntax: &Syntax, name: &str) -> bool {
     match syntax {
         Syntax::SequenceOf(row) => is_named(row, name),
@@ -307,7 +307,8 @@ fn is_table_of(syntax: &Syntax, name: &str) -> bool {
     }
 }
 
-/// Whether the row of this name has these objects as its INDEX, the last one after IMPLIED or not.
+/// Returns whether the row `name` has the objects `names` as its INDEX, the last one after IMPLIED
+/// if `implied` is true, and only then.
 fn has_index(modules: &[Module], name: &str, names: &str, implied: bool) -> Option<bool> {
     match object(modules, name)?.index.as_ref()? {
         Index::Own(parts) => Some(are(parts.names.as_slice(), names) && parts.implied == implied),
@@ -335,7 +336,7 @@ fn convention<'a>(modules: &'a [Module], name: &str) -> Option<&'a TextualConven
     }
 }
 
-/// Whether a type is `OCTET STRING (SIZE (0..8 | '10'H..'11111'B | 99))`.
+/// Returns whether a type is `OCTET STRING (SIZE (0..8 | '10'H..'11111'B | 99))`.
 fn has_sizes(syntax: &Syntax) -> Option<bool> {
     let simple = as_simple(syntax)?;
     let Some(Refinement::Size(sizes)) = &simple.refinement else {
@@ -347,7 +348,7 @@ fn has_sizes(syntax: &Syntax) -> Option<bool> {
     )
 }
 
-/// Whether a type is `Tc (1 | 2..3)`.
+/// Returns whether a type is `Tc (1 | 2..3)`.
 fn has_values(syntax: &Syntax) -> Option<bool> {
     let simple = as_simple(syntax)?;
     let (Base::Named(name), Some(Refinement::Values(values))) = (&simple.base, &simple.refinement)
@@ -369,18 +370,18 @@ fn has_conventions(modules: &[Module]) -> Option<bool> {
     )
 }
 
-/// Whether ranges have these ends, in order; a `-` stands for no upper end.
+/// Returns whether ranges have these bounds, in this order. A `-` stands for no upper bound.
 fn are_ranges(ranges: &[Range], words: &str) -> bool {
-    let mut left = words.split_whitespace();
+    let mut rest = words.split_whitespace();
     for range in ranges {
-        let (Some(low), Some(high)) = (left.next(), left.next()) else {
+        let (Some(low), Some(high)) = (rest.next(), rest.next()) else {
             return false;
         };
         if !is(&range.low.text, low) || !is_end(&range.high, high) {
             return false;
         }
     }
-    left.next().is_none()
+    rest.next().is_none()
 }
 
 fn is_end(end: &Option<TokenText>, word: &str) -> bool {
@@ -412,7 +413,7 @@ fn has_types(modules: &[Module]) -> Option<bool> {
     )
 }
 
-/// The raw tokens of a definition.
+/// Returns the raw tokens of a definition.
 fn raw<'a>(modules: &'a [Module], name: &str) -> Option<&'a [TokenText]> {
     match kind(modules, name)? {
         DefKind::ModuleCompliance(d) | DefKind::AgentCapabilities(d) => Some(d.clauses.as_slice()),

@@ -1,4 +1,4 @@
-//! What a module defines and imports, and the values of its numbers and strings.
+//! What a module defines and imports, and the values of numbers and bounds.
 
 use crate::reading::parts_of;
 use smi_text::{Items, Module, Text, TokenKind, arc, bound, number, parse_modules};
@@ -10,10 +10,10 @@ const LOOKED_UP: &[u8] = b"A DEFINITIONS ::= BEGIN IMPORTS a, b FROM M\nOBJECT-T
     x OBJECT IDENTIFIER ::= { a -0 b(7) }\nY ::= BITS\n\
     g OBJECT-GROUP OBJECTS { x } STATUS current DESCRIPTION \"d\" ::= { x 2 }\nEND\n";
 
-/// The name of an import, the module after FROM, and the line of the clause.
+/// The name of an import, with the module after FROM and the line of that clause.
 type Imported = (&'static [u8], Option<(&'static [u8], usize)>);
 
-/// What the module imports, and names that it doesn't.
+/// What `LOOKED_UP` imports, and names that it doesn't.
 const IMPORTED: &[Imported] = &[
     (b"a", Some((b"M", 1))),
     (b"b", Some((b"M", 1))),
@@ -24,10 +24,10 @@ const IMPORTED: &[Imported] = &[
     (b"A", None),
 ];
 
-/// The name of a definition, its line, and the words of its kind.
+/// The name of a definition, with its line and the words of its kind.
 type Defined = (&'static [u8], Option<(usize, &'static [u8])>);
 
-/// What the module defines, and names that it doesn't.
+/// What `LOOKED_UP` defines, and names that it doesn't.
 const DEFINED: &[Defined] = &[
     (b"x", Some((3, b"OBJECT IDENTIFIER"))),
     (b"Y", Some((4, b""))),
@@ -37,27 +37,27 @@ const DEFINED: &[Defined] = &[
     (b"", None),
 ];
 
-/// The module after FROM where a module imports a name, and the line of the clause.
+/// Returns the module after FROM from which `module` imports `name`, and the line of that clause.
 fn import_of<'a>(module: &'a Module, name: &[u8]) -> Option<(&'a [u8], usize)> {
     let import = module.import(name)?;
     Some((import.source.as_bytes(), import.line))
 }
 
-/// The line where a module defines a name, and the words of the kind.
+/// Returns the line on which `module` defines `name`, and the words of the definition's kind.
 fn definition_of<'a>(module: &'a Module, name: &[u8]) -> Option<(usize, &'a [u8])> {
     let def = module.define(name)?;
     Some((def.line, def.kind_words()))
 }
 
 #[test]
-fn names_are_looked_up(rt: HostRuntime) -> Result<(), Fail> {
+fn imports_and_definitions_are_found_by_name(rt: HostRuntime) -> Result<(), Fail> {
     let modules = parse_modules(rt.alloc(), LOOKED_UP)?;
     let module = modules.first().ok_or("no module")?;
     assert_names(&rt, module);
     Ok(())
 }
 
-/// Asserts that a module imports and defines these names and no others.
+/// Asserts that `module` imports and defines these names and no others.
 fn assert_names(rt: &impl Abort, module: &Module) {
     for (name, expected) in IMPORTED {
         assert!(rt; import_of(module, name) == *expected);
@@ -68,7 +68,7 @@ fn assert_names(rt: &impl Abort, module: &Module) {
 }
 
 #[test]
-fn parts_have_numbers(rt: HostRuntime) -> Result<(), Fail> {
+fn parts_of_an_identifier_have_numbers(rt: HostRuntime) -> Result<(), Fail> {
     let modules = parse_modules(rt.alloc(), LOOKED_UP)?;
     let module = modules.first().ok_or("no module")?;
     assert_numbers(&rt, module)
@@ -89,7 +89,7 @@ fn assert_numbers(rt: &impl Abort, module: &Module) -> Result<(), Fail> {
 }
 
 #[test]
-fn numbers_of_identifiers(rt: HostRuntime) {
+fn numbers_of_identifiers_are_read_within_their_range(rt: HostRuntime) {
     let rows = [
         (b"0".as_slice(), Some(0)),
         (b"-0", Some(0)),
@@ -106,7 +106,7 @@ fn numbers_of_identifiers(rt: HostRuntime) {
 }
 
 #[test]
-fn signed_numbers(rt: HostRuntime) {
+fn signed_numbers_are_read_within_their_range(rt: HostRuntime) {
     let rows = [
         (b"-0".as_slice(), Some(0)),
         (b"-1", Some(-1)),
@@ -121,7 +121,7 @@ fn signed_numbers(rt: HostRuntime) {
 }
 
 #[test]
-fn ends_of_ranges(rt: HostRuntime) {
+fn bounds_of_ranges_are_read(rt: HostRuntime) {
     let rows = [
         (TokenKind::Number, b"-12".as_slice(), Some(-12)),
         (TokenKind::Hex, b"''H", Some(0)),
@@ -142,7 +142,7 @@ fn ends_of_ranges(rt: HostRuntime) {
 }
 
 #[test]
-fn lists_and_texts_return_as_vectors(rt: HostRuntime) -> Result<(), Fail> {
+fn lists_and_texts_become_vectors(rt: HostRuntime) -> Result<(), Fail> {
     let alloc = rt.alloc();
     let numbers = Items::new(vec![in alloc; 7, 8]?).into_vec();
     assert_eq!(rt; numbers.as_slice(), [7, 8].as_slice());

@@ -1,11 +1,12 @@
-//! Every reserved word in every place of the grammar: it is read only where the grammar has it.
+//! Each reserved word at each position in the grammar: it is accepted only where the grammar has
+//! it.
 
-use crate::reading::{fault_in_line, joined, syntax};
+use crate::reading::{fault_in_line, join_pieces, syntax};
 use smi_text::ParseError;
 use std::alloc::{AllocError, Global};
 use std::test::Fail;
 
-/// The words of the grammar.
+/// The reserved words of the grammar.
 const WORDS: &str =
     "DEFINITIONS BEGIN END IMPORTS FROM OBJECT IDENTIFIER LAST-UPDATED ORGANIZATION CONTACT-INFO \
     DESCRIPTION REVISION SYNTAX UNITS MAX-ACCESS DEFVAL OBJECTS NOTIFICATIONS DISPLAY-HINT \
@@ -18,9 +19,9 @@ const MACROS: &str =
     "MODULE-IDENTITY OBJECT-IDENTITY OBJECT-TYPE NOTIFICATION-TYPE TEXTUAL-CONVENTION \
     OBJECT-GROUP NOTIFICATION-GROUP MODULE-COMPLIANCE AGENT-CAPABILITIES";
 
-/// Places outside of a module. Each has four pieces with `@` between them: the text before the
-/// place, the text after it, the words with which the whole is a module text, and the words that
-/// may stand there although the whole isn't one, so that the fault comes after the word. MACROS
+/// Positions outside of a module. Each has four pieces with `@` between them: the text before the
+/// position, the text after it, the words with which the whole is a module, and the words that are
+/// accepted there although the whole isn't a module, so that the fault is after the word. MACROS
 /// stands for all names of macros, ANY for all words.
 const OUTSIDE: &[&str] = &[
     "@DEFINITIONS ::= BEGIN END@@",
@@ -31,7 +32,7 @@ const OUTSIDE: &[&str] = &[
     "A DEFINITIONS ::=@END@BEGIN@",
 ];
 
-/// Places in a module, whose head comes before the text.
+/// Positions in a module, whose head comes before the text.
 const INSIDE: &[&str] = &[
     "IMPORTS@FROM B; END@MACROS@",
     "IMPORTS a,@FROM B; END@MACROS@",
@@ -126,7 +127,7 @@ const INSIDE: &[&str] = &[
     "x NOTIFICATION-GROUP@; END@@NOTIFICATIONS",
 ];
 
-/// Whether a word is among these.
+/// Returns whether `word` is one of `words`.
 fn is_among(words: &str, word: &str) -> bool {
     for other in words.split_whitespace() {
         if other == word || other == "ANY" {
@@ -148,13 +149,14 @@ fn is_among_macros(word: &str) -> bool {
     false
 }
 
-/// What stands before the first `@`, and after it.
-fn cut(place: &str) -> (&str, &str) {
-    place.split_once('@').unwrap_or(("", ""))
+/// Returns what is before the first `@`, and what is after it.
+fn cut(position: &str) -> (&str, &str) {
+    position.split_once('@').unwrap_or(("", ""))
 }
 
-/// The fault that a word should have in a place, by the last two pieces of the place.
-fn expected(whole: &str, further: &str, word: &str) -> Option<ParseError> {
+/// Returns the fault that `word` should have at a position, whose last two pieces are `whole` and
+/// `further`.
+fn expected_fault(whole: &str, further: &str, word: &str) -> Option<ParseError> {
     if is_among(further, word) {
         syntax(3)
     } else if is_among(whole, word) {
@@ -164,46 +166,51 @@ fn expected(whole: &str, further: &str, word: &str) -> Option<ParseError> {
     }
 }
 
-/// The first word whose fault between these texts isn't the one that the last two pieces of the
-/// place say.
+/// Returns the first word that has another fault between `before` and `after` than expected.
+/// `words` are the last two pieces of the position.
 fn first_wrong(
     alloc: Global,
-    front: &[u8],
+    before: &[u8],
     after: &str,
     words: &str,
 ) -> Result<Option<&'static str>, AllocError> {
     let (whole, further) = cut(words);
     for word in WORDS.split_whitespace() {
-        if fault_in_line(alloc, front, word, after)? != expected(whole, further, word) {
+        if fault_in_line(alloc, before, word, after)? != expected_fault(whole, further, word) {
             return Ok(Some(word));
         }
     }
     Ok(None)
 }
 
-/// The first word whose fault in a place after this head isn't the expected one.
-fn wrong_word(alloc: Global, head: &str, place: &str) -> Result<Option<&'static str>, AllocError> {
-    let (before, rest) = cut(place);
+/// Returns the first word that has another fault at `position` than expected, in a text that begins
+/// with `head`.
+fn wrong_word(
+    alloc: Global,
+    head: &str,
+    position: &str,
+) -> Result<Option<&'static str>, AllocError> {
+    let (before, rest) = cut(position);
     let (after, words) = cut(rest);
-    let front = joined(alloc, &[head.as_bytes(), before.as_bytes()])?;
-    first_wrong(alloc, &front, after, words)
+    let start = join_pieces(alloc, &[head.as_bytes(), before.as_bytes()])?;
+    first_wrong(alloc, &start, after, words)
 }
 
 #[test]
-fn outside_of_modules(rt: HostRuntime) -> Result<(), Fail> {
-    for place in OUTSIDE {
-        assert_eq!(rt; wrong_word(rt.alloc(), "", place)?, None, "{place}");
+fn words_outside_of_modules_are_accepted_where_they_belong(rt: HostRuntime) -> Result<(), Fail> {
+    for position in OUTSIDE {
+        assert_eq!(rt; wrong_word(rt.alloc(), "", position)?, None, "{position}");
     }
     Ok(())
 }
 
 #[test]
-fn inside_of_modules(rt: HostRuntime) -> Result<(), Fail> {
-    for place in INSIDE {
+fn words_inside_of_modules_are_accepted_where_they_belong(rt: HostRuntime) -> Result<(), Fail> {
+    for position in INSIDE {
         assert_eq!(rt;
-            wrong_word(rt.alloc(), "A DEFINITIONS ::= BEGIN ", place)?,
+            wrong_word(rt.alloc(), "A DEFINITIONS ::= BEGIN ", position)?,
             None,
-            "{place}"
+            "{position}"
         );
     }
     Ok(())
