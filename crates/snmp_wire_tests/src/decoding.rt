@@ -13,7 +13,7 @@ use std::process::Abort;
 use std::test::Fail;
 
 /// Returns the octets of `pieces`, one piece after the other.
-fn joined(alloc: Global, pieces: &[&[u8]]) -> Result<Vec<u8>, AllocError> {
+fn join_pieces(alloc: Global, pieces: &[&[u8]]) -> Result<Vec<u8>, AllocError> {
     let mut octets = Vec::new(alloc);
     for piece in pieces {
         octets.extend_from_slice(piece)?;
@@ -78,7 +78,7 @@ fn is_request(datagram: &[u8]) -> bool {
 fn with_value(rt: &impl Abort, alloc: Global, value: &[u8]) -> Result<Vec<u8>, AllocError> {
     assert!(rt; value.len() < 64);
     let len = value.len() as u8;
-    joined(
+    join_pieces(
         alloc,
         &[
             &[0x30, len + 29, 0x02, 0x01, 0x01, 0x04, 0x06],
@@ -160,17 +160,17 @@ fn longer_forms_of_a_length_are_read(rt: HostRuntime) -> Result<(), Fail> {
         [0x30, 0x84, 0x00, 0x00, 0x00, 0x26].as_slice(),
     ];
     for form in forms {
-        assert_request(&rt, &joined(alloc, &[form, &REQUEST[2..]])?);
+        assert_request(&rt, &join_pieces(alloc, &[form, &REQUEST[2..]])?);
     }
     let inner = [0x30, 0x2A, 0x02, 0x84, 0x00, 0x00, 0x00, 0x01];
-    assert_request(&rt, &joined(alloc, &[&inner, &REQUEST[4..]])?);
+    assert_request(&rt, &join_pieces(alloc, &[&inner, &REQUEST[4..]])?);
     Ok(())
 }
 
 #[test]
 fn a_version_of_two_octets_is_read(rt: HostRuntime) -> Result<(), Fail> {
     let wide = [0x30, 0x27, 0x02, 0x02, 0x00, 0x01];
-    assert_request(&rt, &joined(rt.alloc(), &[&wide, &REQUEST[5..]])?);
+    assert_request(&rt, &join_pieces(rt.alloc(), &[&wide, &REQUEST[5..]])?);
     Ok(())
 }
 
@@ -198,7 +198,7 @@ fn each_prefix_is_truncated(rt: HostRuntime) {
 
 #[test]
 fn trailing_octets_and_bad_content_are_refused(rt: HostRuntime) -> Result<(), Fail> {
-    let longer = joined(rt.alloc(), &[&REQUEST, &[0x00]])?;
+    let longer = join_pieces(rt.alloc(), &[&REQUEST, &[0x00]])?;
     assert_refused(&rt, &longer, BerError::Trailing);
     assert_bad_contents(&rt, rt.alloc(), &[&[0x05, 0x00, 0x00]])?;
     Ok(())
@@ -411,7 +411,7 @@ fn long_header(tag: u8, len: u16) -> [u8; 4] {
 /// Returns a request of the name 1.3.6 followed by `more` times 4294967295.
 fn long_name(alloc: Global, more: u8) -> Result<Vec<u8>, AllocError> {
     let len = 2 + 5 * u16::from(more);
-    let mut datagram = joined(
+    let mut datagram = join_pieces(
         alloc,
         &[
             &long_header(0x30, len + 38),
@@ -464,7 +464,7 @@ fn first_of(datagram: &[u8]) -> Option<Binding<'_>> {
 
 /// Returns a Response with a string that makes it as long as a datagram can be.
 fn longest_response(alloc: Global) -> Result<Vec<u8>, AllocError> {
-    joined(
+    join_pieces(
         alloc,
         &[
             &[0x30, 0x82, 0xFF, 0xDF],
@@ -564,7 +564,7 @@ fn are_read<'a>(
 
 /// Reads the bindings of the message twice: as an iterator, and into `binding`. Asserts that both
 /// ways yield the expected names and values, and that `binding` stays as it was when none is left.
-fn assert_read_in_place<'a>(
+fn assert_read_into_existing<'a>(
     rt: &impl Abort,
     message: &MessageRef<'a>,
     binding: &mut Binding<'a>,
@@ -594,6 +594,6 @@ fn bindings_are_read_into_an_existing_one(rt: HostRuntime) -> Result<(), Fail> {
     let Ok(message) = decode(&FOUR_BINDINGS) else {
         panic!(rt; "expected a message in FOUR_BINDINGS")
     };
-    assert_read_in_place(&rt, &message, &mut binding, &expected);
+    assert_read_into_existing(&rt, &message, &mut binding, &expected);
     Ok(())
 }
