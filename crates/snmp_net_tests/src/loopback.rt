@@ -204,7 +204,7 @@ fn a_walk_over_a_link_of_the_caller_returns_each_row(rt: HostRuntime) {
 }
 
 /// Returns the next datagram that arrives at `door`, in `buffer`.
-fn received<'a>(rt: &impl Abort, door: &UdpSocket, buffer: &'a mut [u8; 1472]) -> &'a [u8] {
+fn next_datagram<'a>(rt: &impl Abort, door: &UdpSocket, buffer: &'a mut [u8; 1472]) -> &'a [u8] {
     let (size, _) = door.recv_from(buffer).expect(rt, "a datagram");
     buffer.get(..size).unwrap_or(&[])
 }
@@ -214,9 +214,9 @@ fn has_two_alike(rt: &impl Abort, door: &UdpSocket) -> bool {
     let mut first = [0; 1472];
     let mut second = [0; 1472];
     let mut third = [0; 1472];
-    let request = received(rt, door, &mut first);
+    let request = next_datagram(rt, door, &mut first);
     !request.is_empty()
-        && request == received(rt, door, &mut second)
+        && request == next_datagram(rt, door, &mut second)
         && door.recv_from(&mut third).is_err()
 }
 
@@ -235,7 +235,7 @@ fn a_silent_agent_is_asked_again_once_per_retry(rt: HostRuntime) {
     assert_silent(&rt, &mut wire, &door);
 }
 
-/// Sends a request over `wire`, and returns the sender of the datagram that arrives at `door`.
+/// Asserts that a request that is sent over `wire` arrives at `door`, and returns its sender.
 fn sender_of(rt: &impl Abort, wire: &mut UdpLink, door: &UdpSocket) -> SocketAddr {
     let mut buffer = [0; 1472];
     assert!(rt; wire.send(b"request").is_ok());
