@@ -28,7 +28,7 @@ impl Calls {
     }
 }
 
-/// A link in memory of which one send and one receive fail.
+/// A link in memory, one of whose sends and one of whose receives fail.
 #[derive(Drop)]
 struct Failing<'a> {
     link: MemoryLink<'a>,
@@ -38,7 +38,7 @@ struct Failing<'a> {
 }
 
 impl<'a> Failing<'a> {
-    /// The link of which this send and this receive fail.
+    /// Returns a link whose send number `send` and receive number `receive` fail.
     fn new(link: MemoryLink<'a>, send: usize, receive: usize) -> Failing<'a> {
         Failing {
             link,
@@ -101,7 +101,8 @@ impl<'a> Link for Failing<'a> {
     }
 }
 
-/// A link: its deliveries, and which of its sends and of its receives fails, or 0 where none does.
+/// A link: its deliveries, and which of its sends and which of its receives fails, or 0 if none
+/// does.
 #[derive(Clone, Copy)]
 struct Case<'a> {
     deliveries: &'a [Option<usize>],
@@ -109,21 +110,22 @@ struct Case<'a> {
     receive: usize,
 }
 
-/// What a run brings: the integers as digits, and how often it sends and receives.
+/// What a run is expected to do: the integers that it returns, as digits, and how many times it
+/// sends and receives.
 #[derive(Clone, Copy)]
-struct Brought {
+struct Expected {
     number: u64,
     sends: usize,
     receives: usize,
 }
 
-/// Whether the walk over the link of a case brings this before the link fails.
-fn walk_brings(
+/// Returns whether the walk over the link of a case does what is expected before the link fails.
+fn walk_does_as_expected(
     alloc: Global,
     table: &Table,
     core: WalkCore,
     case: Case<'_>,
-    brought: Brought,
+    expected: Expected,
 ) -> bool
     requires { IsFresh core }
 {
@@ -132,21 +134,21 @@ fn walk_brings(
     let mut digits = Digits::new();
     walk_ends(&mut link, core, 2, &mut digits, &WalkEnd::Link)
         && link.faults() == 1
-        && digits.number == brought.number
-        && link.sends.count == brought.sends
-        && link.receives.count == brought.receives
+        && digits.number == expected.number
+        && link.sends.count == expected.sends
+        && link.receives.count == expected.receives
 }
 
-/// The walk over the link of a case brings this before the link fails.
-fn assert_walk(rt: &impl Abort, alloc: Global, case: Case<'_>, brought: Brought) {
+/// Asserts that the walk over the link of a case does what is expected before the link fails.
+fn assert_walk(rt: &impl Abort, alloc: Global, case: Case<'_>, expected: Expected) {
     let core = walk_of(rt, ROOT, Mode::Plain, Method::Next, 1);
     let table = table_of(rt, alloc, THREE);
-    assert!(rt; walk_brings(alloc, &table, core, case, brought));
+    assert!(rt; walk_does_as_expected(alloc, &table, core, case, expected));
 }
 
-/// Whether the Get over the link of a case, which fails, gives nothing, after this many sends and
-/// receives.
-fn get_brings_nothing(
+/// Returns whether the Get over the link of a case, which fails, returns nothing, after `sends`
+/// sends and `receives` receives.
+fn get_returns_nothing(
     alloc: Global,
     table: &Table,
     names: &[Oid],
@@ -164,17 +166,18 @@ fn get_brings_nothing(
         && link.receives.count == receives
 }
 
-/// The Get over the link of a case, which fails, gives nothing, after this many sends and receives.
+/// Asserts that the Get over the link of a case, which fails, returns nothing, after `sends` sends
+/// and `receives` receives.
 fn assert_get(rt: &impl Abort, alloc: Global, case: Case<'_>, sends: usize, receives: usize) {
     let names = names_of(rt, alloc, &[b"1.3.6.1.4.1.32473.1.1.0"]);
     let table = table_of(rt, alloc, THREE);
-    assert!(rt; get_brings_nothing(alloc, &table, &names, case, sends, receives));
+    assert!(rt; get_returns_nothing(alloc, &table, &names, case, sends, receives));
 }
 
 #[test]
-fn a_failing_link_ends_the_walk_after_what_was_given(rt: HostRuntime) {
-    // The deliveries, the failing send and receive, the integers, and how many sends and receives
-    // there are.
+fn a_failing_link_ends_the_walk_after_the_rows_before(rt: HostRuntime) {
+    // The deliveries, the failing send and receive, the integers, and the numbers of sends and
+    // receives.
     const CASES: &[(&[Option<usize>], usize, usize, u64, usize, usize)] = &[
         (&[], 1, 0, 0, 1, 0),
         (&[], 2, 0, 1, 2, 1),
@@ -197,18 +200,18 @@ fn a_failing_link_ends_the_walk_after_what_was_given(rt: HostRuntime) {
             send,
             receive,
         };
-        let brought = Brought {
+        let expected = Expected {
             number,
             sends,
             receives,
         };
-        assert_walk(&rt, rt.alloc(), case, brought);
+        assert_walk(&rt, rt.alloc(), case, expected);
     }
 }
 
 #[test]
-fn a_failing_link_ends_a_get_with_nothing(rt: HostRuntime) {
-    // The deliveries, the failing send and receive, and how many of each there are.
+fn a_failing_link_ends_a_get_without_bindings(rt: HostRuntime) {
+    // The deliveries, the failing send and receive, and the numbers of sends and receives.
     const CASES: &[(&[Option<usize>], usize, usize, usize, usize)] = &[
         (&[], 1, 0, 1, 0),
         (&[], 0, 1, 1, 1),
@@ -229,7 +232,8 @@ fn a_failing_link_ends_a_get_with_nothing(rt: HostRuntime) {
 /// The reasons for which a sink refuses a binding.
 const FAULTS: &[SinkFault] = &[SinkFault::Output, SinkFault::Memory];
 
-/// Takes bindings as digits, and refuses the one of this number, counted from 1, for this reason.
+/// A sink that takes bindings as digits, and refuses binding number `refused`, counted from 1, for
+/// this reason.
 #[derive(Drop)]
 struct Refusing {
     digits: Digits,
@@ -251,7 +255,7 @@ impl Sink for Refusing {
 }
 
 impl Refusing {
-    /// The sink that refuses this binding for this reason, and was given none.
+    /// Returns a sink that refuses binding number `refused` for this reason, and was given none.
     fn new(refused: usize, fault: SinkFault) -> Refusing {
         Refusing {
             digits: Digits::new(),
@@ -261,14 +265,15 @@ impl Refusing {
         }
     }
 
-    /// Whether it was given these integers, and after them the binding that it refuses.
+    /// Returns whether the sink was given these integers, and after them the binding that it
+    /// refuses.
     fn was_given(&self, number: u64) -> bool {
         self.digits.number == number && self.calls == self.refused
     }
 }
 
-/// Whether a walk into a sink that refuses the binding of this number for this reason gives the
-/// integers before it, and nothing after it.
+/// Returns whether a walk into a sink that refuses binding number `refused` returns the integers
+/// before it and nothing after it, and ends with the sink's reason.
 fn is_walk_refused(
     alloc: Global,
     table: &Table,
@@ -284,8 +289,8 @@ fn is_walk_refused(
     walk_ends(&mut link, core, 0, &mut sink, &WalkEnd::Sink(fault)) && sink.was_given(number)
 }
 
-/// A walk below this root into a sink that refuses the binding of this number for this reason gives
-/// the integers before it, and nothing after it.
+/// Asserts that a walk below this root, into a sink that refuses binding number `refused`, returns
+/// the integers before it and nothing after it, and ends with the sink's reason.
 fn assert_refused(
     rt: &impl Abort,
     alloc: Global,
@@ -310,14 +315,14 @@ fn a_refused_binding_ends_the_walk_after_those_before(rt: HostRuntime) {
                 assert_refused(&rt, rt.alloc(), ROOT, method, refused, fault, number);
             }
         }
-        // The one binding is what a Get of the root gives.
+        // The only binding is the result of a Get of the root.
         let leaf = b"1.3.6.1.4.1.32473.1.1.0";
         assert_refused(&rt, rt.alloc(), leaf, Method::Next, 1, fault, 0);
     }
 }
 
-/// Whether a Get into a sink that refuses the binding of this number for this reason gives the
-/// integers before it, and nothing after it.
+/// Returns whether a Get into a sink that refuses binding number `refused` returns the integers
+/// before it and nothing after it, and ends with the sink's reason.
 fn is_get_refused(
     alloc: Global,
     table: &Table,
@@ -331,15 +336,15 @@ fn is_get_refused(
     get_ends(&mut link, names, 1, 2, &mut sink, &WalkEnd::Sink(fault)) && sink.was_given(number)
 }
 
-/// The names of the three integers, from the last on.
+/// The names of the three integers, from the last to the first.
 const NAMES: [&[u8]; 3] = [
     b"1.3.6.1.4.1.32473.1.10.0",
     b"1.3.6.1.4.1.32473.1.2.0",
     b"1.3.6.1.4.1.32473.1.1.0",
 ];
 
-/// A Get into a sink that refuses the binding of this number for this reason gives the integers
-/// before it, and nothing after it.
+/// Asserts that a Get into a sink that refuses binding number `refused` returns the integers before
+/// it and nothing after it, and ends with the sink's reason.
 fn assert_get_refused(
     rt: &impl Abort,
     alloc: Global,

@@ -1,5 +1,5 @@
-//! Gets over links in memory: of names that the agent has and hasn't, over lost replies, and where
-//! a message is too long.
+//! Gets over links in memory: of names that the agent has or lacks, with lost replies, and with
+//! messages that are too long.
 
 use crate::runs::{get_ends, names_of, public, push, table_of};
 use crate::sinks::{Counted, Digits};
@@ -15,14 +15,16 @@ const THREE: &[u8] = b"object 1.3.6.1.4.1.32473.1.4\n\
     1.3.6.1.4.1.32473.1.2.0|2|2\n\
     1.3.6.1.4.1.32473.1.1.0|2|1\n";
 
-/// The name of the integer 1, that of the integer 2, and one between them and the integer 3.
+/// The name of the integer 1.
 const FIRST: &[u8] = b"1.3.6.1.4.1.32473.1.1.0";
 
+/// The name of the integer 2.
 const SECOND: &[u8] = b"1.3.6.1.4.1.32473.1.2.0";
 
+/// A name between those of the integers 2 and 3.
 const ABSENT: &[u8] = b"1.3.6.1.4.1.32473.1.3.0";
 
-/// A Get: its agent's greatest size, its retries and deliveries.
+/// A Get: the greatest message size of its agent, its retries, and the deliveries of its link.
 #[derive(Clone, Copy)]
 struct Case<'a> {
     max_size: usize,
@@ -30,55 +32,56 @@ struct Case<'a> {
     deliveries: &'a [Option<usize>],
 }
 
-/// A Get that isn't sent again, over a link that brings each reply.
+/// A Get without retries, over a link that delivers each reply.
 const ONCE: Case<'static> = Case {
     max_size: 1472,
     retries: 0,
     deliveries: &[],
 };
 
-/// What a Get brings: the integers as digits, how many bindings, and how many datagrams it sends.
+/// What a Get is expected to do: the integers that it returns, as digits, and how many bindings it
+/// returns and datagrams it sends.
 #[derive(Clone, Copy)]
-struct Brought {
+struct Expected {
     number: u64,
     rows: usize,
     sends: usize,
 }
 
-/// Whether the Get of a case brings this, and ends in this way.
-fn brings(
+/// Returns whether the Get of a case does what is expected, and ends with `end`.
+fn does_as_expected(
     alloc: Global,
     table: &Table,
     names: &[Oid],
     case: Case<'_>,
-    brought: Brought,
+    expected: Expected,
     end: &WalkEnd,
 ) -> bool {
     let agent = public(case.max_size);
     let mut link = Counted::new(MemoryLink::new(alloc, table, agent, case.deliveries));
     let mut digits = Digits::new();
     get_ends(&mut link, names, 1, case.retries, &mut digits, end)
-        && digits.number == brought.number
-        && digits.rows == brought.rows
-        && link.sends == brought.sends
+        && digits.number == expected.number
+        && digits.rows == expected.rows
+        && link.sends == expected.sends
 }
 
-/// The Get of these names brings this, and ends in this way.
+/// Asserts that the Get of these names does what is expected, and ends with `end`.
 fn assert_get(
     rt: &impl Abort,
     alloc: Global,
     names: &[&[u8]],
     case: Case<'_>,
-    brought: Brought,
+    expected: Expected,
     end: WalkEnd,
 ) {
     let names = names_of(rt, alloc, names);
     let table = table_of(rt, alloc, THREE);
-    assert!(rt; brings(alloc, &table, &names, case, brought, &end));
+    assert!(rt; does_as_expected(alloc, &table, &names, case, expected, &end));
 }
 
 #[test]
-fn names_are_given_in_order(rt: HostRuntime) {
+fn bindings_are_returned_in_the_order_of_the_names(rt: HostRuntime) {
     let names = [
         b"1.3.6.1.4.1.32473.1.10.0".as_slice(),
         ABSENT,
@@ -87,19 +90,19 @@ fn names_are_given_in_order(rt: HostRuntime) {
         b"1.3.6.1.4.1.32473.1.10.0",
         b"1",
     ];
-    let brought = Brought {
+    let expected = Expected {
         number: 313,
         rows: 6,
         sends: 1,
     };
-    assert_get(&rt, rt.alloc(), &names, ONCE, brought, WalkEnd::Done(6));
-    let first = Brought {
+    assert_get(&rt, rt.alloc(), &names, ONCE, expected, WalkEnd::Done(6));
+    let first = Expected {
         number: 1,
         rows: 1,
         sends: 1,
     };
     assert_get(&rt, rt.alloc(), &[FIRST], ONCE, first, WalkEnd::Done(1));
-    let exception = Brought { number: 0, ..first };
+    let exception = Expected { number: 0, ..first };
     assert_get(
         &rt,
         rt.alloc(),
@@ -111,30 +114,30 @@ fn names_are_given_in_order(rt: HostRuntime) {
 }
 
 #[test]
-fn a_lost_reply_is_asked_for_again(rt: HostRuntime) {
+fn a_request_whose_reply_is_lost_is_sent_again(rt: HostRuntime) {
     let case = Case {
         max_size: 1472,
         retries: 2,
         deliveries: &[None, Some(0)],
     };
-    let brought = Brought {
+    let expected = Expected {
         number: 2,
         rows: 1,
         sends: 3,
     };
-    assert_get(&rt, rt.alloc(), &[SECOND], case, brought, WalkEnd::Done(1));
-    // The second datagram is the same as the first, so that a reply to the first is one to it.
+    assert_get(&rt, rt.alloc(), &[SECOND], case, expected, WalkEnd::Done(1));
+    // The second datagram is the same as the first, so a reply to the first is a reply to it too.
     let late = Case {
         deliveries: &[None, Some(1)],
         ..case
     };
-    let twice = Brought {
+    let twice = Expected {
         sends: 2,
-        ..brought
+        ..expected
     };
     assert_get(&rt, rt.alloc(), &[SECOND], late, twice, WalkEnd::Done(1));
     let silent = Case { retries: 1, ..case };
-    let nothing = Brought {
+    let nothing = Expected {
         number: 0,
         rows: 0,
         sends: 2,
@@ -156,16 +159,16 @@ fn a_response_that_does_not_fit_is_too_big(rt: HostRuntime) {
         max_size: 44,
         ..ONCE
     };
-    let brought = Brought {
+    let expected = Expected {
         number: 2,
         rows: 1,
         sends: 1,
     };
-    assert_get(&rt, rt.alloc(), &[SECOND], case, brought, WalkEnd::Done(1));
-    let nothing = Brought {
+    assert_get(&rt, rt.alloc(), &[SECOND], case, expected, WalkEnd::Done(1));
+    let nothing = Expected {
         number: 0,
         rows: 0,
-        ..brought
+        ..expected
     };
     let small = Case {
         max_size: 43,
@@ -193,7 +196,8 @@ fn a_response_that_does_not_fit_is_too_big(rt: HostRuntime) {
     );
 }
 
-/// 103 names of 128 numbers, each of 627 octets, and 637 in the binding that asks for it.
+/// Returns 103 names of 128 numbers. Each takes 627 octets, and 637 in the binding that asks for
+/// it.
 fn longest_names(rt: &impl Abort, alloc: Global) -> Vec<Oid> {
     let mut longest = [4294967295; 128];
     longest[..3].copy_from_slice(&[1, 3, 6]);
@@ -205,26 +209,26 @@ fn longest_names(rt: &impl Abort, alloc: Global) -> Vec<Oid> {
     names
 }
 
-/// Whether a Get of 102 of the longest names is sent and done, and that of 103 isn't sent.
+/// Returns whether a Get of 102 of the longest names is sent and done, and a Get of 103 isn't sent.
 fn is_one_too_many(alloc: Global, table: &Table, names: &[Oid]) -> bool {
     let case = Case {
         max_size: 65507,
         ..ONCE
     };
-    let brought = Brought {
+    let expected = Expected {
         number: 0,
         rows: 102,
         sends: 1,
     };
-    let nothing = Brought {
+    let nothing = Expected {
         rows: 0,
         sends: 0,
-        ..brought
+        ..expected
     };
     let fitting = names.get(..102).unwrap_or(&[]);
-    brings(alloc, table, fitting, case, brought, &WalkEnd::Done(102))
+    does_as_expected(alloc, table, fitting, case, expected, &WalkEnd::Done(102))
         && names.len() == 103
-        && brings(alloc, table, names, case, nothing, &WalkEnd::RequestTooLong)
+        && does_as_expected(alloc, table, names, case, nothing, &WalkEnd::RequestTooLong)
 }
 
 #[test]

@@ -1,4 +1,5 @@
-//! Walks and Gets over an agent that lies: its replies have the id that is waited for, and a fault.
+//! Walks and Gets over an agent that lies: the ids of its replies count up, as the ids of the
+//! requests do, whatever else the replies contain.
 
 use crate::runs::{ROOT, get_ends, name_of, names_of, walk_ends, walk_of};
 use crate::sinks::Digits;
@@ -6,14 +7,14 @@ use snmp_walk::{Link, LinkFault, Method, Mode, WalkEnd};
 use snmp_wire::Oid;
 use std::process::Abort;
 
-/// The reply with 1.3.6.1.4.1.32473.1.1.0, whose value is the integer 1.
+/// A reply with 1.3.6.1.4.1.32473.1.1.0, whose value is the integer 1.
 pub(crate) const ROW: [u8; 44] = [
     0x30, 0x2A, 0x02, 0x01, 0x01, 0x04, 0x06, 0x70, 0x75, 0x62, 0x6C, 0x69, 0x63, 0xA2, 0x1D, 0x02,
     0x01, 0x01, 0x02, 0x01, 0x00, 0x02, 0x01, 0x00, 0x30, 0x12, 0x30, 0x10, 0x06, 0x0B, 0x2B, 0x06,
     0x01, 0x04, 0x01, 0x81, 0xFD, 0x59, 0x01, 0x01, 0x00, 0x02, 0x01, 0x01,
 ];
 
-/// The reply with 1.3.6.1.4.1.32473.1.1.0 and 1.3.6.1.4.1.32473.1.2.0.
+/// A reply with 1.3.6.1.4.1.32473.1.1.0 and 1.3.6.1.4.1.32473.1.2.0.
 const TWO: &[u8] = &[
     0x30, 0x3C, 0x02, 0x01, 0x01, 0x04, 0x06, 0x70, 0x75, 0x62, 0x6C, 0x69, 0x63, 0xA2, 0x2F, 0x02,
     0x01, 0x01, 0x02, 0x01, 0x00, 0x02, 0x01, 0x00, 0x30, 0x24, 0x30, 0x10, 0x06, 0x0B, 0x2B, 0x06,
@@ -21,48 +22,48 @@ const TWO: &[u8] = &[
     0x2B, 0x06, 0x01, 0x04, 0x01, 0x81, 0xFD, 0x59, 0x01, 0x02, 0x00, 0x02, 0x01, 0x01,
 ];
 
-/// The reply with 1.3.6.1.4.1.32473.1.1.0 and noSuchInstance.
+/// A reply with 1.3.6.1.4.1.32473.1.1.0 and noSuchInstance.
 const MISSING: &[u8] = &[
     0x30, 0x29, 0x02, 0x01, 0x01, 0x04, 0x06, 0x70, 0x75, 0x62, 0x6C, 0x69, 0x63, 0xA2, 0x1C, 0x02,
     0x01, 0x01, 0x02, 0x01, 0x00, 0x02, 0x01, 0x00, 0x30, 0x11, 0x30, 0x0F, 0x06, 0x0B, 0x2B, 0x06,
     0x01, 0x04, 0x01, 0x81, 0xFD, 0x59, 0x01, 0x01, 0x00, 0x81, 0x00,
 ];
 
-/// The reply with 1.3.6.1.4.1.32473.1.1.0 and endOfMibView.
+/// A reply with 1.3.6.1.4.1.32473.1.1.0 and endOfMibView.
 const END: &[u8] = &[
     0x30, 0x29, 0x02, 0x01, 0x01, 0x04, 0x06, 0x70, 0x75, 0x62, 0x6C, 0x69, 0x63, 0xA2, 0x1C, 0x02,
     0x01, 0x01, 0x02, 0x01, 0x00, 0x02, 0x01, 0x00, 0x30, 0x11, 0x30, 0x0F, 0x06, 0x0B, 0x2B, 0x06,
     0x01, 0x04, 0x01, 0x81, 0xFD, 0x59, 0x01, 0x01, 0x00, 0x82, 0x00,
 ];
 
-/// The reply without bindings.
+/// A reply without bindings.
 const NONE: &[u8] = &[
     0x30, 0x18, 0x02, 0x01, 0x01, 0x04, 0x06, 0x70, 0x75, 0x62, 0x6C, 0x69, 0x63, 0xA2, 0x0B, 0x02,
     0x01, 0x01, 0x02, 0x01, 0x00, 0x02, 0x01, 0x00, 0x30, 0x00,
 ];
 
-/// The reply with error status 5, genErr, and index 1.
+/// A reply with error-status 5, genErr, and error-index 1.
 pub(crate) const GENERAL_ERROR: &[u8] = &[
     0x30, 0x18, 0x02, 0x01, 0x01, 0x04, 0x06, 0x70, 0x75, 0x62, 0x6C, 0x69, 0x63, 0xA2, 0x0B, 0x02,
     0x01, 0x01, 0x02, 0x01, 0x05, 0x02, 0x01, 0x01, 0x30, 0x00,
 ];
 
-/// The reply with error status 19, which the standard doesn't have, and index 0.
+/// A reply with error-status 19, which the standard doesn't have, and error-index 0.
 const UNKNOWN_ERROR: &[u8] = &[
     0x30, 0x18, 0x02, 0x01, 0x01, 0x04, 0x06, 0x70, 0x75, 0x62, 0x6C, 0x69, 0x63, 0xA2, 0x0B, 0x02,
     0x01, 0x01, 0x02, 0x01, 0x13, 0x02, 0x01, 0x00, 0x30, 0x00,
 ];
 
-/// The reply of id 2147483645 with 1.3.6.1.4.1.32473.1.1.0.
+/// A reply with id 2147483645 and 1.3.6.1.4.1.32473.1.1.0.
 const LATE: &[u8] = &[
     0x30, 0x2D, 0x02, 0x01, 0x01, 0x04, 0x06, 0x70, 0x75, 0x62, 0x6C, 0x69, 0x63, 0xA2, 0x20, 0x02,
     0x04, 0x7F, 0xFF, 0xFF, 0xFD, 0x02, 0x01, 0x00, 0x02, 0x01, 0x00, 0x30, 0x12, 0x30, 0x10, 0x06,
     0x0B, 0x2B, 0x06, 0x01, 0x04, 0x01, 0x81, 0xFD, 0x59, 0x01, 0x01, 0x00, 0x02, 0x01, 0x01,
 ];
 
-/// A link to an agent that sends one reply again and again: each time with the last octet of the
-/// id, at `id_at`, one higher, and with the number at `name_at` too, where there is one. It counts
-/// what is sent to it.
+/// A link to an agent that sends one reply again and again. Each time the last octet of the id, at
+/// offset `id_at`, is one higher, and so is the octet at offset `name_at`, if there is one. `sends`
+/// counts what is sent to it.
 #[derive(Drop)]
 struct Liar<'a> {
     reply: &'a [u8],
@@ -109,8 +110,8 @@ impl<'a> Link for Liar<'a> {
         if let Some(id) = buffer.get_mut(self.id_at) {
             *id = id.wrapping_add(self.turn);
         }
-        if let Some(place) = self.name_at {
-            if let Some(number) = buffer.get_mut(place) {
+        if let Some(offset) = self.name_at {
+            if let Some(number) = buffer.get_mut(offset) {
                 *number = number.wrapping_add(self.turn);
             }
         }
@@ -123,8 +124,8 @@ impl<'a> Link for Liar<'a> {
     }
 }
 
-/// The walk over this liar from this first id gives this many rows, and ends in this way after this
-/// many sends.
+/// Asserts that the walk over this liar, with this first id, returns `rows` rows and ends with
+/// `end` after `sends` sends.
 fn assert_end(
     rt: &impl Abort,
     mut liar: Liar<'_>,
@@ -139,8 +140,8 @@ fn assert_end(
     assert!(rt; digits.rows == rows && liar.sends == sends);
 }
 
-/// The Get of these names over this liar gives this many bindings, and ends in this way after this
-/// many sends.
+/// Asserts that the Get of these names over this liar returns `rows` bindings and ends with `end`
+/// after `sends` sends.
 fn assert_get(
     rt: &impl Abort,
     mut liar: Liar<'_>,
@@ -154,7 +155,7 @@ fn assert_get(
     assert!(rt; digits.rows == rows && liar.sends == sends);
 }
 
-/// A liar with this reply, whose first id is 1.
+/// Returns a liar with this reply, whose ids begin with 1.
 fn lying(reply: &[u8]) -> Liar<'_> {
     Liar {
         reply,
@@ -165,7 +166,7 @@ fn lying(reply: &[u8]) -> Liar<'_> {
     }
 }
 
-/// A liar with the reply of id 2147483645, whose names rise.
+/// Returns a liar whose ids begin with 2147483645, and whose names increase.
 fn late() -> Liar<'static> {
     Liar {
         reply: LATE,
@@ -176,27 +177,27 @@ fn late() -> Liar<'static> {
     }
 }
 
-/// The end of a walk whose second reply repeats the name of its first.
+/// Returns the end of a walk whose second reply repeats the name of its first.
 fn not_increasing(rt: &impl Abort) -> WalkEnd {
     let last = name_of(rt, b"1.3.6.1.4.1.32473.1.1.0");
     let got = name_of(rt, b"1.3.6.1.4.1.32473.1.1.0");
     WalkEnd::NotIncreasing { last, got }
 }
 
-/// The end of a walk whose first reply is without bindings.
+/// Returns the end of a walk whose first reply has no bindings.
 fn no_progress(rt: &impl Abort) -> WalkEnd {
     let asked = name_of(rt, ROOT);
     WalkEnd::NoProgress { asked }
 }
 
-/// A repeated and a missing name end a walk.
+/// Asserts that a repeated name ends a walk, and so does a reply without bindings.
 fn assert_names_end(rt: &impl Abort) {
     assert_end(rt, lying(&ROW), 1, 1, 2, &not_increasing(rt));
     assert_end(rt, lying(NONE), 1, 0, 1, &no_progress(rt));
 }
 
 #[test]
-fn each_lie_has_its_end(rt: HostRuntime) {
+fn each_bad_reply_ends_the_walk(rt: HostRuntime) {
     assert_names_end(&rt);
     assert_end(&rt, lying(TWO), 1, 0, 1, &WalkEnd::BadReply);
     assert_end(&rt, lying(MISSING), 1, 0, 1, &WalkEnd::BadReply);
@@ -205,8 +206,9 @@ fn each_lie_has_its_end(rt: HostRuntime) {
     assert_end(&rt, late(), 2147483645, 3, 3, &WalkEnd::TooManyRequests);
 }
 
-/// Each lie to a Get of one name has its end.
-fn assert_lies_to_get(rt: &impl Abort, one: &[Oid]) {
+/// Asserts that a Get of one name accepts a reply with that name, and how it ends over other
+/// replies.
+fn assert_replies_to_get(rt: &impl Abort, one: &[Oid]) {
     assert_get(rt, lying(&ROW), one, 1, 1, &WalkEnd::Done(1));
     assert_get(rt, lying(MISSING), one, 1, 1, &WalkEnd::Done(1));
     assert_get(rt, lying(TWO), one, 0, 1, &WalkEnd::BadReply);
@@ -218,12 +220,12 @@ fn assert_lies_to_get(rt: &impl Abort, one: &[Oid]) {
 }
 
 #[test]
-fn each_lie_to_a_get_has_its_end(rt: HostRuntime) {
+fn each_bad_reply_ends_the_get(rt: HostRuntime) {
     let one = [name_of(&rt, b"1.3.6.1.4.1.32473.1.1.0")];
-    assert_lies_to_get(&rt, &one);
+    assert_replies_to_get(&rt, &one);
 }
 
-/// The replies with both names and with the first one alone are replies to Gets of just these.
+/// Asserts that a Get accepts a reply only with its names, in their order.
 fn assert_names_wanted(rt: &impl Abort, both: &[Oid], swapped: &[Oid], second: &[Oid]) {
     assert_get(rt, lying(TWO), both, 2, 1, &WalkEnd::Done(2));
     assert_get(rt, lying(&ROW), both, 0, 1, &WalkEnd::BadReply);
@@ -232,7 +234,7 @@ fn assert_names_wanted(rt: &impl Abort, both: &[Oid], swapped: &[Oid], second: &
 }
 
 #[test]
-fn a_get_wants_just_its_names_in_their_order(rt: HostRuntime) {
+fn a_get_accepts_only_its_names_in_their_order(rt: HostRuntime) {
     let first: &[u8] = b"1.3.6.1.4.1.32473.1.1.0";
     let second: &[u8] = b"1.3.6.1.4.1.32473.1.2.0";
     let both = names_of(&rt, rt.alloc(), &[first, second]);

@@ -1,5 +1,4 @@
-//! Walks over an agent in memory that replies in other ways than its whole reply, as RFC 3416
-//! allows.
+//! Walks over an agent in memory that doesn't always send its full reply, as RFC 3416 allows.
 ghost use Rattle.snmp_walk.specs.Facts.{IsFresh};
 
 use crate::runs::{ROOT, get_ends, names_of, public, table_of, walk_of};
@@ -10,13 +9,13 @@ use snmp_wire::Oid;
 use std::alloc::Global;
 use std::process::Abort;
 
-/// Nine integers, each its place, from 1 on.
+/// Nine rows, whose values are their numbers from 1.
 const NINE: &[u8] = b"1.3.6.1.4.1.32473.1.1|2|1\n1.3.6.1.4.1.32473.1.2|2|2\n\
 1.3.6.1.4.1.32473.1.3|2|3\n1.3.6.1.4.1.32473.1.4|2|4\n1.3.6.1.4.1.32473.1.5|2|5\n\
 1.3.6.1.4.1.32473.1.6|2|6\n1.3.6.1.4.1.32473.1.7|2|7\n1.3.6.1.4.1.32473.1.8|2|8\n\
 1.3.6.1.4.1.32473.1.9|2|9\n";
 
-/// A walk over the agent of a table that replies in these ways, with so many retries.
+/// A walk: its mode and method, the ways in which the agent replies, and its retries.
 #[derive(Clone, Copy)]
 struct Case<'a> {
     mode: Mode,
@@ -26,7 +25,7 @@ struct Case<'a> {
 }
 
 impl<'a> Case<'a> {
-    /// A plain walk without retries.
+    /// Returns a plain walk without retries.
     fn new(method: Method, ways: &'a [Way]) -> Case<'a> {
         Case {
             mode: Mode::Plain,
@@ -37,8 +36,8 @@ impl<'a> Case<'a> {
     }
 }
 
-/// Whether the walk gives these integers, as digits, and ends in this way.
-fn gives(
+/// Returns whether the walk returns these integers, as the digits of `number`, and ends with `end`.
+fn walk_returns(
     table: &Table,
     core: WalkCore,
     max_size: usize,
@@ -53,7 +52,8 @@ fn gives(
     walk_loose(&mut link, core, case.retries, &mut digits) == *end && digits.number == number
 }
 
-/// The walk below the root over a table gives these integers and ends in this way.
+/// Asserts that the walk below the root over the table of `text` returns these integers, as the
+/// digits of `number`, and ends with `end`.
 fn assert_walk(
     rt: &impl Abort,
     alloc: Global,
@@ -65,22 +65,22 @@ fn assert_walk(
 ) {
     let table = table_of(rt, alloc, text);
     let core = walk_of(rt, ROOT, case.mode, case.method, 1);
-    assert!(rt; gives(&table, core, max_size, case, number, end));
+    assert!(rt; walk_returns(&table, core, max_size, case, number, end));
 }
 
-/// The walk over the nine integers gives these of them and ends in this way.
+/// Asserts that the walk over the nine rows returns these of their integers and ends with `end`.
 fn assert_nine(rt: &impl Abort, alloc: Global, case: Case<'_>, number: u64, end: &WalkEnd) {
     assert_walk(rt, alloc, NINE, 1472, case, number, end);
 }
 
-/// The walk over the nine integers in these ways gives each of them once, by this method.
+/// Asserts that the walk over the nine rows by this method, with these ways, returns each row once.
 fn assert_all(rt: &impl Abort, alloc: Global, method: Method, ways: &[Way]) {
     let case = Case::new(method, ways);
     assert_nine(rt, alloc, case, 123456789, &WalkEnd::Done(9));
 }
 
 #[test]
-fn after_its_ways_the_agent_replies_whole(rt: HostRuntime) {
+fn after_the_last_way_the_agent_sends_full_replies(rt: HostRuntime) {
     assert_all(&rt, rt.alloc(), Method::Next, &[]);
     assert_all(&rt, rt.alloc(), Method::Bulk(4), &[]);
     assert_all(&rt, rt.alloc(), Method::Bulk(4), &[Way::Whole, Way::Whole]);
@@ -126,13 +126,13 @@ fn an_error_in_place_of_the_roots_own_row_ends_a_walk(rt: HostRuntime) {
         ..Case::new(Method::Next, &[Way::GenErr])
     };
     assert_nine(&rt, rt.alloc(), case, 0, &WalkEnd::Fault(5, 1));
-    // Nothing is below the root, and the last request is a Get of it.
+    // Nothing is below the root, so the last request is a Get of it.
     let last = Case::new(Method::Next, &[Way::Whole, Way::GenErr]);
     assert_walk(&rt, rt.alloc(), b"", 1472, last, 0, &WalkEnd::Fault(5, 1));
 }
 
 #[test]
-fn fewer_repetitions_give_each_row_once(rt: HostRuntime) {
+fn fewer_repetitions_return_each_row_once(rt: HostRuntime) {
     const FEWER: &[Way] = &[
         Way::Fewer(1),
         Way::Fewer(3),
@@ -147,10 +147,11 @@ fn fewer_repetitions_give_each_row_once(rt: HostRuntime) {
 }
 
 #[test]
-fn another_encoding_is_read(rt: HostRuntime) {
+fn a_longer_encoding_is_read(rt: HostRuntime) {
     const LONG: &[Way] = &[Way::LongLength, Way::LongLength, Way::LongLength];
     assert_all(&rt, rt.alloc(), Method::Next, LONG);
-    // The reply to the first has more than 127 octets, and so a length of two.
+    // The first reply has more than 127 octets, so its length takes two octets in the shortest
+    // encoding.
     assert_all(&rt, rt.alloc(), Method::Bulk(8), LONG);
     let case = Case {
         mode: Mode::Include,
@@ -160,7 +161,7 @@ fn another_encoding_is_read(rt: HostRuntime) {
 }
 
 #[test]
-fn all_ways_in_one_walk(rt: HostRuntime) {
+fn several_ways_in_one_walk_return_the_rows_before_the_error(rt: HostRuntime) {
     const WAYS: &[Way] = &[
         Way::Fewer(2),
         Way::LongLength,
@@ -176,7 +177,7 @@ fn all_ways_in_one_walk(rt: HostRuntime) {
 }
 
 #[test]
-fn what_has_no_room_is_replied_to_whole(rt: HostRuntime) {
+fn a_way_whose_reply_does_not_fit_is_the_full_reply(rt: HostRuntime) {
     const WAYS: &[Way] = &[Way::GenErr, Way::LongLength];
     // The reply to the first GetNext has 43 octets, and the one with genErr 41.
     let case = Case::new(Method::Next, &[Way::LongLength]);
@@ -201,18 +202,20 @@ fn what_has_no_room_is_replied_to_whole(rt: HostRuntime) {
     );
 }
 
-/// Whether the Get of these names over a link with this way gives this many bindings and ends so.
-fn get_gives(table: &Table, names: &[Oid], way: Way, rows: usize, end: &WalkEnd) -> bool {
+/// Returns whether the Get of these names over a link with this way returns `rows` bindings and
+/// ends with `end`.
+fn get_returns(table: &Table, names: &[Oid], way: Way, rows: usize, end: &WalkEnd) -> bool {
     let ways = [way];
     let mut link = LooseLink::new(table, public(1472), &ways);
     let mut digits = Digits::new();
     get_ends(&mut link, names, 1, 0, &mut digits, end) && digits.rows == rows
 }
 
-/// The Get of these names over a link with this way gives this many bindings and ends so.
+/// Asserts that the Get of these names over a link with this way returns `rows` bindings and ends
+/// with `end`.
 fn assert_get(rt: &impl Abort, alloc: Global, names: &[Oid], way: Way, rows: usize, end: &WalkEnd) {
     let table = table_of(rt, alloc, NINE);
-    assert!(rt; get_gives(&table, names, way, rows, end));
+    assert!(rt; get_returns(&table, names, way, rows, end));
 }
 
 #[test]
@@ -234,61 +237,61 @@ fn a_get_of_one_name_gets_an_error_and_one_of_two_its_bindings(rt: HostRuntime) 
     );
 }
 
-/// The Get of 1.3.6.1.4.1.32473.1.1, in community `public` with id 1.
+/// The GetRequest of 1.3.6.1.4.1.32473.1.1, with community `public` and id 1.
 const GET: [u8; 42] = [
     0x30, 0x28, 0x02, 0x01, 0x01, 0x04, 0x06, 0x70, 0x75, 0x62, 0x6C, 0x69, 0x63, 0xA0, 0x1B, 0x02,
     0x01, 0x01, 0x02, 0x01, 0x00, 0x02, 0x01, 0x00, 0x30, 0x10, 0x30, 0x0E, 0x06, 0x0A, 0x2B, 0x06,
     0x01, 0x04, 0x01, 0x81, 0xFD, 0x59, 0x01, 0x01, 0x05, 0x00,
 ];
 
-/// Its Response, with the integer 1.
+/// The Response to `GET`, with the integer 1.
 const GOT: [u8; 43] = [
     0x30, 0x29, 0x02, 0x01, 0x01, 0x04, 0x06, 0x70, 0x75, 0x62, 0x6C, 0x69, 0x63, 0xA2, 0x1C, 0x02,
     0x01, 0x01, 0x02, 0x01, 0x00, 0x02, 0x01, 0x00, 0x30, 0x11, 0x30, 0x0F, 0x06, 0x0A, 0x2B, 0x06,
     0x01, 0x04, 0x01, 0x81, 0xFD, 0x59, 0x01, 0x01, 0x02, 0x01, 0x01,
 ];
 
-/// Its Response with genErr, at the first binding.
+/// The Response to `GET` with genErr, at the first binding.
 const FAILED: [u8; 42] = [
     0x30, 0x28, 0x02, 0x01, 0x01, 0x04, 0x06, 0x70, 0x75, 0x62, 0x6C, 0x69, 0x63, 0xA2, 0x1B, 0x02,
     0x01, 0x01, 0x02, 0x01, 0x05, 0x02, 0x01, 0x01, 0x30, 0x10, 0x30, 0x0E, 0x06, 0x0A, 0x2B, 0x06,
     0x01, 0x04, 0x01, 0x81, 0xFD, 0x59, 0x01, 0x01, 0x05, 0x00,
 ];
 
-/// The Response with the integer 1, its length in five octets.
+/// The Response to `GET` with the integer 1, and a length of five octets.
 const LONG: [u8; 47] = [
     0x30, 0x84, 0x00, 0x00, 0x00, 0x29, 0x02, 0x01, 0x01, 0x04, 0x06, 0x70, 0x75, 0x62, 0x6C, 0x69,
     0x63, 0xA2, 0x1C, 0x02, 0x01, 0x01, 0x02, 0x01, 0x00, 0x02, 0x01, 0x00, 0x30, 0x11, 0x30, 0x0F,
     0x06, 0x0A, 0x2B, 0x06, 0x01, 0x04, 0x01, 0x81, 0xFD, 0x59, 0x01, 0x01, 0x02, 0x01, 0x01,
 ];
 
-/// Whether a receive into a whole buffer brings these octets.
-fn brings(link: &mut LooseLink<'_>, octets: &[u8]) -> bool {
+/// Returns whether a receive into a buffer of 65507 octets returns `octets`.
+fn receives(link: &mut LooseLink<'_>, octets: &[u8]) -> bool {
     let mut buffer = [0; 65507];
     link.receive(&mut buffer) == Ok(Some(octets.len())) && buffer.starts_with(octets)
 }
 
-/// Whether a receive into a whole buffer brings nothing.
-fn brings_nothing(link: &mut LooseLink<'_>) -> bool {
+/// Returns whether a receive into a buffer of 65507 octets returns nothing.
+fn receives_nothing(link: &mut LooseLink<'_>) -> bool {
     let mut buffer = [0; 65507];
     link.receive(&mut buffer) == Ok(None)
 }
 
 #[test]
-fn replies_have_the_octets_of_their_ways(rt: HostRuntime) {
+fn each_way_has_its_reply(rt: HostRuntime) {
     const WAYS: &[Way] = &[Way::Whole, Way::GenErr, Way::Fewer(1), Way::LongLength];
     let table = table_of(&rt, rt.alloc(), NINE);
     let mut link = LooseLink::new(&table, public(1472), WAYS);
-    assert!(&rt; brings_nothing(&mut link));
+    assert!(&rt; receives_nothing(&mut link));
     assert!(&rt; link.send(&GET).is_ok());
-    assert!(&rt; brings(&mut link, &FAILED));
-    assert!(&rt; brings(&mut link, &GOT));
-    assert!(&rt; brings(&mut link, &LONG));
-    assert!(&rt; brings(&mut link, &GOT));
+    assert!(&rt; receives(&mut link, &FAILED));
+    assert!(&rt; receives(&mut link, &GOT));
+    assert!(&rt; receives(&mut link, &LONG));
+    assert!(&rt; receives(&mut link, &GOT));
 }
 
 #[test]
-fn a_fault_leaves_the_datagram_and_the_ways(rt: HostRuntime) {
+fn a_fault_leaves_the_datagram_and_the_ways_unchanged(rt: HostRuntime) {
     const WAYS: &[Way] = &[Way::GenErr];
     let table = table_of(&rt, rt.alloc(), NINE);
     let mut link = LooseLink::new(&table, public(1472), WAYS);
@@ -297,15 +300,15 @@ fn a_fault_leaves_the_datagram_and_the_ways(rt: HostRuntime) {
     assert!(&rt; link.send(&[0; 1025]) == Err(LinkFault));
     assert!(&rt; link.receive(&mut short) == Err(LinkFault));
     assert!(&rt; link.faults() == 2);
-    assert!(&rt; brings(&mut link, &FAILED));
+    assert!(&rt; receives(&mut link, &FAILED));
 }
 
 #[test]
-fn what_is_no_request_gets_nothing(rt: HostRuntime) {
+fn a_datagram_that_is_no_request_gets_no_reply(rt: HostRuntime) {
     let table = table_of(&rt, rt.alloc(), NINE);
     let mut link = LooseLink::new(&table, public(1472), &[]);
     assert!(&rt; link.send(&[0; 1024]).is_ok());
-    assert!(&rt; brings_nothing(&mut link));
+    assert!(&rt; receives_nothing(&mut link));
     assert!(&rt; link.send(&GOT).is_ok());
-    assert!(&rt; brings_nothing(&mut link));
+    assert!(&rt; receives_nothing(&mut link));
 }

@@ -6,14 +6,14 @@ use snmp_walk::{Link, LinkFault, MemoryLink};
 use std::alloc::Global;
 use std::process::Abort;
 
-/// The Get of 1.3.6.1.4.1.32473.8.1, in community `public` with id 1.
+/// The GetRequest of 1.3.6.1.4.1.32473.8.1, with community `public` and id 1.
 const GET: [u8; 42] = [
     0x30, 0x28, 0x02, 0x01, 0x01, 0x04, 0x06, 0x70, 0x75, 0x62, 0x6C, 0x69, 0x63, 0xA0, 0x1B, 0x02,
     0x01, 0x01, 0x02, 0x01, 0x00, 0x02, 0x01, 0x00, 0x30, 0x10, 0x30, 0x0E, 0x06, 0x0A, 0x2B, 0x06,
     0x01, 0x04, 0x01, 0x81, 0xFD, 0x59, 0x08, 0x01, 0x05, 0x00,
 ];
 
-/// Its Response, with the integer 7.
+/// The Response to `GET`, with the integer 7.
 const GOT: [u8; 43] = [
     0x30, 0x29, 0x02, 0x01, 0x01, 0x04, 0x06, 0x70, 0x75, 0x62, 0x6C, 0x69, 0x63, 0xA2, 0x1C, 0x02,
     0x01, 0x01, 0x02, 0x01, 0x00, 0x02, 0x01, 0x00, 0x30, 0x11, 0x30, 0x0F, 0x06, 0x0A, 0x2B, 0x06,
@@ -29,8 +29,9 @@ fn send_three(rt: &impl Abort, link: &mut MemoryLink<'_>) {
     }
 }
 
-/// Whether a receive into a whole buffer brings the Response of this id, after this many faults.
-fn brings(link: &mut MemoryLink<'_>, id: u8, faults: u64) -> bool {
+/// Returns whether a receive into a buffer of 65507 octets returns the Response with this id, and
+/// `faults` calls failed so far.
+fn receives(link: &mut MemoryLink<'_>, id: u8, faults: u64) -> bool {
     let mut buffer = [0; 65507];
     let mut reply = GOT;
     reply[17] = id;
@@ -39,45 +40,46 @@ fn brings(link: &mut MemoryLink<'_>, id: u8, faults: u64) -> bool {
         && link.faults() == faults
 }
 
-/// Whether a receive into a whole buffer brings nothing.
-fn brings_nothing(link: &mut MemoryLink<'_>) -> bool {
+/// Returns whether a receive into a buffer of 65507 octets returns nothing.
+fn receives_nothing(link: &mut MemoryLink<'_>) -> bool {
     let mut buffer = [0; 65507];
     link.receive(&mut buffer) == Ok(None)
 }
 
-/// Whether a receive into a longer buffer brings a Response, after this many faults.
-fn brings_into_longer(link: &mut MemoryLink<'_>, faults: u64) -> bool {
+/// Returns whether a receive into a longer buffer returns a Response, and `faults` calls failed so
+/// far.
+fn receives_into_longer(link: &mut MemoryLink<'_>, faults: u64) -> bool {
     let mut longer = [0; 65508];
     link.receive(&mut longer) == Ok(Some(43)) && link.faults() == faults
 }
 
-/// Whether a receive into this buffer is the fault of this number.
+/// Returns whether a receive into `buffer` fails, as fault number `number`.
 fn is_fault(link: &mut MemoryLink<'_>, buffer: &mut [u8], number: u64) -> bool {
     link.receive(buffer) == Err(LinkFault) && link.faults() == number
 }
 
-/// Whether the link brings the replies to the requests 1, 2 and 3, the second after nothing, and
-/// between them a fault for each short buffer.
-fn brings_all(link: &mut MemoryLink<'_>) -> bool {
+/// Returns whether the link delivers the replies to the requests 1, 2 and 3, the second after
+/// nothing, and fails for each short buffer between them.
+fn receives_all(link: &mut MemoryLink<'_>) -> bool {
     let mut short = [0; 65506];
     let mut exact = [0; 43];
     is_fault(link, &mut short, 1)
         && is_fault(link, &mut [], 2)
-        && brings(link, 1, 2)
+        && receives(link, 1, 2)
         && is_fault(link, &mut short, 3)
-        && brings_nothing(link)
-        && brings(link, 2, 3)
+        && receives_nothing(link)
+        && receives(link, 2, 3)
         && is_fault(link, &mut exact, 4)
-        && brings(link, 3, 4)
-        && brings_into_longer(link, 4)
+        && receives(link, 3, 4)
+        && receives_into_longer(link, 4)
 }
 
-/// Whether a link with a reply, a loss and a late reply brings all of them.
+/// Returns whether a link with a reply, a loss and a late reply delivers as [`receives_all`] says.
 fn are_received(rt: &impl Abort, alloc: Global, table: &Table) -> bool {
     let deliveries = [Some(1), None, Some(2)];
     let mut link = MemoryLink::new(alloc, table, public(1472), &deliveries);
     send_three(rt, &mut link);
-    brings_all(&mut link)
+    receives_all(&mut link)
 }
 
 #[test]

@@ -1,5 +1,5 @@
-//! Walks over a network in memory to the agent at its other end, which loses, repeats and delays
-//! datagrams each way.
+//! Walks over a network in memory to the agent at its other end. The network loses, repeats and
+//! delays datagrams in both directions.
 ghost use Rattle.snmp_walk.specs.Facts.{IsFresh};
 
 use crate::runs::{ROOT, public, table_of, walk_of};
@@ -12,20 +12,21 @@ use snmp_walk::{
 use std::alloc::Global;
 use std::process::Abort;
 
-/// Three integers, each its place, from 1 on.
+/// Three rows, whose values are their numbers from 1.
 const THREE: &[u8] =
     b"1.3.6.1.4.1.32473.1.1.0|2|1\n1.3.6.1.4.1.32473.1.2.0|2|2\n1.3.6.1.4.1.32473.1.3.0|2|3\n";
 
-/// A walk by GetNext, whose requests each ask for the row after the one before: over the network of
-/// these deliveries, with so many retries.
+/// A walk by GetNext, each of whose requests asks for the next row: the deliveries of its network,
+/// and its retries.
 #[derive(Clone, Copy)]
 struct Case<'a> {
     deliveries: &'a [Delivery],
     retries: u32,
 }
 
-/// Whether the walk of a case gives these integers, as digits, and ends in this way.
-fn brings(
+/// Returns whether the walk of a case returns these integers, as the digits of `number`, and ends
+/// with `end`.
+fn walk_returns(
     alloc: Global,
     table: &Table,
     core: WalkCore,
@@ -41,7 +42,8 @@ fn brings(
     walk_served(&mut link, core, case.retries, &mut digits) == *end && digits.number == number
 }
 
-/// The walk over the network of these deliveries gives these integers and ends in this way.
+/// Asserts that the walk over the network of these deliveries returns these integers, as the digits
+/// of `number`, and ends with `end`.
 fn assert_walk(
     rt: &impl Abort,
     alloc: Global,
@@ -56,11 +58,11 @@ fn assert_walk(
     };
     let table = table_of(rt, alloc, THREE);
     let core = walk_of(rt, ROOT, Mode::Plain, Method::Next, 1);
-    assert!(rt; brings(alloc, &table, core, case, number, end));
+    assert!(rt; walk_returns(alloc, &table, core, case, number, end));
 }
 
 #[test]
-fn a_walk_gives_the_table_that_is_served(rt: HostRuntime) {
+fn a_walk_returns_the_table_that_is_served(rt: HostRuntime) {
     assert_walk(&rt, rt.alloc(), &[], 0, 123, &WalkEnd::Done(3));
 }
 
@@ -84,19 +86,19 @@ fn a_request_whose_reply_is_lost_is_sent_again(rt: HostRuntime) {
 }
 
 #[test]
-fn a_request_that_comes_twice_gives_its_row_once(rt: HostRuntime) {
+fn a_request_that_arrives_twice_returns_its_row_once(rt: HostRuntime) {
     const TWICE: &[Delivery] = &[
         Delivery::Request(1),
         Delivery::Request(1),
         Delivery::Reply(1),
-        // The reply to the repeated request comes in place of that to the next.
+        // The reply to the repeated request arrives instead of the reply to the next request.
         Delivery::Reply(2),
     ];
     assert_walk(&rt, rt.alloc(), TWICE, 0, 123, &WalkEnd::Done(3));
 }
 
 #[test]
-fn a_reply_that_comes_twice_gives_its_row_once(rt: HostRuntime) {
+fn a_reply_that_arrives_twice_returns_its_row_once(rt: HostRuntime) {
     const TWICE: &[Delivery] = &[
         Delivery::Request(1),
         Delivery::Reply(1),
@@ -110,13 +112,13 @@ fn a_reply_that_comes_twice_gives_its_row_once(rt: HostRuntime) {
 }
 
 #[test]
-fn a_late_request_gives_nothing_more(rt: HostRuntime) {
+fn a_delayed_request_returns_no_row_twice(rt: HostRuntime) {
     const LATE: &[Delivery] = &[
-        // The first try is late, and the second brings the first row.
+        // The first try is delayed, and the second returns the first row.
         Delivery::Nothing,
         Delivery::Request(2),
         Delivery::Reply(1),
-        // Then the late one comes before the next request, and so does its reply.
+        // Then the delayed one arrives before the next request, and so does its reply.
         Delivery::Request(1),
         Delivery::Request(3),
         Delivery::Reply(2),
@@ -126,13 +128,13 @@ fn a_late_request_gives_nothing_more(rt: HostRuntime) {
 }
 
 #[test]
-fn a_late_reply_gives_nothing_more(rt: HostRuntime) {
+fn a_delayed_reply_returns_no_row_twice(rt: HostRuntime) {
     const LATE: &[Delivery] = &[
         Delivery::Request(1),
         Delivery::Nothing,
         Delivery::Request(2),
         Delivery::Reply(2),
-        // The reply to the first try comes in the place of that to the next request.
+        // The reply to the first try arrives before the reply to the next request.
         Delivery::Request(3),
         Delivery::Reply(1),
         Delivery::Reply(3),
@@ -141,7 +143,7 @@ fn a_late_reply_gives_nothing_more(rt: HostRuntime) {
 }
 
 #[test]
-fn nothing_comes_of_a_datagram_that_was_not_sent(rt: HostRuntime) {
+fn a_datagram_that_was_not_sent_yet_does_not_arrive(rt: HostRuntime) {
     const EARLY: &[Delivery] = &[Delivery::Request(2), Delivery::Reply(1)];
     assert_walk(&rt, rt.alloc(), EARLY, 0, 0, &WalkEnd::NoResponse);
     assert_walk(&rt, rt.alloc(), EARLY, 1, 123, &WalkEnd::Done(3));
@@ -160,13 +162,13 @@ fn the_agent_has_a_turn_for_each_request_that_is_delivered(rt: HostRuntime) {
 }
 
 /// Returns whether a datagram of three octets is a fault of a receive into two, and arrives whole
-/// into three.
-fn comes_whole(network: &mut MemoryNetwork<'_>) -> bool {
+/// in three, at both ends.
+fn arrives_whole(network: &mut MemoryNetwork<'_>) -> bool {
     let mut short = [0; 2];
     let mut exact = [0; 3];
     network.receive(&mut short) == Err(EndpointFault)
         && network.faults() == 1
-        // Without deliveries a fault of the agent is one of the walk too.
+        // Without deliveries, a fault of the agent's receive is a fault of the walk's too.
         && network.receive_reply(&mut exact) == Err(LinkFault)
         && network.faults() == 2
         && network.receive(&mut exact) == Ok(Some((3, ())))
@@ -180,8 +182,8 @@ fn comes_whole(network: &mut MemoryNetwork<'_>) -> bool {
 }
 
 #[test]
-fn a_datagram_that_has_no_room_is_a_fault(rt: HostRuntime) {
+fn a_datagram_longer_than_the_buffer_is_a_fault(rt: HostRuntime) {
     let mut network = MemoryNetwork::new(rt.alloc(), &[]);
     assert!(&rt; network.send(&[7, 8, 9]).is_ok());
-    assert!(&rt; comes_whole(&mut network));
+    assert!(&rt; arrives_whole(&mut network));
 }

@@ -1,20 +1,21 @@
 //! Walks over tables of several pages.
 
-use crate::runs::{ROOT, name_of, public, resumed, walk_ends, walk_of};
+use crate::runs::{ROOT, name_of, public, resumed_walk, walk_ends, walk_of};
 use snmp_agent::Table;
 use snmp_walk::{MemoryLink, Method, Mode, Sink, SinkFault, WalkEnd};
 use snmp_wire::{Binding, ValueRef};
 use std::alloc::{AllocError, Global};
 use std::process::Abort;
 
-/// Counts the rows that come in the order of their numbers, from 0 on, and all other bindings.
+/// A sink for rows in the order of their numbers. `next` is the number of the next one, and
+/// `others` counts all other bindings.
 #[derive(Drop)]
 struct Numbers {
     next: u32,
     others: u32,
 }
 
-/// Whether the binding is the row of the number, with the number as its value.
+/// Returns whether `binding` is the row of `number`, with the number as its value.
 fn is_row(binding: &Binding<'_>, number: u32) -> bool {
     binding.name.as_slice() == [1, 3, 6, 1, 4, 1, 32473, 1, number].as_slice()
         && matches!(binding.value, ValueRef::Counter32(held) if held == number)
@@ -33,7 +34,8 @@ impl Sink for Numbers {
     }
 }
 
-/// The text of `count` rows, whose numbers go up by `step`, modulo `count`.
+/// Returns the lines of `count` rows. Their numbers begin with 0 and increase by `step`, modulo
+/// `count`.
 fn rows_of(alloc: Global, count: u32, step: u32) -> Result<Vec<u8>, AllocError> {
     let mut text = Vec::new(alloc);
     let mut number: u32 = 0;
@@ -45,8 +47,8 @@ fn rows_of(alloc: Global, count: u32, step: u32) -> Result<Vec<u8>, AllocError> 
     Ok(text)
 }
 
-/// Whether a walk over such rows gives each of them once, in order, and nothing else. Where there
-/// are none, it gives the exception of the root.
+/// Returns whether a walk over the `count` rows of `table` returns each of them once, in order, and
+/// nothing else. If there are none, it returns the exception of the root.
 fn is_walked(
     rt: &impl Abort,
     alloc: Global,
@@ -64,8 +66,8 @@ fn is_walked(
         && numbers.others == u32::from(count == 0)
 }
 
-/// Whether a walk over such rows that is resumed after the row of this number gives those behind
-/// it, in order, and nothing else.
+/// Returns whether a walk over the `count` rows of `table` that is resumed after the row of number
+/// `after` returns those after it, in order, and nothing else.
 fn is_resumed(
     rt: &impl Abort,
     alloc: Global,
@@ -82,7 +84,7 @@ fn is_resumed(
     let mut name = name_of(rt, ROOT);
     let next = after.wrapping_add(1);
     let core = match name.push(after) {
-        Ok(()) => resumed(rt, &name, method),
+        Ok(()) => resumed_walk(rt, &name, method),
         Err(_) => return false,
     };
     let mut link = MemoryLink::new(alloc, table, public(size), &[]);
@@ -93,8 +95,8 @@ fn is_resumed(
         && numbers.others == 0
 }
 
-/// Walks by each of the methods, at several sizes of messages, give the rows of a table of `count`
-/// of them.
+/// Asserts that walks by each of the methods, at several sizes of messages, return the rows of a
+/// table of `count` rows.
 fn assert_walked(rt: &impl Abort, alloc: Global, count: u32, step: u32, methods: &[Method]) {
     let text = rows_of(alloc, count, step).expect(rt, "memory for rows");
     let table = Table::read(alloc, &text).expect(rt, "a table");
@@ -118,7 +120,7 @@ fn assert_walked(rt: &impl Abort, alloc: Global, count: u32, step: u32, methods:
 #[test]
 fn tables_around_the_size_of_a_page_are_walked_in_order(rt: HostRuntime) {
     let methods = [Method::Next, Method::Bulk(50)];
-    // A step that has no factor in common with a count comes to each number once.
+    // A step without a common factor with a count reaches each number once.
     for &count in &[0, 1, 127, 128, 129, 255, 256, 257, 512, 513] {
         assert_walked(&rt, rt.alloc(), count, 1, &methods);
         assert_walked(&rt, rt.alloc(), count, 101, &methods);

@@ -1,4 +1,4 @@
-//! Walks and Gets of the community `public`, and whether they end as they should.
+//! Walks and Gets with community `public`, and whether they end as they should.
 ghost use Rattle.std.specs.Prelude.{◌≡◌, All, true};
 ghost use Rattle.snmp_oid.specs.Identifier.{IsWire, wire};
 ghost use Rattle.snmp_walk.specs.Facts.{IsFresh};
@@ -14,7 +14,7 @@ use std::process::Abort;
 /// The root of most walks.
 pub const ROOT: &[u8] = b"1.3.6.1.4.1.32473.1";
 
-/// The agent of `public` whose messages have at most this many octets.
+/// Returns the configuration of the agent of `public`. Its messages have at most `max_size` octets.
 pub fn public(max_size: usize) -> Config<'static> {
     Config {
         community: b"public",
@@ -22,17 +22,17 @@ pub fn public(max_size: usize) -> Config<'static> {
     }
 }
 
-/// The table of this text.
+/// Returns the table of this text.
 pub fn table_of(rt: &impl Abort, alloc: Global, text: &[u8]) -> Table {
     Table::read(alloc, text).expect(rt, "a table")
 }
 
-/// The identifier of this text.
+/// Returns the identifier of this text.
 pub fn name_of(rt: &impl Abort, text: &[u8]) -> Oid {
     parse_numeric(text).expect(rt, "a name")
 }
 
-/// The walk below this root from this first id.
+/// Returns the walk below this root, with this first id.
 pub fn walk_of(rt: &impl Abort, root: &[u8], mode: Mode, method: Method, first_id: u32) -> WalkCore
     ensures { IsFresh result }
 {
@@ -45,8 +45,8 @@ pub fn walk_of(rt: &impl Abort, root: &[u8], mode: Mode, method: Method, first_i
     WalkCore::start(root, mode, method, b"public", first_id).expect(rt, "a root that can be sent")
 }
 
-/// The walk below the root that is resumed after this name.
-pub fn resumed(rt: &impl Abort, after: &Oid, method: Method) -> WalkCore
+/// Returns the walk below the root that is resumed after the name `after`.
+pub fn resumed_walk(rt: &impl Abort, after: &Oid, method: Method) -> WalkCore
     requires { IsMethod method }
     ensures { IsFresh result }
 {
@@ -54,7 +54,7 @@ pub fn resumed(rt: &impl Abort, after: &Oid, method: Method) -> WalkCore
     WalkCore::resume(root, after, method, b"public", 1).expect(rt, "names that can be sent")
 }
 
-/// Whether the walk ends in this way.
+/// Runs the walk, and returns whether it ends with `end`.
 pub fn walk_ends<L: Link, S: Sink>(
     link: &mut L,
     core: WalkCore,
@@ -67,18 +67,18 @@ pub fn walk_ends<L: Link, S: Sink>(
     run_walk(link, core, retries, sink) == *end
 }
 
-/// Adds an item.
+/// Appends an item.
 pub fn push<T: Debug + Drop>(rt: &impl Abort, items: &mut Vec<T>, item: T) {
     items.push(item).expect(rt, "memory for an item");
 }
 
-/// Adds these octets.
+/// Appends these octets.
 pub fn put(rt: &impl Abort, text: &mut Vec<u8>, octets: &[u8]) {
     text.extend_from_slice(octets)
         .expect(rt, "memory for octets");
 }
 
-/// The identifiers of these texts.
+/// Returns the identifiers of these texts.
 pub fn names_of(rt: &impl Abort, alloc: Global, texts: &[&[u8]]) -> Vec<Oid> {
     let mut names = Vec::new(alloc);
     for text in texts {
@@ -87,14 +87,15 @@ pub fn names_of(rt: &impl Abort, alloc: Global, texts: &[&[u8]]) -> Vec<Oid> {
     names
 }
 
-/// Whether each name can be sent.
+/// Returns whether each name can be sent.
 fn are_sendable(names: &[Oid]) -> bool
     ensures { result ≡ true → All (λ o. IsWire (wire o)) names.now }
 {
     names.iter().all(|name| name.to_wire().is_ok())
 }
 
-/// Whether there are names, each can be sent, and their Get with this id ends in this way.
+/// Runs the Get of these names with this id, and returns whether it ends with `end`. Returns false
+/// if there are no names, or one can't be sent.
 pub fn get_ends<L: Link, S: Sink>(
     link: &mut L,
     names: &[Oid],

@@ -1,22 +1,22 @@
-//! Walks over schedules, lists of deliveries drawn at random, compared with what these give,
-//! computed plainly.
+//! Walks over schedules, which are lists of deliveries drawn at random. What the walks return is
+//! compared with a simple computation.
 ghost use Rattle.snmp_walk.specs.Facts.{IsFresh};
 
-use crate::runs::{ROOT, name_of, public, push, put, resumed, table_of, walk_ends, walk_of};
+use crate::runs::{ROOT, name_of, public, push, put, resumed_walk, table_of, walk_ends, walk_of};
 use crate::sinks::{Counted, Digits};
 use snmp_agent::Table;
 use snmp_walk::{MemoryLink, Method, Mode, WalkCore, WalkEnd};
 use std::alloc::Global;
 use std::process::Abort;
 
-/// Numbers that look random: a linear congruential generator (Knuth, MMIX).
+/// Pseudo-random numbers: a linear congruential generator (Knuth, MMIX).
 #[derive(Drop)]
 struct Random {
     state: u64,
 }
 
 impl Random {
-    /// A number below the bound, or 0 where that is 0.
+    /// Returns a number below `bound`, or 0 if `bound` is 0.
     fn below(&mut self, bound: u64) -> u64 {
         self.state = self
             .state
@@ -25,44 +25,44 @@ impl Random {
         (self.state >> 33).checked_rem(bound).unwrap_or(0)
     }
 
-    /// A small number below the bound, or 0 where that is 0.
+    /// Returns a small number below `bound`, or 0 if `bound` is 0.
     fn small(&mut self, bound: u8) -> u8 {
         u8::try_from(self.below(u64::from(bound))).unwrap_or(0)
     }
 }
 
-/// A walk over a table, by what it asks for.
+/// What a walk asks for.
 #[derive(Clone, Copy)]
 struct Asked {
     mode: Mode,
-    /// The repetitions of its GetBulk, or none where it asks by GetNext.
+    /// The max-repetitions of its GetBulk, or `None` if it asks by GetNext.
     repetitions: Option<u8>,
     /// The number below the root after which it is resumed, if it is.
     after: Option<u8>,
     retries: u8,
 }
 
-/// What the walk of a table gives: the digit of each binding, if it has one, and how many are given
-/// once each of its requests has its reply.
+/// What the walk of a table returns: the digit of each binding, if it has one, and how many
+/// bindings there are after the reply to each request.
 #[derive(Drop)]
 struct Whole {
     digits: Vec<Option<u8>>,
-    given: Vec<usize>,
+    rows_after: Vec<usize>,
 }
 
 impl Whole {
-    /// Adds a binding.
+    /// Appends a binding.
     fn add(&mut self, rt: &impl Abort, digit: Option<u8>) {
         push(rt, &mut self.digits, digit);
     }
 
-    /// Ends a request, with the bindings up to here.
+    /// Ends a request, whose reply comes with the bindings up to here.
     fn end_request(&mut self, rt: &impl Abort) {
-        push(rt, &mut self.given, self.digits.len());
+        push(rt, &mut self.rows_after, self.digits.len());
     }
 
-    /// Adds the requests for the rows of these numbers, for `step` rows each, without those up to
-    /// the one after which the walk is resumed.
+    /// Appends the rows of these numbers and the requests for them, for `step` rows each. If the
+    /// walk is resumed after a number, only greater numbers are returned.
     fn add_rows(&mut self, rt: &impl Abort, numbers: &[u8], after: Option<u8>, step: usize) {
         let mut here = 0_usize;
         for number in numbers {
@@ -77,8 +77,9 @@ impl Whole {
         self.end_request(rt);
     }
 
-    /// Adds the requests of the walk, by their definition. Its table has a row for each of these
-    /// numbers below the root, with the number as its value, and perhaps the root's own row.
+    /// Appends the requests of the walk, by their definition. Its table has a row for each of these
+    /// numbers below the root, with the number as its value, and the root's own row if `own` is its
+    /// value.
     fn add_walk(&mut self, rt: &impl Abort, asked: Asked, numbers: &[u8], own: Option<u8>) {
         let is_whole = asked.after.is_none();
         if asked.mode == Mode::Include && is_whole {
@@ -95,37 +96,37 @@ impl Whole {
         }
     }
 
-    /// What a run with this outcome brings.
-    fn brings(&self, outcome: Outcome) -> Wanted {
-        let rows = match outcome.replied.checked_sub(1) {
-            Some(last) => self.given.get(last).copied().unwrap_or(0),
+    /// Returns what a run of these counts is to return.
+    fn wanted_after(&self, counts: RunCounts) -> Wanted {
+        let rows = match counts.replied.checked_sub(1) {
+            Some(last) => self.rows_after.get(last).copied().unwrap_or(0),
             None => 0,
         };
-        let mut given = Digits::new();
+        let mut taken = Digits::new();
         for digit in self.digits.iter().take(rows) {
-            given.add(*digit);
+            taken.add(*digit);
         }
         Wanted {
-            number: given.number,
-            rows: given.rows,
-            sends: outcome.sends,
-            requests: outcome.replied.saturating_add(1).min(self.given.len()),
-            is_done: outcome.replied == self.given.len(),
+            number: taken.number,
+            rows: taken.rows,
+            sends: counts.sends,
+            requests: counts.replied.saturating_add(1).min(self.rows_after.len()),
+            is_done: counts.replied == self.rows_after.len(),
         }
     }
 }
 
-/// What a run brings: how many requests have their replies, and how many datagrams it sends.
+/// The counts of a run: how many requests have their replies, and how many datagrams it sends.
 #[derive(Clone, Copy)]
-struct Outcome {
+struct RunCounts {
     replied: usize,
     sends: usize,
 }
 
-/// Whether a try of this request receives a reply to it, by the definition of the deliveries: each
-/// gives the reply to the datagram of its number, and later ones to the latest. `sent` has the
-/// request that each datagram sent is.
-fn is_heard(
+/// Returns whether a try of `request` receives its reply, by the definition of the deliveries: each
+/// delivers the reply to the datagram of its number, and after the last delivery it is the reply to
+/// the latest datagram. `sent` has the request in each datagram that was sent.
+fn receives_reply(
     request: usize,
     sent: &[usize],
     deliveries: &[Option<usize>],
@@ -141,7 +142,7 @@ fn is_heard(
         };
         match number
             .checked_sub(1)
-            .and_then(|place| sent.get(place).copied())
+            .and_then(|index| sent.get(index).copied())
         {
             None => return false,
             Some(asked) => {
@@ -154,8 +155,9 @@ fn is_heard(
     false
 }
 
-/// How many of this many requests have their replies, and in `sent` which request each datagram is.
-fn replied(
+/// Returns how many of `requests` requests have their replies. Appends to `sent` the request in
+/// each datagram.
+fn replied_count(
     rt: &impl Abort,
     sent: &mut Vec<usize>,
     requests: usize,
@@ -164,32 +166,32 @@ fn replied(
 ) -> usize {
     let mut used = 0;
     for request in 0..requests {
-        let mut heard = false;
+        let mut has_reply = false;
         for _ in 0..=retries {
-            if !heard {
+            if !has_reply {
                 push(rt, sent, request);
-                heard = is_heard(request, sent, deliveries, &mut used);
+                has_reply = receives_reply(request, sent, deliveries, &mut used);
             }
         }
-        if !heard {
+        if !has_reply {
             return request;
         }
     }
     requests
 }
 
-/// The outcome of a run of this many requests, by the definition of the deliveries.
-fn computed(rt: &impl Abort, alloc: Global, requests: usize, drawn: &Drawn) -> Outcome {
+/// Returns the counts of a run of `requests` requests, by the definition of the deliveries.
+fn counts_of(rt: &impl Abort, alloc: Global, requests: usize, drawn: &Drawn) -> RunCounts {
     let mut sent = Vec::new(alloc);
     let retries = drawn.asked.retries;
-    let replied = replied(rt, &mut sent, requests, retries, &drawn.deliveries);
-    Outcome {
+    let replied = replied_count(rt, &mut sent, requests, retries, &drawn.deliveries);
+    RunCounts {
         replied,
         sends: sent.len(),
     }
 }
 
-/// Numbers below 10, drawn at random, in order.
+/// Returns random numbers below 10, in increasing order.
 fn draw_numbers(rt: &impl Abort, alloc: Global, random: &mut Random) -> Vec<u8> {
     let mut numbers = Vec::new(alloc);
     let odds = random.below(4);
@@ -201,8 +203,8 @@ fn draw_numbers(rt: &impl Abort, alloc: Global, random: &mut Random) -> Vec<u8> 
     numbers
 }
 
-/// Writes a table with a row for each number below the root, from the highest on, for the root
-/// itself, and for names that stand on both sides of them.
+/// Appends a table with a row for each number below the root, from the highest to the lowest,
+/// perhaps one for the root itself, and rows before and after these.
 fn put_table(rt: &impl Abort, text: &mut Vec<u8>, numbers: &[u8], own: Option<u8>) {
     put(rt, text, b"1.3.6.1.4.1.32473.2|2|8\n");
     for number in numbers.iter().rev() {
@@ -217,14 +219,14 @@ fn put_table(rt: &impl Abort, text: &mut Vec<u8>, numbers: &[u8], own: Option<u8
     put(rt, text, b"1.3.6.1.4.1.32473.0.1|2|9\n");
 }
 
-/// The table that is drawn.
+/// Returns the table that was drawn.
 fn drawn_table(rt: &impl Abort, alloc: Global, drawn: &Drawn) -> Table {
     let mut text = Vec::new(alloc);
     put_table(rt, &mut text, &drawn.numbers, drawn.own);
     table_of(rt, alloc, &text)
 }
 
-/// What is asked for, drawn at random.
+/// Returns what a walk asks for, at random.
 fn draw_asked(random: &mut Random) -> Asked {
     let mode = match random.below(3) {
         0 => Mode::Plain,
@@ -248,7 +250,7 @@ fn draw_asked(random: &mut Random) -> Asked {
     }
 }
 
-/// Up to 40 deliveries, drawn at random.
+/// Returns up to 40 random deliveries.
 fn draw_deliveries(rt: &impl Abort, alloc: Global, random: &mut Random) -> Vec<Option<usize>> {
     let mut deliveries = Vec::new(alloc);
     for _ in 0..random.below(41) {
@@ -263,7 +265,7 @@ fn draw_deliveries(rt: &impl Abort, alloc: Global, random: &mut Random) -> Vec<O
     deliveries
 }
 
-/// The core of the walk that is asked for.
+/// Returns the walk that is asked for.
 fn core_of(rt: &impl Abort, asked: Asked) -> WalkCore
     ensures { IsFresh result }
 {
@@ -276,12 +278,13 @@ fn core_of(rt: &impl Abort, asked: Asked) -> WalkCore
         Some(number) => {
             let mut after = name_of(rt, ROOT);
             after.push(u32::from(number)).expect(rt, "a name");
-            resumed(rt, &after, method)
+            resumed_walk(rt, &after, method)
         }
     }
 }
 
-/// What is drawn: a table's numbers below the root and its row at the root, a walk, and deliveries.
+/// What was drawn: the numbers below the root and the root's own row of a table, what a walk asks
+/// for, and deliveries.
 #[derive(Drop)]
 struct Drawn {
     numbers: Vec<u8>,
@@ -304,7 +307,7 @@ fn draw(rt: &impl Abort, alloc: Global, random: &mut Random) -> Drawn {
     }
 }
 
-/// What a walk is to bring: the integers as digits, how many bindings, how many datagrams and
+/// What a walk is to return: the integers as digits, how many bindings, how many datagrams and
 /// requests it sends, and whether it is done.
 #[derive(Clone, Copy)]
 struct Wanted {
@@ -315,18 +318,24 @@ struct Wanted {
     is_done: bool,
 }
 
-/// What the walk that is drawn is to bring, computed plainly.
+/// Returns what the walk that was drawn is to return, by a simple computation.
 fn wanted_of(rt: &impl Abort, alloc: Global, drawn: &Drawn) -> Wanted {
     let mut whole = Whole {
         digits: Vec::new(alloc),
-        given: Vec::new(alloc),
+        rows_after: Vec::new(alloc),
     };
     whole.add_walk(rt, drawn.asked, &drawn.numbers, drawn.own);
-    whole.brings(computed(rt, alloc, whole.given.len(), drawn))
+    whole.wanted_after(counts_of(rt, alloc, whole.rows_after.len(), drawn))
 }
 
-/// Whether the walk over this table by these deliveries brings what is wanted.
-fn brings(alloc: Global, table: &Table, core: WalkCore, drawn: &Drawn, wanted: Wanted) -> bool
+/// Returns whether the walk over this table, with these deliveries, returns what is wanted.
+fn returns_wanted(
+    alloc: Global,
+    table: &Table,
+    core: WalkCore,
+    drawn: &Drawn,
+    wanted: Wanted,
+) -> bool
     requires { IsFresh core }
 {
     let mut link = Counted::new(MemoryLink::new(alloc, table, public(1472), &drawn.deliveries));
@@ -348,17 +357,18 @@ fn brings(alloc: Global, table: &Table, core: WalkCore, drawn: &Drawn, wanted: W
         && link.requests == wanted.requests
 }
 
-/// Walks a table by a schedule, both drawn at random.
+/// Draws a table, a walk and a schedule at random, and asserts that the walk returns what is
+/// wanted.
 fn assert_schedule(rt: &impl Abort, alloc: Global, random: &mut Random) {
     let drawn = draw(rt, alloc, random);
     let wanted = wanted_of(rt, alloc, &drawn);
     let core = core_of(rt, drawn.asked);
     let table = drawn_table(rt, alloc, &drawn);
-    assert!(rt; brings(alloc, &table, core, &drawn, wanted));
+    assert!(rt; returns_wanted(alloc, &table, core, &drawn, wanted));
 }
 
 #[test]
-fn a_thousand_schedules(rt: HostRuntime) {
+fn walks_over_a_thousand_schedules_return_what_is_computed(rt: HostRuntime) {
     let mut random = Random { state: 20010101 };
     for _ in 0..1000 {
         assert_schedule(&rt, rt.alloc(), &mut random);

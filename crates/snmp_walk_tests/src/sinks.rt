@@ -3,8 +3,8 @@
 use snmp_walk::{Link, LinkFault, MemoryLink, Sink, SinkFault};
 use snmp_wire::{Binding, ValueRef, parse_numeric};
 
-/// Writes the integers of its bindings one after the other, as the digits of a number, and counts
-/// the bindings.
+/// A sink that writes the integers of its bindings one after the other, as the digits of a number,
+/// and counts the bindings.
 #[derive(Drop)]
 pub struct Digits {
     pub number: u64,
@@ -16,7 +16,7 @@ impl Digits {
         Digits { number: 0, rows: 0 }
     }
 
-    /// Counts a binding, and writes its digit if it has one.
+    /// Counts a binding, and appends its digit if it has one.
     pub fn add(&mut self, digit: Option<u8>) {
         self.rows = self.rows.saturating_add(1);
         if let Some(digit) = digit {
@@ -38,10 +38,11 @@ impl Sink for Digits {
     }
 }
 
-/// A binding: the text of a name, and a value.
+/// A binding: the text of its name, and its value.
 pub type Row = (&'static [u8], ValueRef<'static>);
 
-/// Compares its bindings with those that are wanted, counts them, and counts those that differ.
+/// A sink that compares its bindings with those that are wanted, counts them, and counts those that
+/// differ.
 #[derive(Drop)]
 pub struct Listed<'a> {
     pub wanted: &'a [Row],
@@ -58,7 +59,7 @@ impl<'a> Listed<'a> {
         }
     }
 
-    /// Whether the binding is the next that is wanted.
+    /// Returns whether `binding` is the next that is wanted.
     fn is_next(&self, binding: &Binding<'_>) -> bool {
         let Some((name, value)) = self.wanted.get(self.rows) else {
             return false;
@@ -82,7 +83,7 @@ impl<'a> Sink for Listed<'a> {
     }
 }
 
-/// A link in memory whose sends are counted, and how many of them were of another request than the
+/// A link in memory that counts its sends, and how many of them were of another request than the
 /// one before.
 #[derive(Drop)]
 pub struct Counted<'a> {
@@ -125,7 +126,7 @@ impl<'a> Link for Counted<'a> {
     ghost lawful = { λ _ h. absurd h };
 
     fn send(&mut self, datagram: &[u8]) -> Result<(), LinkFault> {
-        // The last octet of the request-id of a request of the community `public`.
+        // The last octet of the request-id, if the community is `public`.
         let id = datagram.get(17).copied();
         if self.sends == 0 || id != self.last_id {
             self.requests = self.requests.saturating_add(1);

@@ -1,4 +1,5 @@
-//! Walks and Gets over a link that brings strays before the replies.
+//! Walks and Gets over a link that delivers strays, datagrams that aren't a reply to the waiting
+//! request, before the replies.
 ghost use Rattle.snmp_walk.specs.Facts.{IsFresh};
 
 use crate::liar::{GENERAL_ERROR, ROW};
@@ -14,22 +15,22 @@ use std::process::Abort;
 const THREE: &[u8] =
     b"1.3.6.1.4.1.32473.1.1.0|2|1\n1.3.6.1.4.1.32473.1.2.0|2|2\n1.3.6.1.4.1.32473.1.10.0|2|3\n";
 
-/// A stray, how often it comes after each datagram sent, and the retries.
+/// A stray, how many times it arrives after each datagram sent, and the retries.
 #[derive(Clone, Copy)]
 struct Case<'a> {
     stray: &'a [u8],
-    /// After later datagrams it never comes.
+    /// How many times the stray arrives after each datagram sent; after later datagrams, never.
     before: &'a [usize],
     retries: u32,
 }
 
-/// A link in memory that brings the stray of a case before the replies.
+/// A link in memory that delivers the stray of a case before the replies.
 #[derive(Drop)]
 struct Crowded<'a, 'c> {
     link: Counted<'a>,
     case: Case<'c>,
-    /// How often the stray still comes.
-    left: usize,
+    /// How many times the stray still arrives.
+    remaining: usize,
     receives: usize,
 }
 
@@ -38,16 +39,17 @@ impl<'a, 'c> Crowded<'a, 'c> {
         Crowded {
             link,
             case,
-            left: 0,
+            remaining: 0,
             receives: 0,
         }
     }
 
-    /// Whether this many datagrams and requests were sent, and this many receives tried.
-    fn has_counted(&self, brought: Brought) -> bool {
-        self.link.sends == brought.sends
-            && self.link.requests == brought.requests
-            && self.receives == brought.receives
+    /// Returns whether as many datagrams and requests were sent, and as many receives tried, as
+    /// expected.
+    fn has_counted(&self, expected: Expected) -> bool {
+        self.link.sends == expected.sends
+            && self.link.requests == expected.requests
+            && self.receives == expected.receives
     }
 }
 
@@ -75,7 +77,7 @@ impl<'a, 'c> Link for Crowded<'a, 'c> {
     ghost lawful = { λ _ h. absurd h };
 
     fn send(&mut self, datagram: &[u8]) -> Result<(), LinkFault> {
-        self.left = self.case.before.get(self.link.sends).copied().unwrap_or(0);
+        self.remaining = self.case.before.get(self.link.sends).copied().unwrap_or(0);
         self.link.send(datagram)
     }
 
@@ -83,10 +85,10 @@ impl<'a, 'c> Link for Crowded<'a, 'c> {
         self.receives = self.receives.saturating_add(1);
         let stray = self.case.stray;
         let length = stray.len();
-        if self.left == 0 || length > buffer.len() {
+        if self.remaining == 0 || length > buffer.len() {
             return self.link.receive(buffer);
         }
-        self.left -= 1;
+        self.remaining -= 1;
         buffer[..length].copy_from_slice(stray);
         Ok(Some(length))
     }
@@ -96,23 +98,23 @@ impl<'a, 'c> Link for Crowded<'a, 'c> {
     }
 }
 
-/// What a run brings: the integers as digits, and how many datagrams and requests it sends and how
-/// often it receives.
+/// What a run is expected to do: the integers that it returns, as digits, how many datagrams and
+/// requests it sends, and how many times it receives.
 #[derive(Clone, Copy)]
-struct Brought {
+struct Expected {
     number: u64,
     sends: usize,
     requests: usize,
     receives: usize,
 }
 
-/// Whether the walk over the strays of a case brings this, and ends in this way.
-fn walk_brings(
+/// Returns whether the walk over the strays of a case does what is expected, and ends with `end`.
+fn walk_does_as_expected(
     alloc: Global,
     table: &Table,
     core: WalkCore,
     case: Case<'_>,
-    brought: Brought,
+    expected: Expected,
     end: &WalkEnd,
 ) -> bool
     requires { IsFresh core }
@@ -121,60 +123,61 @@ fn walk_brings(
     let mut link = Crowded::new(link, case);
     let mut digits = Digits::new();
     walk_ends(&mut link, core, case.retries, &mut digits, end)
-        && digits.number == brought.number
-        && link.has_counted(brought)
+        && digits.number == expected.number
+        && link.has_counted(expected)
 }
 
-/// The walk from id 2 over the strays of a case brings this, and is done where this is all of the
-/// integers, else without a response.
-fn assert_walk(rt: &impl Abort, alloc: Global, table: &Table, case: Case<'_>, brought: Brought) {
+/// Asserts that the walk with first id 2 over the strays of a case does what is expected. It is
+/// done if it returns all integers, and otherwise ends without a response.
+fn assert_walk(rt: &impl Abort, alloc: Global, table: &Table, case: Case<'_>, expected: Expected) {
     let core = walk_of(rt, ROOT, Mode::Plain, Method::Next, 2);
-    let end = if brought.number == 123 {
+    let end = if expected.number == 123 {
         WalkEnd::Done(3)
     } else {
         WalkEnd::NoResponse
     };
-    assert!(rt; walk_brings(alloc, table, core, case, brought, &end));
+    assert!(rt; walk_does_as_expected(alloc, table, core, case, expected, &end));
 }
 
-/// Whether the Get with id 2 over the strays of a case brings this, and ends in this way.
-fn get_brings(
+/// Returns whether the Get with id 2 over the strays of a case does what is expected, and ends with
+/// `end`.
+fn get_does_as_expected(
     alloc: Global,
     table: &Table,
     names: &[Oid],
     case: Case<'_>,
-    brought: Brought,
+    expected: Expected,
     end: &WalkEnd,
 ) -> bool {
     let link = Counted::new(MemoryLink::new(alloc, table, public(1472), &[]));
     let mut link = Crowded::new(link, case);
     let mut digits = Digits::new();
     get_ends(&mut link, names, 2, case.retries, &mut digits, end)
-        && digits.number == brought.number
-        && link.has_counted(brought)
+        && digits.number == expected.number
+        && link.has_counted(expected)
 }
 
-/// The Get with id 2 over the strays of a case brings this, and is done where this is the integer,
-/// else without a response.
+/// Asserts that the Get with id 2 over the strays of a case does what is expected. It is done if it
+/// returns the integer, and otherwise ends without a response.
 fn assert_get(
     rt: &impl Abort,
     alloc: Global,
     table: &Table,
     names: &[Oid],
     case: Case<'_>,
-    brought: Brought,
+    expected: Expected,
 ) {
-    let end = if brought.number == 1 {
+    let end = if expected.number == 1 {
         WalkEnd::Done(1)
     } else {
         WalkEnd::NoResponse
     };
-    assert!(rt; get_brings(alloc, table, names, case, brought, &end));
+    assert!(rt; get_does_as_expected(alloc, table, names, case, expected, &end));
 }
 
-/// 63 of these datagrams before a reply change nothing, and 64 end the try, in a walk.
+/// Asserts that in a walk 63 of these datagrams before a reply change nothing, and 64 end the try.
 fn assert_stray_to_walks(rt: &impl Abort, alloc: Global, table: &Table, stray: &[u8]) {
-    // The strays, the retries, the integers, and how many sends, requests and receives there are.
+    // The strays, the retries, the integers, and the numbers of sends, requests and receives.
     const CASES: &[(&[usize], u32, u64, usize, usize, usize)] = &[
         (&[1], 0, 123, 4, 4, 5),
         (&[63, 63, 63, 63], 0, 123, 4, 4, 256),
@@ -185,7 +188,7 @@ fn assert_stray_to_walks(rt: &impl Abort, alloc: Global, table: &Table, stray: &
         (&[0, 64], 0, 1, 2, 2, 65),
     ];
     for &(before, retries, number, sends, requests, receives) in CASES {
-        let brought = Brought {
+        let expected = Expected {
             number,
             sends,
             requests,
@@ -196,11 +199,11 @@ fn assert_stray_to_walks(rt: &impl Abort, alloc: Global, table: &Table, stray: &
             before,
             retries,
         };
-        assert_walk(rt, alloc, table, case, brought);
+        assert_walk(rt, alloc, table, case, expected);
     }
 }
 
-/// 63 of these datagrams before the reply change nothing, and 64 end the try, in a Get.
+/// Asserts that in a Get 63 of these datagrams before the reply change nothing, and 64 end the try.
 fn assert_stray_to_gets(
     rt: &impl Abort,
     alloc: Global,
@@ -208,7 +211,7 @@ fn assert_stray_to_gets(
     names: &[Oid],
     stray: &[u8],
 ) {
-    // The strays, the retries, the integer, and how many sends and receives there are.
+    // The strays, the retries, the integer, and the numbers of sends and receives.
     const CASES: &[(&[usize], u32, u64, usize, usize)] = &[
         (&[1], 0, 1, 1, 2),
         (&[63], 0, 1, 1, 64),
@@ -218,7 +221,7 @@ fn assert_stray_to_gets(
         (&[64, 64], 1, 0, 2, 128),
     ];
     for &(before, retries, number, sends, receives) in CASES {
-        let brought = Brought {
+        let expected = Expected {
             number,
             sends,
             requests: 1,
@@ -229,11 +232,11 @@ fn assert_stray_to_gets(
             before,
             retries,
         };
-        assert_get(rt, alloc, table, names, case, brought);
+        assert_get(rt, alloc, table, names, case, expected);
     }
 }
 
-/// The datagram is a stray to walks and to Gets.
+/// Asserts that the datagram is a stray to walks and to Gets.
 fn assert_stray(rt: &impl Abort, alloc: Global, stray: &[u8]) {
     let table = table_of(rt, alloc, THREE);
     let names = names_of(rt, alloc, &[b"1.3.6.1.4.1.32473.1.1.0"]);
@@ -253,8 +256,8 @@ fn octets_that_are_no_message_are_strays(rt: HostRuntime) {
 
 #[test]
 fn a_reply_with_one_wrong_part_is_a_stray(rt: HostRuntime) {
-    // The place of the part, and an octet that makes it: no message, another version, another
-    // community, another kind, another id.
+    // The offset of the part, and an octet there that makes the datagram malformed, or makes
+    // another version, another community, another kind or another id.
     const PARTS: &[(usize, u8)] = &[
         (1, 0x80),
         (1, 0x29),
@@ -274,11 +277,11 @@ fn a_reply_with_one_wrong_part_is_a_stray(rt: HostRuntime) {
         (17, 0x09),
         (17, 0x82),
     ];
-    for &(place, octet) in PARTS {
+    for &(offset, octet) in PARTS {
         let mut stray = ROW;
         stray[17] = 2;
-        if place < 44 {
-            stray[place] = octet;
+        if offset < 44 {
+            stray[offset] = octet;
         }
         assert_stray(&rt, rt.alloc(), &stray);
     }

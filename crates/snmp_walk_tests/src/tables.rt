@@ -10,8 +10,8 @@ use snmp_wire::ValueRef;
 use std::alloc::Global;
 use std::process::Abort;
 
-/// A link: its tables, which of them replies to each datagram, and what its receives bring; and the
-/// retries.
+/// A link: its tables, the index of the table that replies to each datagram, and its deliveries.
+/// Also the retries.
 #[derive(Clone, Copy)]
 struct Case<'a> {
     tables: &'a [Table],
@@ -20,20 +20,26 @@ struct Case<'a> {
     retries: u32,
 }
 
-/// Whether each is the place of a table.
-fn are_places(uses: &[usize], tables: &[Table]) -> bool
-    ensures { result ≡ true → All (λ place. place < length tables.now) uses.now }
+/// Returns whether each of `uses` is the index of a table.
+fn are_indices(uses: &[usize], tables: &[Table]) -> bool
+    ensures { result ≡ true → All (λ index. index < length tables.now) uses.now }
 {
     let count = tables.len();
-    uses.iter().all(|place| *place < count)
+    uses.iter().all(|index| *index < count)
 }
 
-/// Whether the walk over the link of a case gives these bindings, is done, and sends this many
-/// datagrams.
-fn brings(alloc: Global, core: WalkCore, case: Case<'_>, wanted: &[Row], sends: usize) -> bool
+/// Returns whether the walk over the link of a case returns these bindings, is done, and sends
+/// `sends` datagrams.
+fn returns_wanted(
+    alloc: Global,
+    core: WalkCore,
+    case: Case<'_>,
+    wanted: &[Row],
+    sends: usize,
+) -> bool
     requires { IsFresh core }
 {
-    if case.tables.is_empty() || !are_places(case.uses, case.tables) {
+    if case.tables.is_empty() || !are_indices(case.uses, case.tables) {
         return false;
     }
     let (tables, agent) = (case.tables, public(1472));
@@ -47,11 +53,11 @@ fn brings(alloc: Global, core: WalkCore, case: Case<'_>, wanted: &[Row], sends: 
         && link.sends == sends
 }
 
-/// The walk from 1.3.6.1.4.1.32473.8 over the link of a case gives these bindings, is done, and
-/// sends this many datagrams.
+/// Asserts that the walk from 1.3.6.1.4.1.32473.8 over the link of a case returns these bindings,
+/// is done, and sends `sends` datagrams.
 fn assert_changing(rt: &impl Abort, alloc: Global, case: Case<'_>, wanted: &[Row], sends: usize) {
     let core = walk_of(rt, b"1.3.6.1.4.1.32473.8", Mode::Plain, Method::Next, 1);
-    assert!(rt; brings(alloc, core, case, wanted, sends));
+    assert!(rt; returns_wanted(alloc, core, case, wanted, sends));
 }
 
 /// The rows 1, 2 and 4.
@@ -72,7 +78,7 @@ const NAMES: [&[u8]; 4] = [
     b"1.3.6.1.4.1.32473.8.4",
 ];
 
-/// Over the rows of A and then of B, the rows 1 to 4 are given.
+/// Asserts that a walk over the rows of A and then those of B returns the rows 1 to 4.
 fn assert_both(rt: &impl Abort, alloc: Global, tables: &[Table]) {
     let case = Case {
         tables,
@@ -90,13 +96,13 @@ fn assert_both(rt: &impl Abort, alloc: Global, tables: &[Table]) {
 }
 
 #[test]
-fn rows_of_both_tables_are_given_in_order(rt: HostRuntime) {
+fn rows_of_both_tables_are_returned_in_order(rt: HostRuntime) {
     let tables = [table_of(&rt, rt.alloc(), A), table_of(&rt, rt.alloc(), B)];
     assert_both(&rt, rt.alloc(), &tables);
 }
 
-/// Over a table of the row 1 and then an empty one, this row is given, and the other way round an
-/// exception.
+/// Asserts that a walk over a table of the row 1 and then an empty one returns this row, and over
+/// the empty one first an exception.
 fn assert_emptied(rt: &impl Abort, alloc: Global, tables: &[Table]) {
     let case = Case {
         tables,
@@ -106,7 +112,7 @@ fn assert_emptied(rt: &impl Abort, alloc: Global, tables: &[Table]) {
     };
     let row = [(NAMES[0], ValueRef::Integer(1))];
     assert_changing(rt, alloc, case, &row, 2);
-    // What a Get of the root gives, an exception, is the one binding.
+    // The only binding is the result of a Get of the root, an exception.
     let swapped = Case {
         uses: &[1, 0],
         ..case
@@ -138,51 +144,51 @@ const ONES: &[u8] =
 const TWOS: &[u8] =
     b"1.3.6.1.4.1.32473.8.1|2|2\n1.3.6.1.4.1.32473.8.2|2|2\n1.3.6.1.4.1.32473.8.3|2|2\n";
 
-/// The walk over the link of a case gives the rows 1, 2 and 3 with these values, and sends this
-/// many datagrams.
-fn assert_places(rt: &impl Abort, alloc: Global, case: Case<'_>, places: [i32; 3], sends: usize) {
+/// Asserts that the walk over the link of a case returns the rows 1, 2 and 3 with these values, and
+/// sends `sends` datagrams.
+fn assert_values(rt: &impl Abort, alloc: Global, case: Case<'_>, values: [i32; 3], sends: usize) {
     let wanted = [
-        (NAMES[0], ValueRef::Integer(places[0])),
-        (NAMES[1], ValueRef::Integer(places[1])),
-        (NAMES[2], ValueRef::Integer(places[2])),
+        (NAMES[0], ValueRef::Integer(values[0])),
+        (NAMES[1], ValueRef::Integer(values[1])),
+        (NAMES[2], ValueRef::Integer(values[2])),
     ];
     assert_changing(rt, alloc, case, &wanted, sends);
 }
 
-/// Over these tables, of which each row has its table's place as its value, each row is from the
-/// table of its datagram.
+/// Asserts that each row is from the table that replies to its datagram. The value of each row is
+/// the index of its table.
 fn assert_uses(rt: &impl Abort, alloc: Global, tables: &[Table]) {
-    // The uses, the deliveries, the place of the table that each of the three rows is from, and how
-    // many datagrams are sent.
+    // The uses, the deliveries, the index of the table of each of the three rows, and how many
+    // datagrams are sent.
     const CASES: &[(&[usize], &[Option<usize>], [i32; 3], usize)] = &[
-        // After the uses the last table replies.
+        // After the uses, the last table replies.
         (&[], &[], [2, 2, 2], 4),
         (&[0], &[], [0, 2, 2], 4),
         (&[1, 0], &[], [1, 0, 2], 4),
         (&[2, 1, 0, 1], &[], [2, 1, 0], 4),
         (&[1, 1, 0, 0, 1, 2], &[], [1, 1, 0], 4),
-        // The first request is sent twice, and the reply is that to its second datagram, or the
-        // late one to its first.
+        // The first request is sent twice. The reply is to its second datagram, or the late one to
+        // its first.
         (&[0, 1, 0], &[None], [1, 0, 2], 5),
         (&[0, 1, 0], &[None, Some(1)], [0, 0, 2], 5),
         // A stray, a loss, and a late reply to the second request.
         (&[1, 0, 1], &[Some(1), Some(1), None, Some(2)], [1, 0, 2], 5),
-        // A datagram that isn't sent yet has no reply.
+        // A datagram that wasn't sent yet has no reply.
         (&[0, 1], &[Some(2)], [1, 2, 2], 5),
     ];
-    for &(uses, deliveries, places, sends) in CASES {
+    for &(uses, deliveries, values, sends) in CASES {
         let case = Case {
             tables,
             uses,
             deliveries,
             retries: 1,
         };
-        assert_places(rt, alloc, case, places, sends);
+        assert_values(rt, alloc, case, values, sends);
     }
 }
 
 #[test]
-fn the_place_of_a_datagram_says_which_table_replies(rt: HostRuntime) {
+fn each_datagram_is_answered_from_its_own_table(rt: HostRuntime) {
     let tables = [
         table_of(&rt, rt.alloc(), ZEROS),
         table_of(&rt, rt.alloc(), ONES),

@@ -1,14 +1,14 @@
 //! Walks whose messages arrive, and walks whose messages are lost, repeated or delayed.
 ghost use Rattle.snmp_walk.specs.Facts.{IsFresh};
 
-use crate::runs::{ROOT, name_of, public, put, resumed, table_of, walk_ends, walk_of};
+use crate::runs::{ROOT, name_of, public, put, resumed_walk, table_of, walk_ends, walk_of};
 use crate::sinks::{Counted, Digits};
 use snmp_agent::Table;
 use snmp_walk::{MemoryLink, Method, Mode, StartError, WalkCore, WalkEnd};
 use std::alloc::Global;
 use std::process::Abort;
 
-/// Six integers, each its place, from 1 on. A binding has 18 octets.
+/// Six rows, whose values are their numbers from 1. The binding of one takes 18 octets.
 const SIX: &[u8] = b"1.3.6.1.4.1.32473.1.1.0|2|1\n\
     1.3.6.1.4.1.32473.1.2.0|2|2\n\
     1.3.6.1.4.1.32473.1.3.0|2|3\n\
@@ -16,17 +16,18 @@ const SIX: &[u8] = b"1.3.6.1.4.1.32473.1.1.0|2|1\n\
     1.3.6.1.4.1.32473.1.5.0|2|5\n\
     1.3.6.1.4.1.32473.1.6.0|2|6";
 
-/// Three integers, in another order than that of their names.
+/// Three rows that aren't in the order of their names.
 const THREE: &[u8] =
     b"1.3.6.1.4.1.32473.1.10.0|2|3\n1.3.6.1.4.1.32473.1.2.0|2|2\n1.3.6.1.4.1.32473.1.1.0|2|1\n";
 
-/// A row at the root, and one that is too large for a message of 134 octets.
+/// A small row below the root, and after it one that is too large for a message of 134 octets.
 const TOO_LARGE: &[u8] = b"1.3.6.1.4.1.32473.1.0|2|1\n\
     1.3.6.1.4.1.32473.1.1|4|aaaaaaaaaaaaaaaaaaaaaaaaaaaaaaaaaaaaaaaaaaaaaaaaaaaaaaaaaaaa\
     aaaaaaaaaaaaaaaaaaaaaaaaaaaaaaaaaaaaaaaaaaaaaaaaaaaaaaaaaaaaaaaaaaaaaaaaaaaaaaaaaaaaaaaaaa\
     aaaaaaaaaaaaaaaaaaaaaaaaaaaaaaaaaaaaaaaaaaaaaaaaaaaaaaaaaa\n";
 
-/// A walk: its table, its root, its method, its agent's greatest size, its retries and deliveries.
+/// A walk: its table, root and method, the greatest message size of its agent, its retries, and the
+/// deliveries of its link.
 #[derive(Clone, Copy)]
 struct Case<'a> {
     table: &'a [u8],
@@ -37,22 +38,22 @@ struct Case<'a> {
     deliveries: &'a [Option<usize>],
 }
 
-/// What a walk brought: the integers as digits, and how many datagrams and requests it sent.
+/// What a walk is expected to do: the integers that it returns, as digits, and how many datagrams
+/// and how many requests it sends.
 #[derive(Clone, Copy)]
-struct Brought {
+struct Expected {
     number: u64,
     sends: usize,
     requests: usize,
 }
 
-/// Whether the walk of a case gives these integers, sends this many datagrams and requests, and
-/// ends in this way.
-fn brings(
+/// Returns whether the walk of a case does what is expected, and ends with `end`.
+fn does_as_expected(
     alloc: Global,
     table: &Table,
     core: WalkCore,
     case: Case<'_>,
-    brought: Brought,
+    expected: Expected,
     end: &WalkEnd,
 ) -> bool
     requires { IsFresh core }
@@ -61,21 +62,20 @@ fn brings(
     let mut link = Counted::new(MemoryLink::new(alloc, table, agent, case.deliveries));
     let mut digits = Digits::new();
     walk_ends(&mut link, core, case.retries, &mut digits, end)
-        && digits.number == brought.number
-        && link.sends == brought.sends
-        && link.requests == brought.requests
+        && digits.number == expected.number
+        && link.sends == expected.sends
+        && link.requests == expected.requests
 }
 
-/// The walk of a case gives these integers, sends this many datagrams and requests, and ends in
-/// this way.
-fn assert_walk(rt: &impl Abort, alloc: Global, case: Case<'_>, brought: Brought, end: &WalkEnd) {
+/// Asserts that the walk of a case does what is expected, and ends with `end`.
+fn assert_walk(rt: &impl Abort, alloc: Global, case: Case<'_>, expected: Expected, end: &WalkEnd) {
     let core = walk_of(rt, case.root, Mode::Plain, case.method, 1);
     let table = table_of(rt, alloc, case.table);
-    assert!(rt; brings(alloc, &table, core, case, brought, end));
+    assert!(rt; does_as_expected(alloc, &table, core, case, expected, end));
 }
 
 #[test]
-fn bulks_of_any_size_give_the_same_rows(rt: HostRuntime) {
+fn bulks_of_any_size_return_the_same_rows(rt: HostRuntime) {
     const CASES: &[(usize, i32, usize)] = &[
         (134, 1, 7),
         (134, 10, 2),
@@ -94,12 +94,12 @@ fn bulks_of_any_size_give_the_same_rows(rt: HostRuntime) {
             retries: 0,
             deliveries: &[],
         };
-        let brought = Brought {
+        let expected = Expected {
             number: 123456,
             sends: requests,
             requests,
         };
-        assert_walk(&rt, rt.alloc(), case, brought, &WalkEnd::Done(6));
+        assert_walk(&rt, rt.alloc(), case, expected, &WalkEnd::Done(6));
     }
 }
 
@@ -113,23 +113,23 @@ fn a_row_too_large_for_a_message_ends_the_walk(rt: HostRuntime) {
         retries: 0,
         deliveries: &[],
     };
-    let brought = Brought {
+    let expected = Expected {
         number: 1,
         sends: 2,
         requests: 2,
     };
-    assert_walk(&rt, rt.alloc(), case, brought, &WalkEnd::Fault(1, 0));
+    assert_walk(&rt, rt.alloc(), case, expected, &WalkEnd::Fault(1, 0));
     let asked = name_of(&rt, b"1.3.6.1.4.1.32473.1.0");
     let bulk = Case {
         method: Method::Bulk(10),
         ..case
     };
     let end = WalkEnd::NoProgress { asked };
-    assert_walk(&rt, rt.alloc(), bulk, brought, &end);
+    assert_walk(&rt, rt.alloc(), bulk, expected, &end);
 }
 
 #[test]
-fn lost_and_repeated_replies_change_nothing(rt: HostRuntime) {
+fn lost_and_repeated_replies_change_no_row(rt: HostRuntime) {
     let case = Case {
         table: THREE,
         root: ROOT,
@@ -138,17 +138,17 @@ fn lost_and_repeated_replies_change_nothing(rt: HostRuntime) {
         retries: 5,
         deliveries: &[Some(1), Some(1), None, Some(2)],
     };
-    let brought = Brought {
+    let expected = Expected {
         number: 123,
         sends: 5,
         requests: 4,
     };
-    assert_walk(&rt, rt.alloc(), case, brought, &WalkEnd::Done(3));
+    assert_walk(&rt, rt.alloc(), case, expected, &WalkEnd::Done(3));
     let silent = Case {
         deliveries: &[Some(1), None, None, None, None, None, None],
         ..case
     };
-    let one_row = Brought {
+    let one_row = Expected {
         number: 1,
         sends: 7,
         requests: 2,
@@ -162,7 +162,7 @@ fn lost_and_repeated_replies_change_nothing(rt: HostRuntime) {
         deliveries: &[None, Some(1), Some(2), None],
         ..case
     };
-    let all = Brought {
+    let all = Expected {
         number: 123456,
         sends: 4,
         requests: 2,
@@ -181,14 +181,14 @@ fn a_try_ends_with_its_64th_receive(rt: HostRuntime) {
         retries: 1,
         deliveries: &strays,
     };
-    let all = Brought {
+    let all = Expected {
         number: 123,
         sends: 5,
         requests: 4,
     };
     assert_walk(&rt, rt.alloc(), case, all, &WalkEnd::Done(3));
     let once = Case { retries: 0, ..case };
-    let one_row = Brought {
+    let one_row = Expected {
         number: 1,
         sends: 2,
         requests: 2,
@@ -198,7 +198,7 @@ fn a_try_ends_with_its_64th_receive(rt: HostRuntime) {
         deliveries: &[None],
         ..once
     };
-    let none = Brought {
+    let none = Expected {
         number: 0,
         sends: 1,
         requests: 1,
@@ -206,7 +206,8 @@ fn a_try_ends_with_its_64th_receive(rt: HostRuntime) {
     assert_walk(&rt, rt.alloc(), nothing, none, &WalkEnd::NoResponse);
 }
 
-/// Whether the walk over a link with memory for it gives all rows, and then its ids run out.
+/// Returns whether a walk over a link that has memory for it returns all rows, and then its ids run
+/// out.
 fn runs_out(alloc: Global, table: &Table, core: WalkCore) -> bool
     requires { IsFresh core }
 {
@@ -219,14 +220,15 @@ fn runs_out(alloc: Global, table: &Table, core: WalkCore) -> bool
 }
 
 #[test]
-fn ids_run_out(rt: HostRuntime) {
+fn a_walk_ends_when_its_ids_run_out(rt: HostRuntime) {
     let core = walk_of(&rt, ROOT, Mode::Plain, Method::Next, 2147483645);
     let table = table_of(&rt, rt.alloc(), THREE);
     assert!(&rt; runs_out(rt.alloc(), &table, core));
 }
 
-/// Whether the walk over this table is done with these integers as digits, in this many rows.
-fn gives(alloc: Global, table: &Table, core: WalkCore, number: u64, rows: u64) -> bool
+/// Returns whether the walk over `table` is done with `rows` rows, whose integers are the digits of
+/// `number`.
+fn is_done_with(alloc: Global, table: &Table, core: WalkCore, number: u64, rows: u64) -> bool
     requires { IsFresh core }
 {
     let mut link = MemoryLink::new(alloc, table, public(1472), &[]);
@@ -234,16 +236,16 @@ fn gives(alloc: Global, table: &Table, core: WalkCore, number: u64, rows: u64) -
     walk_ends(&mut link, core, 0, &mut digits, &WalkEnd::Done(rows)) && digits.number == number
 }
 
-/// The walk below the root that is resumed after this name is done with these integers as digits,
-/// in this many rows.
+/// Asserts that the walk below the root that is resumed after the name `after` is done with `rows`
+/// rows, whose integers are the digits of `number`.
 fn assert_resumed(rt: &impl Abort, alloc: Global, after: &[u8], number: u64, rows: u64) {
-    let core = resumed(rt, &name_of(rt, after), Method::Next);
+    let core = resumed_walk(rt, &name_of(rt, after), Method::Next);
     let table = table_of(rt, alloc, THREE);
-    assert!(rt; gives(alloc, &table, core, number, rows));
+    assert!(rt; is_done_with(alloc, &table, core, number, rows));
 }
 
 #[test]
-fn a_resumed_walk_gives_the_rest(rt: HostRuntime) {
+fn a_resumed_walk_returns_the_rest(rt: HostRuntime) {
     const CASES: &[(&[u8], u64, u64)] = &[
         (b"1.3.6.1.4.1.32473.1", 123, 3),
         (b"1.3.6.1.4.1.32473.1.1.0", 23, 2),
@@ -256,7 +258,7 @@ fn a_resumed_walk_gives_the_rest(rt: HostRuntime) {
     }
 }
 
-/// A walk below this root that is resumed after this name is refused, for this reason.
+/// Asserts that a walk below this root can't be resumed after the name `after`, for this reason.
 fn assert_refused(rt: &impl Abort, root: &[u8], after: &[u8], why: StartError) {
     let after = name_of(rt, after);
     let core = WalkCore::resume(name_of(rt, root), &after, Method::Next, b"public", 1);
@@ -264,7 +266,7 @@ fn assert_refused(rt: &impl Abort, root: &[u8], after: &[u8], why: StartError) {
 }
 
 #[test]
-fn the_first_refusal_of_a_resumed_walk_is_the_roots(rt: HostRuntime) {
+fn a_bad_root_is_reported_before_a_bad_name_to_resume_after(rt: HostRuntime) {
     const CASES: &[(&[u8], &[u8], StartError)] = &[
         (b"3.1", b"3.1.1", StartError::NotWire),
         (b"3.1", b"1.3", StartError::NotWire),
@@ -281,7 +283,7 @@ fn the_first_refusal_of_a_resumed_walk_is_the_roots(rt: HostRuntime) {
     }
 }
 
-/// A table of one row, whose name has 128 numbers.
+/// Returns the text of a table with one row, whose name has 128 numbers.
 fn longest_row(rt: &impl Abort, alloc: Global) -> Vec<u8> {
     let mut text = Vec::new(alloc);
     put(rt, &mut text, b"1.3.6");
@@ -292,7 +294,7 @@ fn longest_row(rt: &impl Abort, alloc: Global) -> Vec<u8> {
     text
 }
 
-/// The row of this table is walked by GetNext and by GetBulk.
+/// Asserts that the row of this table is returned by GetNext and by GetBulk.
 fn assert_longest(rt: &impl Abort, alloc: Global, table: &[u8]) {
     const CASES: &[(Method, usize)] = &[(Method::Next, 2), (Method::Bulk(10), 1)];
     for &(method, requests) in CASES {
@@ -304,17 +306,17 @@ fn assert_longest(rt: &impl Abort, alloc: Global, table: &[u8]) {
             retries: 0,
             deliveries: &[],
         };
-        let brought = Brought {
+        let expected = Expected {
             number: 5,
             sends: requests,
             requests,
         };
-        assert_walk(rt, alloc, case, brought, &WalkEnd::Done(1));
+        assert_walk(rt, alloc, case, expected, &WalkEnd::Done(1));
     }
 }
 
 #[test]
-fn the_longest_name_is_walked(rt: HostRuntime) {
+fn the_row_with_the_longest_name_is_returned(rt: HostRuntime) {
     let text = longest_row(&rt, rt.alloc());
     assert_longest(&rt, rt.alloc(), &text);
 }
