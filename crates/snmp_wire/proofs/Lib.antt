@@ -12,6 +12,7 @@ pub mod IdentifierReading
 pub mod IdentifierWriting
 pub mod Digits
 pub mod NameOrder
+pub mod Requests
 pub mod Shortest
 pub mod ValueLaws
 pub mod WritingLemmas

@@ -1,7 +1,8 @@
 -- The statements of the laws of messages and their encodings.
-use Rattle.std.specs.Prelude.{◌≡◌, ◌≤◌, ℕ, List, ◌++◌, length}
+use Rattle.std.specs.Prelude.{◌≡◌, ◌≤◌, ℕ, List, [], ◌∷◌, ◌++◌, length}
 use Rattle.snmp_wire.specs.{Canon.canon, Canon.canon_bindings, Canon.canon_head, Message.Message}
-use Rattle.snmp_wire.specs.{Shortest.IsShortestEncoding, Spelling.Spells, Spelling.Strict}
+use Rattle.snmp_wire.specs.{Name.asking, Shortest.IsShortestEncoding, Spelling.Spells}
+use Rattle.snmp_wire.specs.Spelling.{Strict}
 use Rattle.snmp_wire.specs.Range.{IsMessageInRange, IsMessageOfType}
 
 -- octets encode at most one message, and no encoding is a proper prefix of another
@@ -33,6 +34,14 @@ abbrev pub HasPieces : Type 0
 HasPieces =
     (m : Message)
     → canon m ≡ canon_head m (length (canon_bindings m.bindings)) ++ canon_bindings m.bindings
+
+-- a request for one name has at most 1000 octets, if its community has at most 255, and the name at
+-- most 128 numbers
+abbrev pub RequestsAreShort : Type 0
+RequestsAreShort =
+    (m : Message) (name : List ℕ)
+    → m.bindings ≡ asking name ∷ [] → length m.community ≤ 255 → length name ≤ 128
+    → length (canon m) ≤ 1000
 
 -- a message in range has exactly one shortest encoding: the one that is written
 pub record OneShortestEncoding : Type 0 where

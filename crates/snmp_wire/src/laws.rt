@@ -5,7 +5,8 @@ ghost use Rattle.snmp_wire.specs.{ber.Sizes.ElementSizes, declared.ber.error.Ber
 ghost use Rattle.snmp_wire.specs.Fault.{IsFault};
 ghost use Rattle.snmp_wire.specs.{Message.Message, Sizes.MessageSizes, Spelling.Spells};
 ghost use Rattle.snmp_wire.specs.Laws.{EncodingIsShortest, EncodingIsStrict, HasPieces, OneMessage};
-ghost use Rattle.snmp_wire.specs.Laws.{OneShortestEncoding, SpeltIsOfType, StrictIsRead};
+ghost use Rattle.snmp_wire.specs.Laws.{OneShortestEncoding, RequestsAreShort, SpeltIsOfType};
+ghost use Rattle.snmp_wire.specs.Laws.{StrictIsRead};
 
 /// Octets encode at most one message, and no encoding is a proper prefix of another.
 #[inline]
@@ -78,3 +79,11 @@ pub fn message_sizes()
 {
     element_sizes();
 }
+
+/// A request for one name, whatever its kind, has at most 1,000 octets, if its community has at most
+/// 255 octets. An [`Oid`](crate::Oid) has at most 128 numbers.
+#[inline]
+#[tactic(auto, using(crate::proofs::Requests::short_request))]
+pub fn requests_are_short()
+    ensures { RequestsAreShort }
+{}

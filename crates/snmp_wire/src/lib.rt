@@ -54,6 +54,7 @@ pub use snmp_oid::{Oid, OidError, OidTextError, parse_numeric, read_numeric, wri
 // Laws, for proofs and readers.
 pub use laws::{
     element_sizes, encoding_is_shortest, encoding_is_strict, message_sizes, no_fault,
-    one_shortest_encoding, one_spelling, pieces, spelt_is_of_type, strict_is_read,
+    one_shortest_encoding, one_spelling, pieces, requests_are_short, spelt_is_of_type,
+    strict_is_read,
 };
 pub use name::encoded_names;
