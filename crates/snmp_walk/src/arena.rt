@@ -1,4 +1,4 @@
-//! Datagrams in one piece of memory.
+//! Datagrams in one buffer.
 ghost use Rattle.std.specs.Prelude.{◌≡◌, ◌≤◌, ◌+◌, ◌++◌, [], ◌∷◌, ℕ, length, Option, Some, None};
 ghost use Rattle.std.specs.Prelude.{OnOk, OnErr, IsOk, IfSome, IfNone, OnSome};
 ghost use Rattle.snmp_walk.specs.Traffic.{datagram_at};
@@ -6,14 +6,14 @@ ghost use Rattle.snmp_walk.specs.Traffic.{datagram_at};
 use std::alloc::{AllocError, Global};
 use std::marker::Model;
 
-/// The place of a datagram among the octets.
+/// The range of a datagram in the buffer.
 #[derive(Clone, Copy)]
 struct Span {
     start: usize,
     len: usize,
 }
 
-/// Datagrams, each after the one before, in one piece of memory.
+/// Datagrams, stored one after the other in one buffer.
 #[derive(Drop)]
 pub(crate) struct Arena {
     octets: Vec<u8>,
@@ -39,7 +39,7 @@ impl Arena {
     ghost use Rattle.std.specs.Prelude.{◌≡◌, ◌≤◌, ◌+◌, ◌++◌, ℕ, [], ◌∷◌, length, Option, Some};
     ghost use Rattle.std.specs.Prelude.{None, OnOk, OnErr, IsOk, IfSome, IfNone, IfOk};
 
-    /// An arena without datagrams, for which no memory is reserved.
+    /// Returns an arena without datagrams, which allocates nothing.
     pub(crate) fn new(alloc: Global) -> Arena
         ensures { result.datagrams ≡ [] }
     {
@@ -49,7 +49,8 @@ impl Arena {
         }
     }
 
-    /// Reserves memory for `sends` more datagrams of `octets` octets together.
+    /// Reserves memory for `sends` more datagrams of `octets` octets in total. What was reserved
+    /// before stays reserved, also if memory runs out.
     pub(crate) fn reserve(&mut self, sends: usize, octets: usize) -> Result<(), AllocError>
         ensures datagrams { self.new.datagrams ≡ self.old.datagrams }
         ensures reserved { OnOk result ((sends ≤ self.new.places) × (octets ≤ self.new.room)) }
@@ -59,7 +60,8 @@ impl Arena {
         self.octets.reserve_exact(octets)
     }
 
-    /// Adds a datagram. Takes no memory where enough is reserved.
+    /// Appends a copy of `datagram`. Allocates nothing if enough memory is reserved. Fails, and
+    /// stores nothing, if memory runs out.
     pub(crate) fn push(&mut self, datagram: &[u8]) -> Result<(), AllocError>
         ensures added { OnOk result (self.new.datagrams ≡ self.old.datagrams ++ datagram.now ∷ []) }
         ensures unchanged { OnErr result (self.new.datagrams ≡ self.old.datagrams) }
@@ -81,14 +83,14 @@ impl Arena {
         }
     }
 
-    /// How many datagrams there are.
+    /// Returns the number of datagrams.
     pub(crate) fn len(&self) -> usize
         ensures { result ≡ length self.now.datagrams }
     {
         self.spans.len()
     }
 
-    /// The datagram of this number; datagrams are numbered from 1.
+    /// Returns the datagram with this number, counted from 1, or `None` if there is none.
     pub(crate) fn datagram(&self, number: usize) -> Option<&[u8]>
         ensures some { IfSome result (λ d. datagram_at self.now.datagrams number ≡ Some d.now) }
         ensures none { IfNone result (datagram_at self.now.datagrams number ≡ None) }

@@ -6,33 +6,35 @@ use thiserror::Error;
 /// How a walk or a Get ended.
 #[derive(Debug, Drop, PartialEq)]
 pub enum WalkEnd {
-    /// All was given: this many bindings.
+    /// The walk or the Get is complete. Holds the number of its bindings, all of which were passed
+    /// on.
     Done(u64),
-    /// The agent replied with this error status, which isn't 0, and this error index (RFC 3416,
-    /// section 3).
+    /// The agent's reply has an error status other than 0. Holds its error-status and its
+    /// error-index (RFC 3416, section 3).
     Fault(i32, i32),
-    /// The agent replied to a request for the next instances with no binding.
+    /// The reply to a request for the next instances has no bindings.
     NoProgress {
-        /// The name after which instances were asked for.
+        /// The name in the request. Instances after it were asked for.
         asked: Oid,
     },
-    /// The reply isn't one to what was asked: more bindings than asked for, another name, or an
-    /// exception that has no place there.
+    /// The reply doesn't match the request: it has more bindings than were asked for, another name
+    /// than that of the Get, or an exception that such a reply can't have.
     BadReply,
-    /// A name below the root doesn't come after the one before it.
+    /// A name below the root isn't greater than the one before it.
     NotIncreasing {
-        /// The name before: the last one given, or at first the one asked from.
+        /// The name before: that of the last binding passed on, or the name that the walk began
+        /// from.
         last: Oid,
-        /// The name that should come after it.
+        /// The name that isn't greater.
         got: Oid,
     },
     /// The next request would need an id above 2147483647.
     TooManyRequests,
-    /// The request is longer than a datagram.
+    /// The request of a Get is longer than a datagram can be.
     RequestTooLong,
-    /// No try of a request received a reply to it.
+    /// No reply to a request arrived after any of its sends.
     NoResponse,
-    /// The link failed.
+    /// The link failed to send or to receive.
     Link,
     /// The sink refused a binding.
     Sink(SinkFault),

@@ -18,12 +18,14 @@ use snmp_wire::{
 };
 use std::marker::Model;
 
-/// Gets the instances of these names: one Get of their wire forms is sent, at most `retries + 1`
-/// times, and the bindings of its reply are passed to the sink in order (RFC 3416, section 4.2.1).
+/// Gets the instances of `names`: sends one Get of their wire forms, at most `retries + 1` times,
+/// and passes the bindings of its reply to the sink in order (RFC 3416, section 4.2.1).
 ///
-/// The wire form of each name has an encoding (X.690, 8.19.4); the community has at most 255
-/// octets, and the id is at most 2147483647. If there are no names, nothing is sent.
-/// `RequestTooLong` if the request has more than 65507 octets.
+/// The caller must pass names whose wire forms have an encoding (X.690, 8.19.4), a community of at
+/// most 255 octets and an id of at most 2147483647.
+///
+/// Without names, sends nothing and returns `Done(0)`. Returns `RequestTooLong`, and sends
+/// nothing, if the request has more than 65507 octets.
 ///
 /// The clause `ran` says that the sink was passed some bindings, and perhaps refused one more
 /// (`IsRun`). What is known of these bindings and of the end are the fields of `IsGotOver`
@@ -31,19 +33,20 @@ use std::marker::Model;
 ///
 /// - `named`: the names passed are those asked for, in order, and all of them if the Get is done.
 /// - `reason`: the end has its reason in what the link delivered.
-/// - `unasked`: without names, and if the request is too long, nothing is sent.
-/// - `moved`: the request is sent at most `retries + 1` times. The link failed if the end is `Link`.
+/// - `unasked`: without names, and if the request is too long, the link is unchanged.
+/// - `moved`: the request is sent at most `retries + 1` times. The link failed if and only if the
+///   end is `Link`.
 /// - `happened.replied`: if all that arrived are replies of some agents, as over a network that
-///   alters nothing (`honest_networks`), a beginning of what Gets of the names return is passed, and
-///   all of it if the Get is done.
+///   alters nothing (`honest_networks`), the bindings passed are the first ones of what Gets of
+///   the names return, and all of them if the Get is done.
 /// - `happened.replied_or_failed`: the same if errors may have arrived too, such as genErr.
 ///
-/// Over a link that stores what is sent, `sent` says how often the request was sent, and `later`
-/// that a later run may begin with the id after this one. Over an honest link, one that delivers
-/// only replies of its agents, `judged` says the same as `happened.replied`, and when the Get is
-/// done, if the requests that were sent over it before have lower ids.
-// Not inlined: its buffer is on the stack, and a caller with several such calls would have room for
-// each of them.
+/// Over a link that stores what is sent, `sent` says how many times the request was sent, and
+/// `later` that a later run may begin with the id after this one. Over an honest link, one that
+/// delivers only replies of its agents, `judged` says the same as `happened.replied`, and when the
+/// Get is done. It assumes that the requests sent over the link before have lower ids.
+// `inline(never)`: its buffer takes 66 KB of stack. Inlined, a caller with several such calls
+// would reserve that for each.
 #[inline(never)]
 pub fn run_get<L: Link, S: Sink>(
     link: &mut L,
@@ -73,7 +76,7 @@ pub fn run_get<L: Link, S: Sink>(
         community,
         id,
     };
-    // Nearly all requests are short, and room for the longest takes long to clear.
+    // Nearly all requests are short, and zeroing a buffer for the longest takes long.
     if size <= 2048 {
         ask::<2048, L, S>(link, &mut get, retries, size, &mut buffer, sink)
     } else {
@@ -81,9 +84,9 @@ pub fn run_get<L: Link, S: Sink>(
     }
 }
 
-/// Runs a Get whose request, of at most `N` octets, is the first `size` octets of the buffer. Its
-/// replies come into the same buffer.
-// Not inlined: room for the longest requests is on the stack only where one is sent.
+/// Runs a Get whose request is the first `size` octets of `buffer`, at most `N`. Its replies are
+/// received into the same buffer.
+// `inline(never)`: inlined, every Get would reserve the stack for the longest request.
 #[inline(never)]
 fn ask<const N: usize, L: Link, S: Sink>(
     link: &mut L,
@@ -115,7 +118,7 @@ fn ask<const N: usize, L: Link, S: Sink>(
     }
 }
 
-/// A Get of these names that waits for its reply.
+/// A Get that waits for its reply.
 #[derive(Drop)]
 struct Get<'n> {
     names: &'n [Oid],
@@ -163,7 +166,8 @@ impl<'n> Waiter for Get<'n> {
     }
 }
 
-/// The bindings of this reply to a Get of these names, or how the Get ends without them.
+/// Returns the bindings of `message`, the reply to a Get of `names`. Fails with the end of the Get
+/// if the reply has an error status or isn't for these names.
 fn read_message<'a>(names: &[Oid], message: &MessageRef<'a>) -> Result<Rows<'a>, WalkEnd>
     requires { All (λ o. IsWire (wire o)) names.now }
     ensures { result ≡ answers_of names.now message.now }
@@ -178,8 +182,8 @@ fn read_message<'a>(names: &[Oid], message: &MessageRef<'a>) -> Result<Rows<'a>,
     Ok(Rows::front(message.bindings(), names.len()))
 }
 
-/// Writes the request for these names to the front of `out`, and returns its length, or None where
-/// that is more than 65507 octets.
+/// Writes the Get of `names` to the start of `out` and returns its length. Returns `None` if it
+/// has more than 65507 octets.
 fn write_request(
     names: &[Oid],
     community: &[u8],
@@ -208,8 +212,8 @@ fn write_request(
     seal(&parts, 0, total, &mut out[..])
 }
 
-/// Writes a binding after the `total` octets of those before it, and returns how many octets all of
-/// them take, or None where they don't fit.
+/// Writes `binding` to `out` after its first `total` octets and returns the new total. Returns
+/// `None` if it doesn't fit.
 fn append(binding: &Binding<'_>, total: usize, out: &mut [u8]) -> Option<usize>
     requires encodable { IsEncodable (var_bind binding.now) }
     requires total { total ≤ length out.old }
@@ -226,8 +230,8 @@ fn append(binding: &Binding<'_>, total: usize, out: &mut [u8]) -> Option<usize>
     }
 }
 
-/// Writes the bindings that ask for these names to the front of `out`, and returns how many octets
-/// they take. None where that is more than 65507.
+/// Writes the bindings of a request for `names` to the start of `out` and returns their length.
+/// Returns `None` if they have more than 65507 octets.
 fn write_names(names: &[Oid], out: &mut [u8; MAX_DATAGRAM]) -> Option<usize>
     requires { All (λ o. IsWire (wire o)) names.now }
     ensures some { IfSome result (λ n. (n ≤ 65507)
@@ -247,7 +251,7 @@ fn write_names(names: &[Oid], out: &mut [u8; MAX_DATAGRAM]) -> Option<usize>
     Some(total)
 }
 
-/// The binding that asks for a name.
+/// Returns the binding of a request for `name`: its wire form, with NULL.
 fn asked<'a>(name: &Oid) -> Binding<'a>
     requires { IsWire (wire name.now) }
     ensures value { var_bind result ≡ record { name = wire name.now; value = null_value } }
@@ -265,14 +269,17 @@ fn asked<'a>(name: &Oid) -> Binding<'a>
     }
 }
 
-/// A law: an `Oid` has at most 128 numbers, each below 2^32.
+/// An `Oid` has at most 128 numbers, each below 2^32.
+///
+/// A law: the call does nothing, and its caller may use what it ensures.
 fn is_identifier(oid: &Oid)
     ensures { IsIdentifier oid.now }
 {
     oid.as_slice();
 }
 
-/// Whether the bindings have just these names, in order, and none has endOfMibView.
+/// Returns whether `bindings` have exactly the wire forms of `names`, in order, and none has
+/// endOfMibView.
 fn are_for(names: &[Oid], mut bindings: Bindings<'_>) -> bool
     requires { All (λ o. IsWire (wire o)) names.now }
     ensures { result ≡ are_these names.now bindings.entry }
@@ -286,7 +293,7 @@ fn are_for(names: &[Oid], mut bindings: Bindings<'_>) -> bool
     !bindings.read_next(&mut binding)
 }
 
-/// Whether the binding has this name, and not endOfMibView.
+/// Returns whether `binding` has the wire form of `name`, and not endOfMibView.
 fn is_for(name: &Oid, binding: &Binding<'_>) -> bool
     requires { IsWire (wire name.now) }
     ensures { result ≡ (pointwise nat_eq (var_bind binding.now).name (wire name.now) && not (is_end

@@ -1,4 +1,4 @@
-//! Laws of walks, as calls that do nothing. A proof of a crate above calls them.
+//! Laws of walks: calls that do nothing. Proofs of the crates above call them.
 ghost use Rattle.std.specs.Prelude.{◌≡◌, ◌≤◌, ◌++◌, ◌∷◌, [], ◌↔◌, ◌⊎◌, ℕ, List, length};
 ghost use Rattle.snmp_wire.specs.{Canon.canon, Spelling.Spells};
 ghost use Rattle.snmp_oid.specs.Identifier.{IsWire, IsBelow, Precedes, wire};
@@ -26,8 +26,10 @@ use snmp_wire::{
     strict_is_read,
 };
 
-/// The instances that a walk gives below its root are those of the table, in the order of their
-/// names, and those that are left after a name are the ones that come after it.
+/// The rows that a walk returns below its root are those of the table, in the order of their
+/// names. Those that are left after a name are the ones that come after it.
+///
+/// A law: the call does nothing, and its caller may use what it ensures.
 pub fn instances_below()
     ensures below { (view : MibView) (root : List ℕ) (p : VarBind) → IsMibView view
         → OneOf (rows_below root (variables view)) p ↔ (IsRow view p × IsBelow p.name root) }
@@ -45,14 +47,16 @@ pub fn instances_below()
     order();
 }
 
-/// A walk is its beginning up to any of its names, and then the rest from there. `got` is what a
-/// Get of the root gives.
+/// After each of its rows, a walk continues with the rest of the walk from that row's name. `got`
+/// is the result of a Get of the root.
+///
+/// A law: the call does nothing, and its caller may use what it ensures.
 pub fn rest_of_a_walk()
     ensures rest { (view : MibView) (mode : Mode) (root : List ℕ) (got p : VarBind)
         (front more : List VarBind) → IsMibView view → IsGet view (wire root) got
         → walk_of mode root got (variables view) ≡ front ++ p ∷ more
         → more ≡ rest_of root p.name (variables view) }
-    // This holds too of a walk that is resumed.
+    // This also holds of a walk that is resumed.
     ensures rest_again { (view : MibView) (root o : List ℕ) (p : VarBind)
         (front more : List VarBind) → IsMibView view
         → rest_of root o (variables view) ≡ front ++ p ∷ more
@@ -63,8 +67,10 @@ pub fn rest_of_a_walk()
         → OneOf (walk_of mode root got (variables view)) p → IsResumable root p.name }
 {}
 
-/// Agents with a community of at most 30 octets, whose messages may have 1472, have room for each
-/// row of a table without strings of more than 700 octets.
+/// If a table has no string of more than 700 octets, each of its rows fits into a message of
+/// agents whose messages may have 1472 octets and whose community has at most 30.
+///
+/// A law: the call does nothing, and its caller may use what it ensures.
 pub fn short_rows_have_room()
     ensures { (agents : Agents) (view : MibView) (first : Walker)
         → first.community ≡ agents.community → length agents.community ≤ 30
@@ -72,7 +78,9 @@ pub fn short_rows_have_room()
         → ((p : VarBind) → IsRow view p → IsShort p.value) → HasRoomForEach agents view first }
 {}
 
-/// A request of a walk has at most 1,000 octets, and it is read as that request.
+/// The encoding of a walk's request has at most 1,000 octets, and is decoded as that request.
+///
+/// A law: the call does nothing, and its caller may use what it ensures.
 pub fn requests_are_short()
     ensures short { (w : Walker) → IsWalker w → length (canon (request_of w)) ≤ 1000 }
     ensures read { (w : Walker) → IsWalker w → Spells (request_of w) (canon (request_of w)) }
@@ -80,8 +88,10 @@ pub fn requests_are_short()
     codec();
 }
 
-/// Of lists of bindings: which are in one that is joined of two, that each part of one in order is
-/// in order, and that the names of its first part come before those of the second.
+/// A binding is in `xs ++ ys` if and only if it is in `xs` or in `ys`. If `xs ++ ys` is in order,
+/// so are `xs` and `ys`, and the names of `xs` come before those of `ys`.
+///
+/// A law: the call does nothing, and its caller may use what it ensures.
 pub fn parts_of_lists()
     ensures first { (xs ys : List VarBind) (p : VarBind) → OneOf xs p → OneOf (xs ++ ys) p }
     ensures second { (xs ys : List VarBind) (p : VarBind) → OneOf ys p → OneOf (xs ++ ys) p }
@@ -95,18 +105,24 @@ pub fn parts_of_lists()
 
 /// A sink that appends each binding to a list holds those of a walk that it didn't refuse, after the
 /// ones that it held before.
+///
+/// A law: the call does nothing, and its caller may use what it ensures.
 pub fn appended_bindings()
     ensures { (old rows refused new : List VarBind) (end : WalkEnd)
         → Took Appends old rows refused end new → new ≡ old ++ rows }
 {}
 
-/// Requests with ids below one have ids below each that is higher.
+/// Requests with ids below `id` have ids below each `higher` one.
+///
+/// A law: the call does nothing, and its caller may use what it ensures.
 pub fn lower_ids()
     ensures { (sent : List (List ℕ)) (id higher : ℕ) → id ≤ higher → AreOfLowerIds sent id
         → AreOfLowerIds sent higher }
 {}
 
-/// By the rules of `specs/Judged.antt`, each message means just one thing to a walk.
+/// By the rules of `specs/Judged.antt`, each message means exactly one thing to a walk.
+///
+/// A law: the call does nothing, and its caller may use what it ensures.
 pub fn messages_mean()
     ensures found { (w : Walker) (m : Message) → (given : Step) × (new : Walker)
         × Means w m given new }
@@ -116,27 +132,31 @@ pub fn messages_mean()
     order();
 }
 
-/// Over a network that makes nothing up and alters nothing, each message that comes to a walk is
-/// the reply of one of the agents that were served at the other end, to a datagram that the walk
-/// had tried to send before.
+/// If a network neither invents nor alters datagrams, each message that arrives at a walk is a
+/// reply of one of the agents served at the other end, or another Response that this agent may
+/// send, to a datagram that the walk had sent, or tried to send, before.
 ///
-/// The network may lose, repeat and delay datagrams and bring them in another order, as UDP may
-/// (RFC 768); other clients may ask the agents; an agent may be started again, and its table may
-/// change. What a walk or a Get gives then, the contracts of `run_walk` and `run_get` say.
+/// The network may lose, repeat, delay and reorder datagrams, as UDP may (RFC 768); other clients
+/// may ask the agents; an agent may be started again, and its table may change. The contracts of
+/// `run_walk` and `run_get` say what a walk and a Get return then.
+///
+/// A law: the call does nothing, and its caller may use what it ensures.
 pub fn honest_networks<E: Endpoint>()
     ensures replies { (agents : Agents) (walker : E.Peer) (run : List (Happening E.Peer))
         → IsFaithful walker run → AreServed agents run → AreReplies agents (of_walk run) }
 {}
 
-/// Over a link to an agent that replies loosely, each message received is the agent's reply to a
-/// datagram that was sent before, or another Response that RFC 3416 lets it send to that, or has an
-/// error status. Nothing was sent over the link before.
+/// Over a [`LooseLink`] over which nothing was sent yet, each message received is the agent's
+/// reply to a datagram that was sent before it, or another Response that RFC 3416 lets the agent
+/// send to that, or has an error status.
+///
+/// A law: the call does nothing, and its caller may use what it ensures.
 pub fn loose_replies()
     ensures errors { (link after : LooseLink) (events : List (Event (Unit {0})))
         → IsMibView (agent_at link).view → last_sent link ≡ []
         → InTurn (Happens ⟦<LooseLink<'static> as Link>⟧) link events after
         → AreRepliesOrErrors (agents_at link) events }
-    // If no way is genErr, no other error is received than those of replies.
+    // If no way is `GenErr`, the only errors received are those of such replies.
     ensures replies { (link after : LooseLink) (events : List (Event (Unit {0})))
         → IsMibView (agent_at link).view → last_sent link ≡ []
         → (OneOf (ways_left link) Way.GenErr → ⊥)
@@ -147,7 +167,9 @@ pub fn loose_replies()
     spelt_is_of_type();
 }
 
-/// What the crates below state of names, of messages and their encodings, of tables and replies.
+/// The laws of the crates below about names, messages and their encodings, tables and replies.
+///
+/// A law: the call does nothing, and its caller may use what it ensures.
 #[inline]
 pub(crate) fn codec()
     ensures { Codec }

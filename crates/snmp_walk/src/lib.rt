@@ -1,12 +1,13 @@
-//! The walk: from the root of a subtree to all its instances, by one request after the other (RFC
-//! 3416, section 4.2).
+//! The walk, which finds all instances below a root by one request after the other (RFC 3416,
+//! section 4.2), and the Get of several names.
 //!
-//! Built on the messages. The core says which request to send and reads what comes back; a run
-//! sends and receives over a link, and gives each binding to a sink.
+//! [`WalkCore`] says which request to send and reads the reply. [`run_walk`] and [`run_get`] send
+//! requests and receive replies over a [`Link`], and pass each binding to a [`Sink`].
 //!
 //! # Examples
 //!
-//! A subtree is walked by GetBulk, over an agent in memory, into `Count`, a sink of the caller's:
+//! A subtree of the table of an agent in memory, walked by GetBulk. `Count` is a sink of the
+//! caller's that counts rows.
 //!
 //! ```
 //! let table = Table::read(alloc, b"1.3.6.1.2.1.1.3.0|67|42\n1.3.6.1.2.1.1.5.0|4|wes\n")?;
@@ -51,7 +52,7 @@ pub use run::run_walk;
 pub use sink::Sink;
 pub use walker::WalkCore;
 
-// Laws, which only proofs call, and walks over networks and agents that only tests run.
+// Laws, which only proofs call, and walks over networks and agents, which only tests run.
 pub use laws::{
     appended_bindings, honest_networks, instances_below, loose_replies, lower_ids, messages_mean,
     parts_of_lists, requests_are_short, rest_of_a_walk, short_rows_have_room,

@@ -7,56 +7,58 @@ use crate::LinkFault;
 
 /// A way to send datagrams to an agent and to receive its replies.
 ///
-/// A walk's promises rest on the facts below. All of them hold of a link in memory; of another
-/// perhaps `keeps` alone; and of a socket neither `keeps` nor `honest`.
+/// The promises of a walk rest on the facts below. A link in memory can have all of them. Another
+/// link may have `keeps` only, and a socket has neither `keeps` nor `honest`.
 pub trait Link {
     ghost use Rattle.std.specs.Prelude.{Option, take};
     ghost use Rattle.snmp_walk.specs.Link.{Agents, AreLawful};
     ghost use Rattle.snmp_walk.specs.Moves.{Moves};
     ghost use Rattle.snmp_walk.specs.Traffic.{Traffic, Receives, received};
 
-    /// Whether this link keeps the list of the datagrams sent.
+    /// `keeps link`: the traffic of `link` lists every datagram sent over it.
     ghost keeps: { Self → Type 0 };
 
-    /// Whether what it delivers are replies of its agents, as `traffic` says.
+    /// `honest link`: all that `link` delivers are replies of its agents, as its traffic says.
     ghost honest: { Self → Type 0 };
 
     /// The agents that may reply.
     ghost agents: { Self → Agents };
 
-    /// The datagrams sent, and the deliveries ahead.
+    /// The datagrams sent, and what the next receives deliver.
     ghost traffic: { Self → Traffic };
 
-    /// How many sends and receives failed.
+    /// The number of sends and receives that failed.
     ghost fault_count: { Self → ℕ };
 
-    /// Whether this many sends, of this many octets together, and any receives into 65507 octets
-    /// succeed.
+    /// `ready link sends octets`: the next `sends` sends, of at most `octets` octets in total,
+    /// succeed, and so does every receive into a buffer of at least 65507 octets.
     ghost ready: { Self → ℕ → ℕ → Type 0 };
 
-    /// Whether a receive in the first state may bring these octets, and leave the link in the last
-    /// state.
+    /// `brings old octets new`: a receive in state `old` can return `octets` and leave the link in
+    /// state `new`.
     ghost brings: { Self → List ℕ → Self → Type 0 };
 
-    /// Whether a send of these octets in the first state may succeed, and leave the link in the
-    /// last state.
+    /// `sends old octets new`: a send of `octets` in state `old` can succeed and leave the link in
+    /// state `new`.
     ghost sends: { Self → List ℕ → Self → Type 0 } = { λ _ _ _. Unit {0} };
 
-    /// Whether a send of these octets in the first state may fail, and leave the link in the last
-    /// state.
+    /// `send_fails old octets new`: a send of `octets` in state `old` can fail and leave the link
+    /// in state `new`.
     ghost send_fails: { Self → List ℕ → Self → Type 0 } = { λ _ _ _. Unit {0} };
 
-    /// Whether a receive in the first state may bring nothing, and leave the link in the last
-    /// state.
+    /// `is_silent old new`: a receive in state `old` can return `None` and leave the link in state
+    /// `new`.
     ghost is_silent: { Self → Self → Type 0 } = { λ _ _. Unit {0} };
 
-    /// Whether a receive in the first state may fail, and leave the link in the last state.
+    /// `receive_fails old new`: a receive in state `old` can fail and leave the link in state
+    /// `new`.
     ghost receive_fails: { Self → Self → Type 0 } = { λ _ _. Unit {0} };
 
-    /// Whether a receive into fewer than 65507 octets is a fault.
+    /// `refuses_short link`: a receive into a buffer of fewer than 65507 octets fails.
     ghost refuses_short: { Self → Type 0 } = { λ _. ⊥ };
 
-    /// Sends a datagram. A fault is counted, and changes neither agents nor traffic.
+    /// Sends a datagram. An error raises the fault count and leaves agents and traffic as they
+    /// were.
     fn send(&mut self, datagram: &[u8]) -> Result<(), LinkFault>
         ensures sends { OnOk result (sends self.old datagram.now self.new) }
         ensures send_fails { OnErr result (send_fails self.old datagram.now self.new) }
@@ -64,8 +66,9 @@ pub trait Link {
         ensures moves { Moves keeps honest agents traffic fault_count ready self.old
             (datagram.now ∷ []) 0 (IsErr result) self.new };
 
-    /// Receives a datagram into the front of the buffer and returns its length, or None where none
-    /// comes in time. A fault is counted, and changes neither agents nor traffic.
+    /// Receives a datagram into the start of `buffer` and returns its length. Returns `None` if
+    /// none arrives in time. An error raises the fault count and leaves agents and traffic as they
+    /// were.
     fn receive(&mut self, buffer: &mut [u8]) -> Result<Option<usize>, LinkFault>
         ensures length { IfOk result (λ got. IfSome got (λ n. n ≤ length buffer.old)) }
         ensures brings { IfOk result (λ got. IfSome got
@@ -81,13 +84,13 @@ pub trait Link {
             (λ link sends octets. (65507 ≤ length buffer.old) × ready link sends octets) self.old []
             1 (IsErr result) self.new };
 
-    /// How many sends and receives failed, up to 18446744073709551615.
+    /// Returns the number of sends and receives that failed, up to 18446744073709551615.
     fn faults(&self) -> u64
         ensures { result ≡ fault_count self.now };
 
-    /// An honest link keeps the list of the datagrams sent.
+    /// The traffic of an honest link lists every datagram sent over it.
     ghost keeping: { (link : Self) → honest link → keeps link };
 
-    /// The agents of an honest link serve tables, and their messages fit datagrams.
+    /// The agents of an honest link serve MIB views, and their messages fit into datagrams.
     ghost lawful: { (link : Self) → honest link → AreLawful (agents link) };
 }

@@ -1,4 +1,5 @@
-//! A walk over an agent in memory that replies in other ways than `snmp_agent`, as RFC 3416 allows.
+//! A walk over an agent in memory that replies in other ways than `snmp_agent`, as RFC 3416
+//! allows.
 //!
 //! A walk must be right over each agent that keeps to the standard: one that fails, one that stops
 //! a GetBulk early, and one that encodes its replies in another form.
@@ -24,23 +25,24 @@ use snmp_wire::{Binding, Kind, MAX_DATAGRAM, MessageRef, Parts, decode, encode, 
 /// The error status genErr (RFC 3416, section 3).
 const GENERAL_ERROR: i32 = 5;
 
-/// The most octets of a datagram that a [`LooseLink`] sends. A request of a walk has at most 1,000.
+/// The greatest length in octets of a datagram that a [`LooseLink`] sends. A request of a walk has
+/// at most 1,000.
 const MAX_REQUEST: usize = 1024;
 
-/// How an agent replies to a request for one name, as a walk sends it. Its reply to other requests is
-/// that of [`answer`], in each way.
+/// How an agent replies to a request for one name, as a walk sends it. To other requests it
+/// replies as [`answer`] does, in each way.
 #[derive(Clone, Copy, Debug)]
 pub enum Way {
-    /// The reply of [`answer`].
+    /// The agent sends the reply of [`answer`].
     Whole,
-    /// The error genErr, as if the variable couldn't be read (RFC 3416, sections 4.2.1 to 4.2.3), if
-    /// it fits.
+    /// The agent sends the error genErr, as if it couldn't read the variable (RFC 3416, sections
+    /// 4.2.1 to 4.2.3), if that fits.
     GenErr,
-    /// To a GetBulk the reply to this number of repetitions, or to one if the number is 0, if it asks
-    /// for more (RFC 3416, section 4.2.3).
+    /// To a GetBulk for more than n repetitions, the agent sends its reply to n of them (RFC 3416,
+    /// section 4.2.3). Holds n; 0 means 1.
     Fewer(u16),
-    /// The reply in another encoding, if four octets more have room: the length of the message has
-    /// five octets (X.690, 8.1.3.5).
+    /// The agent sends its reply with the length of the message in five octets (X.690, 8.1.3.5),
+    /// if there is room for four octets more.
     LongLength,
 }
 
@@ -49,8 +51,8 @@ impl Way {
     ghost use Rattle.snmp_agent.specs.{Reply.IsDropped, Reply.agent_of, declared.config.Why.Why};
     ghost use Rattle.snmp_walk.specs.Loose.{IsSentIn};
 
-    /// Writes what the agent of the table sends to a datagram to the start of `out`, and returns its
-    /// length. Returns None if the agent drops the datagram.
+    /// Writes what the agent of `table` sends in reply to `datagram` to the start of `out`, and
+    /// returns its length. Returns `None` if the agent drops the datagram.
     fn answer(
         self,
         table: &Table,
@@ -79,9 +81,9 @@ impl Way {
         }
     }
 
-    /// Writes what is sent in place of the reply to a request, which is the first `size` octets of
-    /// `out`, to the start of `out`, and returns its length. Returns None, and leaves `out` unchanged,
-    /// if nothing replaces the reply.
+    /// Writes what is sent in place of the agent's reply to `request` to the start of `out`, and
+    /// returns its length. The reply is in the first `size` octets of `out`. Returns `None`, and
+    /// leaves `out` unchanged, if nothing replaces the reply.
     fn replace(
         self,
         table: &Table,
@@ -111,7 +113,8 @@ impl Way {
     }
 }
 
-/// Returns the one binding of a request for one name, as a walk sends it.
+/// Returns the binding of a request for one name, as a walk sends it, or `None` if `request` isn't
+/// such a request.
 fn only_asked<'a>(request: &MessageRef<'a>) -> Option<Binding<'a>>
     ensures one { IfSome result (λ asked. AsksForOne request.now) }
     ensures bindings { IfSome result (λ asked. request.now.bindings ≡ var_bind asked ∷ []) }
@@ -132,7 +135,8 @@ fn only_asked<'a>(request: &MessageRef<'a>) -> Option<Binding<'a>>
     Some(asked)
 }
 
-/// Returns whether a GetBulk repeats each of its names at least once. Other requests needn't.
+/// Returns whether `request` has no non-repeaters and at least one repetition, if it is a GetBulk.
+/// Returns true if it isn't.
 fn is_repeated(request: &MessageRef<'_>) -> bool
     ensures { IsTrue result ↔ (request.now.kind ≡ kind.GetBulkRequest
         → (request.now.a ≡ pos 0) × (pos 1 ≤ℤ request.now.b)) }
@@ -143,8 +147,8 @@ fn is_repeated(request: &MessageRef<'_>) -> bool
     }
 }
 
-/// Writes the Response with genErr to a request with this binding to the start of `out`, and returns
-/// its length. Returns None, and leaves `out` unchanged, if it doesn't fit.
+/// Writes the Response with genErr to `request`, whose one binding is `asked`, to the start of
+/// `out`, and returns its length. Returns `None`, and leaves `out` unchanged, if it doesn't fit.
 fn fail(
     config: &Config<'_>,
     request: &MessageRef<'_>,
@@ -173,9 +177,9 @@ fn fail(
     encode(&parts, &mut out[..config.max_size])
 }
 
-/// Writes the agent's reply to a GetBulk as if it asked for fewer repetitions to the start of `out`,
-/// and returns its length. Returns None, and leaves `out` unchanged, if the request is no GetBulk for
-/// more repetitions.
+/// Writes the agent's reply to a GetBulk, as if it asked for this number of repetitions, to the
+/// start of `out`, and returns its length. Returns `None`, and leaves `out` unchanged, if
+/// `request` isn't a GetBulk for more repetitions.
 fn repeat_less(
     table: &Table,
     config: &Config<'_>,
@@ -213,8 +217,8 @@ fn repeat_less(
     }
 }
 
-/// Writes a request with this binding, for this number of repetitions, to the start of `out`, and
-/// returns its length.
+/// Writes `request`, whose one binding is `asked`, with this number of repetitions to the start of
+/// `out`, and returns its length.
 #[tactic(auto, using(std::proofs::lemmas::Grind::common_steps, crate::proofs::RequestLemmas::message_bound))]
 fn put_request(
     request: &MessageRef<'_>,
@@ -244,7 +248,7 @@ fn put_request(
     }
 }
 
-/// Returns whether the request is a GetBulk for more repetitions than this number.
+/// Returns whether `request` is a GetBulk for more than `repetitions` repetitions.
 fn is_for_more(request: &MessageRef<'_>, repetitions: u16) -> bool
     ensures { IsTrue result ↔ ((request.now.kind ≡ kind.GetBulkRequest)
         × (pos repetitions <ℤ request.now.b)) }
@@ -255,9 +259,9 @@ fn is_for_more(request: &MessageRef<'_>, repetitions: u16) -> bool
     }
 }
 
-/// Writes the message in the first `size` octets of `out` again, with its length in five octets, and
-/// returns how many octets it has then. Returns None, and leaves `out` unchanged, if four octets more
-/// have no room.
+/// Writes the message in the first `size` octets of `out` again, with its length in five octets,
+/// and returns how many octets it then has. Returns `None`, and leaves `out` unchanged, if there
+/// is no room for four octets more.
 fn lengthen(config: &Config<'_>, size: usize, out: &mut [u8; MAX_DATAGRAM]) -> Option<usize>
     requires size { size ≤ 65507 }
     requires reply { (content : List ℕ) × IsElement sequence_tag content (take size out.old) }
@@ -279,7 +283,7 @@ fn lengthen(config: &Config<'_>, size: usize, out: &mut [u8; MAX_DATAGRAM]) -> O
     Some(6 + length)
 }
 
-/// Returns the content of a SEQUENCE.
+/// Returns the content of `octets`, which encode a SEQUENCE.
 fn content_of(octets: &[u8]) -> &[u8]
     requires { (content : List ℕ) × IsElement sequence_tag content octets.now }
     ensures content { IsElement sequence_tag result.now octets.now }
@@ -292,11 +296,11 @@ fn content_of(octets: &[u8]) -> &[u8]
     }
 }
 
-/// A link to the agent of a table, in the same memory, that replies in the ways of a list.
+/// A link to the agent of a table in memory, which replies in the ways of a list.
 ///
-/// It stores only the datagram that was sent last, of at most 1,024 octets. Each receive returns what
-/// the agent sends to that datagram in the next way of the list, and after the last of them the
-/// agent's whole reply. If the agent drops the datagram, nothing is received.
+/// It stores only the datagram that was sent last, of at most 1,024 octets. Each receive returns
+/// what the agent sends to that datagram in the next way of the list, and after the last way the
+/// agent's own reply. If the agent drops the datagram, the receive returns `None`.
 #[derive(Drop)]
 pub struct LooseLink<'a> {
     table: &'a Table,
@@ -329,7 +333,7 @@ impl<'a> LooseLink<'a> {
         }
     }
 
-    /// Returns the way of the next reply.
+    /// Returns the way of the next reply, and uses it.
     fn next_way(&mut self) -> Way
         ensures next { IsNextWay (ways_left self.old) result (ways_left self.new) }
         ensures agent { agent_at self.new ≡ agent_at self.old }
@@ -406,10 +410,11 @@ impl<'a> Link for LooseLink<'a> {
     }
 }
 
-/// Walks over a link to an agent that also replies in other ways: by errors, with fewer repetitions
-/// than asked for, and in another encoding.
+/// Walks over a link to an agent that also replies in other ways: by errors, with fewer
+/// repetitions than asked for, and in another encoding.
 ///
-/// What is given is a beginning of the walk over its table, and all of it if the walk is done.
+/// The bindings passed on are a prefix of the walk over its table, and all of it if the walk is
+/// done.
 pub fn walk_loose<S: Sink>(
     link: &mut LooseLink<'_>,
     core: WalkCore,
@@ -418,7 +423,7 @@ pub fn walk_loose<S: Sink>(
 ) -> WalkEnd
     requires fresh { IsFresh core }
     requires nothing_sent { last_sent link.old ≡ [] }
-    // If no way is genErr, each end comes only for its reason, an error too.
+    // If no way is `GenErr`, an end by an error has its reason too.
     ensures { IsRun S.takes sink.old result sink.new (λ rows refused.
         IsWalkedOver ⟦<LooseLink<'static> as Link>⟧ link.old link.new (retries + 1) core rows
         refused result

@@ -1,4 +1,4 @@
-//! A link to an agent in the same memory.
+//! A link to an agent in memory.
 ghost use Rattle.std.specs.Prelude.{◌≡◌, ◌<◌, ◌+◌, ℕ, All, length, Some, None, IfSome, OnOk, OnErr};
 ghost use Rattle.snmp_walk.specs.Traffic.{datagram_at, received, Gives};
 
@@ -8,13 +8,14 @@ use snmp_agent::{Config, Hint, Outcome, Table, answer_near};
 use snmp_wire::MAX_DATAGRAM;
 use std::alloc::{AllocError, Global};
 
-/// A link to an agent in memory, over one table, or over several that each reply to some of the
+/// A link to an agent in memory, which serves one table, or several that each reply to some of the
 /// datagrams.
 ///
-/// It keeps the datagrams that are sent. Each receive uses the next of the deliveries that it was
-/// made with: nothing, or the agent's reply to the k-th datagram sent, counted from 1. After the
-/// last delivery a receive gives the reply to the latest datagram. Where the agent has no reply, or
-/// there is no such datagram, nothing is received.
+/// It stores the datagrams that are sent. Each receive uses the next delivery of the list that the
+/// link was made with: `None` delivers nothing, and `Some(k)` the agent's reply to the k-th
+/// datagram sent, counted from 1. After the last delivery, a receive returns the reply to the
+/// latest datagram. If the agent has no reply, or the datagram doesn't exist, the receive returns
+/// `None`.
 pub struct MemoryLink<'a> {
     tables: &'a [Table],
     config: Config<'a>,
@@ -29,7 +30,8 @@ pub struct MemoryLink<'a> {
 }
 
 impl<'a> Drop for MemoryLink<'a> {
-    // Written out, so that it is proved here alone: a derived one is proved in each crate above.
+    // Written by hand, so that it is proved only here: a derived one is proved in each crate
+    // above.
     fn drop(self) {
         let MemoryLink {
             tables: _tables,
@@ -55,7 +57,7 @@ impl<'a> MemoryLink<'a> {
     ghost use Rattle.snmp_walk.specs.Memory.{HasNoReplyOf};
     ghost use Rattle.std.specs.Prelude.{take, IfNone};
 
-    /// A link to the agent of one table, over which nothing has been sent.
+    /// Returns a link to the agent of one table, over which nothing has been sent.
     pub fn new(
         alloc: Global,
         table: &'a Table,
@@ -71,11 +73,11 @@ impl<'a> MemoryLink<'a> {
         MemoryLink::changing(alloc, std::slice::from_ref(table), config, &[], deliveries)
     }
 
-    /// A link to an agent whose table changes, over which nothing has been sent.
+    /// Returns a link to an agent whose table changes, over which nothing has been sent.
     ///
-    /// The reply to the i-th datagram sent is that of the table whose place is the i-th of `uses`,
-    /// and after these that of the last table. Places count from 0. There is at least one table,
-    /// and each place in `uses` is that of a table.
+    /// The first datagram is answered from `tables[uses[0]]`, the second from `tables[uses[1]]`,
+    /// and so on; after the end of `uses`, from the last table. The caller must pass at least one
+    /// table, and each index in `uses` must be below `tables.len()`.
     pub fn changing(
         alloc: Global,
         tables: &'a [Table],
@@ -107,8 +109,8 @@ impl<'a> MemoryLink<'a> {
         }
     }
 
-    /// Reserves memory: the next `sends` sends, of at most `octets` octets together, succeed. What
-    /// was reserved before is kept, also where memory runs out.
+    /// Reserves memory so that the next `sends` sends, of at most `octets` octets in total, succeed.
+    /// What was reserved before stays reserved, also if memory runs out.
     pub fn reserve(&mut self, sends: usize, octets: usize) -> Result<(), AllocError>
         ensures ready { OnOk result (IsReadyFor self.new sends octets) }
         ensures kept { (s o : ℕ) → IsReadyFor self.old s o → IsReadyFor self.new s o }
@@ -122,7 +124,8 @@ impl<'a> MemoryLink<'a> {
         self.arena.reserve(sends, octets)
     }
 
-    /// The number of the datagram whose reply the next delivery is, or 0 where that is nothing.
+    /// Uses the next delivery and returns the number of the datagram whose reply it delivers, or 0
+    /// if it delivers nothing.
     fn next_number(&mut self) -> usize
         ensures number { IsNextNumber self.old.arena.datagrams (traffic_of self.old).ahead result
             (traffic_of self.new).ahead }
@@ -140,7 +143,7 @@ impl<'a> MemoryLink<'a> {
         }
     }
 
-    /// The table that the agent serves where it replies to the datagram of this number.
+    /// Returns the table from which the datagram with this number, counted from 1, is answered.
     fn table_for(&self, number: usize) -> &'a Table
         ensures one { OneOf self.now.tables.now result.now }
         ensures place { 0 < number
@@ -152,8 +155,9 @@ impl<'a> MemoryLink<'a> {
         }
     }
 
-    /// Writes the agent's reply to the datagram of this number, and returns its length, if there is
-    /// one. Of the link only the hint changes.
+    /// Writes the agent's reply to the datagram with this number to the start of `out`, and
+    /// returns its length. Returns `None` if there is no such datagram, or no reply to it. Of the
+    /// link, only the hint changes.
     fn reply_to(&mut self, number: usize, out: &mut [u8; MAX_DATAGRAM]) -> Option<usize>
         ensures length { IfSome result (λ n. n ≤ 65507) }
         ensures room { length out.new ≡ 65507 }

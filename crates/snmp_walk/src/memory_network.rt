@@ -1,4 +1,4 @@
-//! A network in memory, which loses, repeats and delays datagrams by a list.
+//! A network in memory, which loses, repeats and delays datagrams as a list says.
 ghost use Rattle.std.specs.Prelude.{◌≡◌, ◌≤◌, ◌+◌, ◌⊎◌, [], ℕ, List, length, take, Some, None};
 ghost use Rattle.std.specs.Prelude.{◌<◌, IfNone, IfOk, IfSome, OnOk, OnErr};
 ghost use Rattle.snmp_io.specs.Count.{HasRisen};
@@ -12,22 +12,24 @@ use std::alloc::Global;
 /// What a [`MemoryNetwork`] does next.
 #[derive(Clone, Copy)]
 pub enum Delivery {
-    /// The agent receives the k-th datagram that the walk sent, counted from 1.
+    /// The agent receives the k-th datagram that the walk sent. Holds k, counted from 1.
     Request(usize),
-    /// The walk receives the k-th datagram that the agent sent, counted from 1.
+    /// The walk receives the k-th datagram that the agent sent. Holds k, counted from 1.
     Reply(usize),
-    /// The walk receives nothing in time.
+    /// The walk's receive returns nothing.
     Nothing,
 }
 
 /// A network in memory between a walk and an agent.
 ///
-/// It stores what is sent at each end, and delivers it to the other by the deliveries that it was
-/// made with, in turn. So a datagram that none of them names is lost, one that several name arrives
-/// that often, and one that is named late is delayed. If a delivery names a datagram that wasn't
-/// sent yet, nothing is received. After the last delivery nothing is lost: the agent receives the
-/// latest datagram before each receive of the walk, and the walk receives what the agent sent then,
-/// or nothing. If the agent's receive or send failed, so does the walk's receive.
+/// It stores what is sent at each end, and delivers it to the other end by its list of deliveries,
+/// in turn. So a datagram that none of them names is lost, one that several name arrives that many
+/// times, and one that is named late is delayed. If a delivery names a datagram that wasn't sent
+/// yet, the receive returns nothing.
+///
+/// After the last delivery nothing is lost: the agent receives the latest datagram before each
+/// receive of the walk, and the walk receives what the agent sent then, or nothing. If the agent's
+/// receive or send failed, the walk's receive fails too.
 #[derive(Drop)]
 pub struct MemoryNetwork<'a> {
     deliveries: &'a [Delivery],
@@ -45,7 +47,7 @@ impl<'a> MemoryNetwork<'a> {
     ghost use Rattle.snmp_io.specs.Count.{HasRisen};
     ghost use Rattle.snmp_walk.specs.MemoryNetwork.{IsNew, IsNextReply, IsNextRequest, ahead_of};
 
-    /// A network over which nothing was sent.
+    /// Returns a network over which nothing was sent.
     pub fn new(alloc: Global, deliveries: &'a [Delivery]) -> MemoryNetwork<'a>
         ensures new { IsNew result }
         ensures ahead { ahead_of result ≡ deliveries.now }
@@ -61,14 +63,15 @@ impl<'a> MemoryNetwork<'a> {
         }
     }
 
-    /// Returns the deliveries that are still to come.
+    /// Returns the deliveries that aren't used yet.
     fn ahead(&self) -> &'a [Delivery]
         ensures { result.now ≡ ahead_of self.now }
     {
         &self.deliveries[self.used.min(self.deliveries.len())..]
     }
 
-    /// Returns the number of the datagram that the agent receives, or 0 if that is none.
+    /// Returns the number of the datagram that the agent's next receive returns, or 0 if it
+    /// returns nothing, and uses that delivery.
     fn next_request(&mut self) -> usize
         ensures used { IsNextRequest self.old.requests.datagrams (ahead_of self.old) result
             (ahead_of self.new) }
@@ -87,8 +90,8 @@ impl<'a> MemoryNetwork<'a> {
         }
     }
 
-    /// Returns the number of the datagram that the walk receives, or 0 if that is none; or None if
-    /// its receive fails.
+    /// Returns the number of the datagram that the walk's next receive returns, or 0 if it returns
+    /// nothing, and uses that delivery. Returns `None` if the receive fails.
     fn next_reply(&mut self) -> Option<usize>
         ensures used { IsNextReply self.old.answer (ahead_of self.old) result (ahead_of self.new) }
         ensures requests { self.new.requests ≡ self.old.requests }
@@ -110,7 +113,7 @@ impl<'a> MemoryNetwork<'a> {
         }
     }
 
-    /// Counts a fault.
+    /// Raises the fault count.
     fn count_fault(&mut self)
         ensures counted { HasRisen self.old.faults self.new.faults }
         ensures ahead { ahead_of self.new ≡ ahead_of self.old }
@@ -122,7 +125,8 @@ impl<'a> MemoryNetwork<'a> {
     }
 }
 
-/// Copies the datagram to the front of the buffer, if there is room for it.
+/// Copies `datagram` to the start of `buffer` and returns its length. Returns `None` if there is
+/// no room for it.
 fn copy_to(datagram: &[u8], buffer: &mut [u8]) -> Option<usize>
     ensures whole { IfSome result (λ n. take n buffer.new ≡ datagram.now) }
     ensures bound { IfSome result (λ n. n ≤ length buffer.old) }

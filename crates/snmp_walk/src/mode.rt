@@ -1,35 +1,35 @@
-//! What a walk asks for: its mode, its method, and the phase that it is in.
+//! The options of a walk, its mode and its method, and which of its requests is waiting.
 
-/// What a walk gives besides the instances below its root.
+/// What a walk returns besides the instances below its root.
 #[derive(Clone, Copy, Debug, PartialEq, Eq)]
 pub enum Mode {
-    /// Where nothing is below the root, what a Get of the root itself gives, a value or an
-    /// exception.
+    /// If no instance is below the root, the walk returns the result of a Get of the root: a value
+    /// or an exception.
     Plain,
-    /// Before them the root's own instance, if there is one.
+    /// The walk begins with the root's own instance, if there is one.
     Include,
-    /// Nothing.
+    /// Nothing else.
     NoLast,
 }
 
-/// The requests by which a walk asks for the next instances.
+/// How a walk asks for the next instances.
 #[derive(Clone, Copy, Debug, PartialEq, Eq)]
 pub enum Method {
-    /// GetNext (RFC 3416, section 4.2.2), which asks for one instance.
+    /// By GetNext (RFC 3416, section 4.2.2), one instance a request.
     Next,
-    /// GetBulk (RFC 3416, section 4.2.3) with this number of repetitions, 1 to 2147483647: it asks
-    /// for as many instances.
+    /// By GetBulk (RFC 3416, section 4.2.3). Holds its max-repetitions, 1 to 2147483647: how many
+    /// instances a request asks for.
     Bulk(i32),
 }
 
-/// Which request of a walk is waiting for its reply.
+/// The request of a walk that waits for its reply.
 #[derive(Clone, Copy, Debug, PartialEq, Eq)]
 pub enum Phase {
-    /// The Get of the root, the first request of a walk that includes it.
+    /// The Get of the root that begins a walk with [`Mode::Include`].
     First,
-    /// The request for the next instances.
+    /// A request for the next instances.
     Rows,
-    /// The Get of the root, the last request of a walk that found nothing below it.
+    /// The Get of the root that ends a walk with [`Mode::Plain`] if nothing is below the root.
     Last,
     /// None: the walk has ended.
     Over,

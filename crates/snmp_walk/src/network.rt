@@ -9,7 +9,7 @@ use crate::run::run_walk;
 use crate::{Link, LinkFault, Sink, WalkCore, WalkEnd};
 use snmp_agent::{Config, Endpoint, Table, serve_at};
 
-/// A network between a walk and an agent, whose end of it is an endpoint.
+/// A network between a walk and an agent. The agent's end of it is an endpoint.
 ///
 /// It may lose, repeat, delay and reorder datagrams, as UDP may (RFC 768). It makes none up and
 /// alters none.
@@ -24,14 +24,14 @@ pub trait Network: Endpoint {
     ghost use Rattle.snmp_walk.specs.Network.{event_of_got, event_of_send, requests_by};
     ghost use Rattle.snmp_walk.specs.Traffic.{latest};
 
-    /// Whether this may happen at one end in the first state, and leave the network in the last
-    /// state.
+    /// `carries old e new`: the event `e` can happen at one end in state `old` and leave the
+    /// network in state `new`.
     ghost carries: { Self → Happening Self.Peer → Self → Type 0 };
 
-    /// Whether nothing has happened yet.
+    /// `is_new network`: nothing has happened yet.
     ghost is_new: { Self → Type 0 };
 
-    /// Who the walk is to the agent.
+    /// The walk, as a peer of the agent.
     ghost walker: { Self → Self.Peer };
 
     /// The number of turns of the agent before the walk's next receive returns.
@@ -40,25 +40,25 @@ pub trait Network: Endpoint {
     /// The datagrams that the walk sent.
     ghost sent: { Self → List (List ℕ) };
 
-    /// Whether the network loses and delays nothing from now on: after the agent's turns each
-    /// receive of the walk returns the agent's reply to the datagram that the walk sent last, or
-    /// nothing if the agent has no reply to it, or a fault.
+    /// `is_prompt network`: the network loses and delays nothing from now on. After the agent's
+    /// turns, each receive of the walk returns the agent's reply to the datagram that the walk
+    /// sent last, or nothing if the agent has no reply to it, or fails.
     ghost is_prompt: { Self → Type 0 };
 
     /// Returns the number of turns of the agent before the walk's next receive returns.
     fn turns(&self) -> u64
         ensures { result ≡ turn_count self.now };
 
-    /// Sends a datagram of the walk to the agent. A fault is counted.
+    /// Sends a datagram of the walk to the agent. An error raises the fault count.
     fn send(&mut self, datagram: &[u8]) -> Result<(), LinkFault>
         ensures carries { carries self.old (at_walk (event_of_send result datagram.now)) self.new }
         ensures count { OnOk result (Self.fault_count self.new ≡ Self.fault_count self.old) }
         ensures fault { OnErr result
             (HasRisen (Self.fault_count self.old) (Self.fault_count self.new)) };
 
-    /// Receives a datagram for the walk into the start of the buffer and returns its length, or
-    /// None if none arrives in time. A datagram that is longer than the buffer is a fault. A fault
-    /// is counted.
+    /// Receives a datagram for the walk into the start of `buffer` and returns its length. Returns
+    /// `None` if none arrives in time. Fails if the datagram is longer than the buffer. An error
+    /// raises the fault count.
     fn receive_reply(&mut self, buffer: &mut [u8]) -> Result<Option<usize>, LinkFault>
         ensures length { IfOk result (λ got. IfSome got (λ n. n ≤ length buffer.old)) }
         ensures carries { carries self.old (at_walk (event_of_got result buffer.new)) self.new }
@@ -70,14 +70,14 @@ pub trait Network: Endpoint {
     ghost at_end: { (old new : Self) (e : Event Self.Peer) → Self.happens old e new
         → carries old (at_agents e) new };
 
-    /// A datagram that arrives at one end was sent at the other end before.
+    /// A message that arrives at one end was sent at the other end before, or its send failed.
     ghost faithful: { (first last : Self) (run : List (Happening Self.Peer)) → is_new first
         → InTurn carries first run last → IsFaithful (walker first) run };
 
     /// Over a new network the walk has sent nothing.
     ghost starts: { (network : Self) → is_new network → sent network ≡ [] };
 
-    /// Nothing else is sent by the walk than what happens at its end.
+    /// The datagrams of the walk are those of the sends that happen at its end.
     ghost sending: { (old new : Self) (e : Happening Self.Peer) → carries old e new
         → sent new ≡ sent old ++ requests_by e };
 
@@ -106,7 +106,7 @@ impl<'a, N: Network> NetworkLink<'a, N> {
     ghost use Rattle.std.specs.Prelude.{◌≡◌};
     ghost use Rattle.snmp_walk.specs.{Link.AreLawful, Served.agents_at};
 
-    /// Returns the link over this network to the agent of this table.
+    /// Returns a link over `network` to the agent of `table`.
     pub fn new(network: N, table: &'a Table, config: Config<'a>) -> NetworkLink<'a, N>
         ensures network { result.network ≡ network }
         ensures table { result.table.now ≡ table.now }
@@ -138,7 +138,8 @@ impl<'a, N: Network> Link for NetworkLink<'a, N> {
 
     ghost agents = { agents_at };
 
-    // After each receive all that the network delivers is the reply to the latest datagram.
+    // No deliveries are known ahead: each receive over a prompt network returns the reply to the
+    // latest datagram.
     ghost traffic = { λ link. record { sent = N.sent link.network; ahead = [] } };
 
     ghost fault_count = { λ link. link.faults };
@@ -171,7 +172,7 @@ impl<'a, N: Network> Link for NetworkLink<'a, N> {
         }
     }
 
-    /// The agent has its turns, and then the walk receives.
+    /// Lets the agent have its turns, and then receives for the walk.
     fn receive(&mut self, buffer: &mut [u8]) -> Result<Option<usize>, LinkFault> {
         let turns = self.network.turns();
         serve_at(&mut self.network, self.table, &self.config, turns);
@@ -191,11 +192,14 @@ impl<'a, N: Network> Link for NetworkLink<'a, N> {
 
 /// Walks over a network at whose other end the agent serves a table: both programs run.
 ///
-/// What [`run_walk`] promises of any link holds of this one: for example the walk ends with
-/// `NoResponse` only after `retries + 1` sends of one request, in each of which the agent had its
-/// turns. Whatever the network loses, repeats and delays, what is given is a beginning of the walk
+/// What [`run_walk`] promises of any link holds of this one. For example, the walk ends with
+/// `NoResponse` only after `retries + 1` sends of one request, after each of which the agent had
+/// its turns.
+///
+/// Whatever the network loses, repeats and delays, the bindings passed on are a prefix of the walk
 /// over that table, and all of it if the walk is done. Over a network that loses and delays
-/// nothing, the walk is done, unless the network or the sink fails.
+/// nothing, the walk is done unless the network or the sink fails, if each binding fits into a
+/// message and there are enough ids.
 pub fn walk_served<'a, N: Network + Drop, S: Sink>(
     link: &mut NetworkLink<'a, N>,
     core: WalkCore,

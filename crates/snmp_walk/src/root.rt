@@ -6,7 +6,7 @@ ghost use Rattle.snmp_walk.specs.Names.{is_below};
 use snmp_wire::{EncodedName, NameBuffer, Oid};
 use std::marker::Model;
 
-/// The root of a walk, with its form in messages as it is encoded.
+/// The root of a walk, stored also as it is encoded in messages.
 #[derive(Drop)]
 pub(crate) struct Root {
     oid: Oid,
@@ -25,7 +25,7 @@ impl Model for Root {
 }
 
 impl Root {
-    /// The root that has this form in messages.
+    /// Returns the root `oid`, whose encoded form is `sent`.
     pub(crate) fn new(oid: Oid, sent: NameBuffer) -> Root
         requires { sent ≡ wire oid }
         ensures { result ≡ oid }
@@ -33,7 +33,7 @@ impl Root {
         Root { oid, sent }
     }
 
-    /// Whether the name begins with the root and is longer.
+    /// Returns whether `name` begins with the root and is longer.
     #[inline]
     pub(crate) fn is_above(&self, name: &EncodedName<'_>) -> bool
         ensures { result ≡ is_below name.now self.now }
@@ -45,8 +45,9 @@ impl Root {
     }
 }
 
-/// Whether the name begins with the root, of any numbers, and is longer.
-// A function of its own, so that the tests of other names don't clear its identifier.
+/// Returns whether `name` begins with `root`, which may have any number of numbers, and is longer.
+// `inline(never)`: only roots of fewer than two numbers come here. Inlined, its `Oid` would be
+// zeroed for each name tested, for every root.
 #[inline(never)]
 fn begins_with(name: &EncodedName<'_>, root: &Oid) -> bool
     ensures { result ≡ is_below name.now root.now }

@@ -1,4 +1,4 @@
-//! The bindings that a walk gives for one datagram, and what the datagram means to it.
+//! What a datagram means to a walk, and which of its bindings are passed on.
 ghost use Rattle.std.specs.Prelude.{◌≡◌, ◌≤◌, ℕ, List, [], ◌∷◌, take, length, true, false};
 ghost use Rattle.snmp_wire.specs.Message.{var_bind};
 
@@ -6,7 +6,7 @@ use crate::WalkEnd;
 use snmp_wire::{Binding, Bindings};
 use std::marker::Model;
 
-/// The bindings that a walk gives for a datagram, in order: the first ones of the datagram.
+/// The bindings of a reply that a walk or a Get passes on, in order: a prefix of its bindings.
 #[derive(Drop)]
 pub struct Rows<'a> {
     bindings: Bindings<'a>,
@@ -25,7 +25,7 @@ impl<'a> Model for Rows<'a> {
 }
 
 impl<'a> Rows<'a> {
-    /// The first `left` of these bindings.
+    /// Returns the first `left` bindings of `bindings`.
     pub(crate) fn front(bindings: Bindings<'a>, left: usize) -> Rows<'a>
         requires { left ≤ length bindings }
         ensures { result ≡ take left bindings.entry }
@@ -33,11 +33,11 @@ impl<'a> Rows<'a> {
         Rows { bindings, left }
     }
 
-    /// Reads the next binding into `into`, and returns whether there was one. Where none is left,
-    /// `into` is unchanged.
+    /// Reads the next binding into `into` and returns whether there was one. If none is left,
+    /// leaves `into` unchanged.
     ///
-    /// This is [`Iterator::next`] for callers that read many bindings, as [`Bindings::read_next`]
-    /// is.
+    /// This is [`Iterator::next`] for a caller that reads many bindings: no binding is moved, as
+    /// in [`Bindings::read_next`].
     pub fn read_next(&mut self, into: &mut Binding<'a>) -> bool
         ensures some { result ≡ true → self.old ≡ var_bind into.new ∷ self.new }
         ensures none { result ≡ false → (self.old ≡ []) × (self.new ≡ []) × (into.new ≡ into.old) }
@@ -72,10 +72,10 @@ impl<'a> Iterator for Rows<'a> {
 /// What a datagram means to a walk.
 #[derive(Drop)]
 pub enum Step<'a> {
-    /// It isn't the reply to the waiting request, and the walk is unchanged.
+    /// The datagram isn't the reply to the waiting request. The walk is unchanged.
     Stray,
-    /// The reply: these bindings are given, and the next request waits.
+    /// The datagram is the reply. Its rows are to be passed on, and the next request waits.
     Rows(Rows<'a>),
-    /// The reply that ends the walk: these bindings are given before the end.
+    /// The datagram is the reply that ends the walk, once these rows are passed on.
     Last(Rows<'a>, WalkEnd),
 }

@@ -1,4 +1,4 @@
-//! A walk over a link: from the first request to the end, each binding to a sink as it comes.
+//! Runs a walk over a link, from its first request to its end.
 ghost use Rattle.std.specs.Prelude.{◌≡◌, ◌+◌};
 ghost use Rattle.snmp_walk.specs.{Facts.IsFresh, Ran.IsRun, Ran.IsWalkedOver};
 
@@ -17,31 +17,33 @@ use snmp_wire::MAX_DATAGRAM;
 /// - `part`: each name passed is the root or below it.
 /// - `ends.rising`: the names increase, so that each is passed once.
 /// - `ends.counted`: if the end is `Done(n)`, n bindings were passed.
-/// - `ends.reason`: the end has its reason in what the link delivered. For example `NoResponse`
-///   comes only after `retries + 1` sends of one request, none of which received its reply.
+/// - `ends.reason`: the end has its reason in what the link delivered. For example, `NoResponse`
+///   comes only after `retries + 1` sends of one request, each of them followed by at most 64
+///   receives, none of which returned its reply.
 /// - `moved`: the ids of the requests increase by one, and each request is sent 1 to `retries + 1`
-///   times, with at most 64 receives after a send. The link failed if the end is `Link`.
+///   times. The link failed if and only if the end is `Link`.
 /// - `few_of_rows`: there is at most one request for each row passed, one more, and a Get.
 /// - `happened.replied`: if all that arrived are replies of some agents, as over a network that
-///   alters nothing (`honest_networks`), a beginning of the walk over their table is passed, and all
-///   of it if the walk is done.
+///   alters nothing (`honest_networks`), the bindings passed are a prefix of the walk over their
+///   table, and all of it if the walk is done.
 /// - `happened.replied_or_failed`: the same if errors may have arrived too, such as genErr.
 ///
 /// Over a link that stores what is sent:
 ///
-/// - `sent`: which requests were sent, and how often.
+/// - `sent`: which requests were sent, and how many times.
+/// - `moved.few`: there are at most 64 receives for each datagram sent.
 /// - `later`: a later walk over the link may begin with the id after those of this one.
 ///
 /// Over an honest link, one that delivers only replies of its agents, if the requests that were sent
 /// over it before have lower ids:
 ///
-/// - `judged.given`: the same as `happened.replied`. If the table changes during the walk, each name
-///   that all the tables have is passed once (`common_at_done`).
-/// - `judged.done_unless_stopped`: without losses the walk is done unless the link or the sink fails,
-///   if each binding has room in a message and there are enough ids.
+/// - `judged.given`: the same as `happened.replied`. If the table changes during the walk and the
+///   walk is done, each name that all the tables have is passed once (`common_at_done`).
+/// - `judged.done_unless_stopped`: without losses the walk is done unless the link or the sink
+///   fails, if each binding fits into a message and there are enough ids.
 /// - `ready`: a link that is ready for all sends doesn't fail.
-// Not inlined: its buffers are on the stack, and a caller with several such calls would have room
-// for each of them.
+// `inline(never)`: its buffers take 66 KB of stack. Inlined, a caller with several such calls
+// would reserve that for each.
 #[inline(never)]
 pub fn run_walk<L: Link, S: Sink>(
     link: &mut L,
@@ -55,7 +57,7 @@ pub fn run_walk<L: Link, S: Sink>(
 {
     codec();
     let mut core = core;
-    // A request of a walk has one name, and at most 1,000 octets: no more than it needs is cleared.
+    // A request of a walk has at most 1,000 octets. A longer buffer would take longer to zero.
     let mut request = [0; 1024];
     let mut buffer = [0; MAX_DATAGRAM];
     let mut end = WalkEnd::NoResponse;

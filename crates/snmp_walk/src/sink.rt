@@ -1,25 +1,26 @@
-//! Where the bindings of a walk go.
+//! Sinks, which take the bindings of a walk or a Get.
 
 use crate::{Rows, SinkFault};
 use snmp_wire::Binding;
 
-/// What takes the bindings of a walk, one by one.
+/// A consumer of the bindings of a walk or a Get, one by one.
 pub trait Sink {
     ghost use Rattle.std.specs.Prelude.{◌≡◌, ◌++◌, ◌∷◌, List, Result, OnOk, IfErr, Err};
     ghost use Rattle.snmp_wire.specs.Message.{VarBind, var_bind};
     ghost use Rattle.snmp_walk.specs.Sink.{Given};
     ghost use Rattle.snmp_walk.specs.declared.end.SinkFault.{SinkFault};
 
-    /// Whether a sink in the first state may take or refuse this binding, with this result, and be
-    /// in the last state then.
+    /// `takes old binding result new`: in state `old`, [`Sink::row`] can return `result` for
+    /// `binding` and leave the sink in state `new`.
     ghost takes: { Self → VarBind → Result (Unit {0}) SinkFault → Self → Type 0 };
 
-    /// Takes a binding, or refuses it: then the walk ends.
+    /// Takes `binding`. An error refuses it and ends the walk or the Get.
     fn row(&mut self, binding: &Binding<'_>) -> Result<(), SinkFault>
         ensures { takes self.old (var_bind binding.now) result self.new };
 
-    /// Takes the bindings of one reply, in order, until one is refused. A sink for which each call
-    /// has a cost, as for a write, can have its own `rows` that does its work once for all of them.
+    /// Takes the bindings of one reply, in order. Fails at the first one that is refused. A sink
+    /// whose calls are costly, as writes are, can have its own `rows` that works once for all of
+    /// them.
     fn rows(&mut self, mut rows: Rows<'_>) -> Result<(), SinkFault>
         ensures ok { OnOk result (Given takes self.old rows.entry self.new) }
         ensures err { IfErr result (λ fault. (front : List VarBind) × (p : VarBind)

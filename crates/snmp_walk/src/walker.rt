@@ -19,7 +19,8 @@ use snmp_wire::{
 use std::cmp::Ordering;
 use std::marker::Model;
 
-/// The state of a walk.
+/// The state of a walk. It sends and receives nothing itself: [`WalkCore::request`] writes what to
+/// send, and [`WalkCore::take`] reads what was received.
 #[derive(Drop)]
 pub struct WalkCore {
     root: Root,
@@ -86,10 +87,14 @@ impl WalkCore {
     ghost use Rattle.snmp_walk.specs.Trail.{last_name};
     ghost use Rattle.snmp_walk.specs.Ordered.{IsAtOrBelow, IsUnsendable};
 
-    /// A walk of the instances below `root`, whose requests have this community of at most 255
-    /// octets and ids from `first_id` on, which is at most 2147483647.
+    /// Returns a walk of the instances below `root`, before its first request. Its requests have
+    /// this community, and ids from `first_id` on.
     ///
-    /// `NotWire` where the root, padded with zeros to two numbers, has no encoding (X.690, 8.19.4).
+    /// The caller must pass a community of at most 255 octets and an id of at most 2147483647. A
+    /// GetBulk must have at least one repetition.
+    ///
+    /// Fails with `NotWire` if `root`, padded with zeros to two numbers, has no encoding (X.690,
+    /// 8.19.4).
     pub fn start(
         root: Oid,
         mode: Mode,
@@ -103,7 +108,7 @@ impl WalkCore {
         ensures ok { IfOk result (λ w. w ≡ started root mode method community.now first_id) }
         // It has taken no reply yet.
         ensures fresh { IfOk result IsFresh }
-        // What it gives of a table is the walk of its root.
+        // Of one table it returns the walk of its root.
         ensures walk { IfOk result (λ w. (view : MibView) (got : VarBind) → IsMibView view
             → walk_at w view got ≡ walk_of mode root got (variables view)) }
         ensures variant { IsOk result ↔ IsWire (wire root) }
@@ -125,12 +130,12 @@ impl WalkCore {
         })
     }
 
-    /// The rest of a walk of the instances below `root`, after the name `after`, without the root's
-    /// own instance.
+    /// Returns the rest of a walk of the instances below `root`: those that come after `after`,
+    /// without the root's own instance. The caller's duties are those of [`WalkCore::start`].
     ///
-    /// `NotWire` where the root, padded with zeros to two numbers, has no encoding, else
-    /// `AfterOutsideRoot` where `after` is neither the root nor below it, else `NotWire` where
-    /// `after` has none.
+    /// Fails with `NotWire` if `root`, padded with zeros to two numbers, has no encoding;
+    /// otherwise with `AfterOutsideRoot` if `after` is neither the root nor below it; otherwise
+    /// with `NotWire` if `after`, padded alike, has no encoding.
     pub fn resume(
         root: Oid,
         after: &Oid,
@@ -143,8 +148,8 @@ impl WalkCore {
         requires first_id { first_id < 2 ^ 31 }
         ensures ok { IfOk result (λ w. w ≡ resumed root after.now method community.now first_id) }
         ensures fresh { IfOk result IsFresh }
-        // What it gives of a table is the rest of the walk: the rows below the root that come
-        // after the name.
+        // Of one table it returns the rest of the walk: the rows below the root that come after
+        // `after`.
         ensures walk { IfOk result (λ w. (view : MibView) (got : VarBind)
             → walk_at w view got ≡ rest_of root (wire after.now) (variables view)) }
         ensures variant { IsOk result ↔ (IsWire (wire root)
@@ -175,8 +180,8 @@ impl WalkCore {
         })
     }
 
-    /// The octets of the waiting request (RFC 3416, section 3), at the front of `out`, and how many
-    /// there are; 0 after the end of the walk.
+    /// Writes the waiting request (RFC 3416, section 3) to the start of `out` and returns its
+    /// length in octets. After the end of the walk, returns 0 and leaves `out` unchanged.
     pub fn request(&self, out: &mut [u8; MAX_DATAGRAM]) -> usize
         ensures waiting { self.now.phase ≢ Phase.Over
             → (result ≡ length (canon (request_of self.now)))
@@ -187,9 +192,9 @@ impl WalkCore {
         self.request_in(&mut out[..])
     }
 
-    /// [`WalkCore::request`] for a buffer of 1,000 octets or more, the most that a request of a
-    /// walk has, since it asks for one name.
-    // Not inlined: the turn of a walk that calls it would then clear its ends, of over a thousand
+    /// Does what [`WalkCore::request`] does, for a buffer of at least 1,000 octets. A request of a
+    /// walk has no more, since it asks for one name.
+    // `inline(never)`: inlined, the loop of `run_walk` would zero its own `WalkEnd`s, over 1,000
     // octets, before each request.
     #[inline(never)]
     pub(crate) fn request_in(&self, out: &mut [u8]) -> usize
@@ -224,8 +229,8 @@ impl WalkCore {
         }
     }
 
-    /// Reads a datagram. Anything but the reply to the waiting request is `Stray` and changes
-    /// nothing; after the end of the walk every datagram is.
+    /// Reads a received datagram. Returns `Stray` and changes nothing if it isn't the reply to the
+    /// waiting request. After the end of the walk, no datagram is.
     pub fn take<'a>(&mut self, datagram: &'a [u8]) -> Step<'a>
         ensures { MeansBy self.old datagram.now result self.new }
     {
@@ -241,7 +246,7 @@ impl WalkCore {
         }
     }
 
-    /// The kind of the waiting request.
+    /// Returns the kind of the waiting request.
     fn kind(&self) -> Kind
         ensures { result ≡ request_kind self.now.phase self.now.method }
     {
@@ -252,7 +257,7 @@ impl WalkCore {
         }
     }
 
-    /// The max-repetitions of the waiting request, and 0 where it has none.
+    /// Returns the max-repetitions of the waiting request, or 0 if it isn't a GetBulk.
     fn repetitions(&self) -> i32
         ensures { result ≡ request_repetitions self.now.phase self.now.method }
     {
@@ -262,14 +267,14 @@ impl WalkCore {
         }
     }
 
-    /// Whether the message is the reply to the waiting request.
+    /// Returns whether `message` is the reply to the waiting request.
     fn is_awaiting(&self, message: &MessageRef<'_>) -> bool
         ensures { result ≡ is_awaited self.now message.now }
     {
         self.phase != Phase::Over && is_awaited(self.community.as_slice(), self.id, message)
     }
 
-    /// Ends the walk, after these bindings, and writes how to `end`.
+    /// Passes on `rows` and ends the walk. Writes `why` to `end`.
     fn stop<'a>(&mut self, rows: Rows<'a>, end: &mut WalkEnd, why: WalkEnd) -> Judgement<'a>
         ensures { (step_of result end.new, self.new) ≡ stops self.old rows.entry why }
     {
@@ -278,8 +283,9 @@ impl WalkCore {
         Judgement::Ends(rows)
     }
 
-    /// Gives these `count` bindings, and waits for the reply to the next request. That asks from
-    /// the name `last` of the last of them, or where it is None from the same name as before.
+    /// Passes on `rows`, of which there are `count`, and waits for the reply to the next request,
+    /// of phase `next`. It asks from `last`, the name of the last row, or from the same name as
+    /// before if `last` is `None`. Ends the walk with `TooManyRequests` if no id is left.
     fn go_on<'a>(
         &mut self,
         next: Phase,
@@ -304,8 +310,9 @@ impl WalkCore {
         Judgement::GoesOn(rows)
     }
 
-    /// Nothing more is below the root: gives these `count` bindings, and then asks for the root
-    /// itself or ends the walk.
+    /// Passes on `rows`, of which there are `count`, after which no more instances are below the
+    /// root. Then a plain walk that has passed on nothing asks for the root itself, and any other
+    /// walk is done.
     fn close<'a>(&mut self, rows: Rows<'a>, count: u32, end: &mut WalkEnd) -> Judgement<'a>
         requires count { count ≡ length rows }
         ensures { (step_of result end.new, self.new) ≡ closes self.old rows.entry }
@@ -317,12 +324,13 @@ impl WalkCore {
         self.stop(rows, end, WalkEnd::Done(given))
     }
 
-    /// The instances below the root at the front of these bindings, their names rising from the
-    /// name asked for on. Then `last` is the name of the last of them, and `read` that of the
-    /// binding that ends them, if one does. None where there are more bindings than were asked for,
-    /// or noSuchObject or noSuchInstance among them.
+    /// Finds the rows at the start of `bindings`: the instances below the root whose names
+    /// increase, the first one from the requested name. Sets `last` to the name of the last row,
+    /// if there is one, and `read` to the name of the binding that ends the rows, if one does.
+    /// Returns `None` if there are more bindings than were asked for, or noSuchObject or
+    /// noSuchInstance among them.
     ///
-    /// Each binding is read once.
+    /// Reads each binding once. The caller must pass `None` as `last`.
     fn front<'a>(
         &self,
         mut bindings: Bindings<'a>,
@@ -364,7 +372,7 @@ impl WalkCore {
         })
     }
 
-    /// How many bindings a request for the next instances asks for.
+    /// Returns how many bindings a request for the next instances asks for.
     fn asked_for(&self) -> u32
         ensures { result ≡ asked_for self.now.method }
     {
@@ -374,8 +382,9 @@ impl WalkCore {
         }
     }
 
-    /// Whether the instances go on with the binding, which follows the name `last` or where that is
-    /// None the name asked for, or how it ends them.
+    /// Returns how `binding` continues or ends the rows read so far: `Leaves` if it isn't an
+    /// instance below the root, `Falls` if its name isn't greater than the previous one, otherwise
+    /// `GoesOn`. The previous name is `last`, or the requested name if `last` is `None`.
     fn ending_at(&self, last: &Option<EncodedName<'_>>, binding: &BindingRef<'_>) -> Ending
         ensures { result ≡ ending_at self.now.root (name_or self.now.asked last.now) binding.now }
     {
@@ -390,8 +399,9 @@ impl WalkCore {
         if rises { Ending::GoesOn } else { Ending::Falls }
     }
 
-    /// Whether the reply to a Get has no value for the name asked for. None where the reply isn't
-    /// one binding of that name, or has endOfMibView.
+    /// Returns whether the reply to a Get of the requested name has noSuchObject or
+    /// noSuchInstance. Returns `None` if the reply isn't exactly one binding of that name, or has
+    /// endOfMibView.
     fn got(&self, mut bindings: Bindings<'_>) -> Option<bool>
         ensures { result ≡ option_map
             (λ b. is_missing b.value) (got self.now.asked bindings.entry) }
@@ -406,7 +416,8 @@ impl WalkCore {
         Some(lacks_value(&binding))
     }
 
-    /// Reads the reply to the first request of a walk that includes the root, a Get of it.
+    /// Reads the reply to the Get of the root that begins a walk with [`Mode::Include`]. Passes on
+    /// the root's own instance, if there is one.
     fn read_first<'a>(&mut self, message: &MessageRef<'a>, end: &mut WalkEnd) -> Judgement<'a>
         ensures { (step_of result end.new, self.new) ≡ reads_first self.old (got self.old.asked
             message.now.bindings) }
@@ -422,7 +433,8 @@ impl WalkCore {
         }
     }
 
-    /// Reads the reply to the last request of a plain walk that gave nothing, a Get of the root.
+    /// Reads the reply to the Get of the root that ends a plain walk which has passed on nothing.
+    /// Passes on its binding, with or without a value.
     fn read_last<'a>(&mut self, message: &MessageRef<'a>, end: &mut WalkEnd) -> Judgement<'a>
         ensures { (step_of result end.new, self.new) ≡ reads_last self.old (got self.old.asked
             message.now.bindings) }
@@ -435,7 +447,7 @@ impl WalkCore {
         self.stop(Rows::front(bindings, 1), end, WalkEnd::Done(given))
     }
 
-    /// Reads a reply with the next instances.
+    /// Reads the reply to a request for the next instances.
     fn read_next<'a>(&mut self, message: &MessageRef<'a>, end: &mut WalkEnd) -> Judgement<'a>
         ensures { (step_of result end.new, self.new) ≡ reads_next self.old message.now.bindings }
     {
@@ -454,9 +466,9 @@ impl WalkCore {
         }
     }
 
-    /// Ends the walk by a reply that isn't one to its request.
-    // This and the next two are functions of their own, so that replies by which the walk goes on
-    // don't clear their identifiers.
+    /// Ends the walk with `BadReply` and passes on nothing.
+    // `inline(never)`, here and on the next two: inlined, their `WalkEnd`s and `Oid`s would be
+    // zeroed for every reply; only the last reply of a walk needs them.
     #[inline(never)]
     fn refuse<'a>(&mut self, message: &MessageRef<'a>, end: &mut WalkEnd) -> Judgement<'a>
         ensures { (step_of result end.new, self.new) ≡ stops self.old [] WalkEnd.BadReply }
@@ -464,7 +476,7 @@ impl WalkCore {
         self.stop(Rows::front(message.bindings(), 0), end, WalkEnd::BadReply)
     }
 
-    /// Ends the walk by a reply without bindings.
+    /// Ends the walk with `NoProgress`: the reply has no bindings, so that `rows` is empty.
     #[inline(never)]
     fn stand<'a>(&mut self, rows: Rows<'a>, end: &mut WalkEnd) -> Judgement<'a>
         ensures { (step_of result end.new, self.new)
@@ -474,8 +486,8 @@ impl WalkCore {
         self.stop(rows, end, WalkEnd::NoProgress { asked })
     }
 
-    /// Ends the walk, after these bindings, by the name `read`, which doesn't come after `last` or
-    /// where that is None the name asked for.
+    /// Passes on `rows` and ends the walk with `NotIncreasing`: the name `read`, which follows
+    /// them, isn't greater than `last`, or than the requested name if `last` is `None`.
     #[inline(never)]
     fn fall<'a>(
         &mut self,
@@ -498,7 +510,8 @@ impl WalkCore {
         self.stop(rows, end, WalkEnd::NotIncreasing { last, got })
     }
 
-    /// Reads a message.
+    /// Reads a message. Returns `Stray` and changes nothing if it isn't the reply to the waiting
+    /// request. If it ends the walk, writes how to `end`.
     fn take_message<'a>(&mut self, message: &MessageRef<'a>, end: &mut WalkEnd) -> Judgement<'a>
         ensures { (step_of result end.new, self.new) ≡ take_of self.old message.now }
     {
@@ -538,30 +551,30 @@ impl Waiter for WalkCore {
     }
 }
 
-/// The bindings at the front of a reply that a walk gives.
+/// The rows at the start of a reply.
 #[derive(Clone, Copy)]
 struct Front {
-    /// How many there are.
+    /// The number of rows.
     rows: u32,
-    /// What follows them.
+    /// What follows the rows.
     ending: Ending,
 }
 
-/// What follows the bindings that a walk gives.
+/// What follows the rows at the start of a reply.
 #[derive(Clone, Copy, PartialEq, Eq)]
 enum Ending {
-    /// Nothing: the walk goes on.
+    /// Nothing: so far every binding is a row, and the walk continues.
     GoesOn,
-    /// A binding that ends the walk: endOfMibView, or a name that isn't below the root.
+    /// A binding that isn't an instance below the root: it has endOfMibView, or a name outside.
     Leaves,
-    /// A name below the root that doesn't come after the one before it.
+    /// A binding below the root whose name isn't greater than the one before it.
     Falls,
 }
 
-/// The last id of a request (RFC 3416, section 3).
+/// The greatest request-id (RFC 3416, section 3).
 const MAX_ID: u32 = 2147483647;
 
-/// The identifier as it is sent.
+/// Returns `oid` as it is encoded, padded with zeros to two numbers. Fails if it has no encoding.
 fn sendable(oid: &Oid) -> Result<NameBuffer, OidError>
     ensures ok { IfOk result (λ o. o ≡ wire oid.now) }
     ensures variant { IsOk result ↔ IsWire (wire oid.now) }
@@ -573,7 +586,7 @@ fn sendable(oid: &Oid) -> Result<NameBuffer, OidError>
     Ok(NameBuffer::new(&name))
 }
 
-/// Which request a walk begins with.
+/// Returns the phase in which a walk of this mode begins.
 fn first_phase(mode: Mode) -> Phase
     ensures { result ≡ phase_at_first mode }
 {
@@ -583,7 +596,7 @@ fn first_phase(mode: Mode) -> Phase
     }
 }
 
-/// A copy of the community, in the core itself.
+/// Returns a copy of `community` that needs no allocation.
 fn owned(community: &[u8]) -> ArrayVec<u8, 255>
     requires { length community.now ≤ 255 }
     ensures value { result.items ≡ community.now }
@@ -595,7 +608,7 @@ fn owned(community: &[u8]) -> ArrayVec<u8, 255>
     }
 }
 
-/// The identifier of a name.
+/// Returns the identifier that `name` encodes.
 fn oid_of(name: &EncodedName<'_>) -> Oid
     ensures { result ≡ name.now }
 {
@@ -604,8 +617,8 @@ fn oid_of(name: &EncodedName<'_>) -> Oid
     oid
 }
 
-/// Whether there are more of these bindings than there is room for, or noSuchObject or
-/// noSuchInstance among them.
+/// Returns whether there are more than `room` bindings, or noSuchObject or noSuchInstance among
+/// them.
 fn is_misplaced(room: u32, mut bindings: Bindings<'_>) -> bool
     ensures { result ≡ is_misplaced room bindings.entry }
 {
@@ -619,28 +632,28 @@ fn is_misplaced(room: u32, mut bindings: Bindings<'_>) -> bool
     false
 }
 
-/// Whether two names are the same.
+/// Returns whether two names are equal.
 fn are_same(name: &EncodedName<'_>, other: &EncodedName<'_>) -> bool
     ensures { result ≡ pointwise nat_eq name.now other.now }
 {
     name.compare(other).is_eq()
 }
 
-/// Whether the second name comes after the first.
+/// Returns whether `name` comes after `before`.
 fn comes_after(before: &EncodedName<'_>, name: &EncodedName<'_>) -> bool
     ensures { result ≡ comes_after before.now name.now }
 {
     before.compare(name) == Ordering::Less
 }
 
-/// Whether the binding is an instance below the root.
+/// Returns whether `binding` is an instance below the root.
 fn is_row(binding: &BindingRef<'_>, root: &Root) -> bool
     ensures { result ≡ is_inside root.now binding.now }
 {
     binding.tag() != tag::END_OF_MIB_VIEW && root.is_above(&binding.name())
 }
 
-/// Whether there is noSuchObject or noSuchInstance in place of a value.
+/// Returns whether `binding` has noSuchObject or noSuchInstance in place of a value.
 fn lacks_value(binding: &BindingRef<'_>) -> bool
     ensures { result ≡ is_missing binding.now.value }
 {
