@@ -1,10 +1,10 @@
--- Datagrams that are kept one after the other in one piece of memory.
+-- Datagrams stored one after the other in one buffer.
 use Rattle.std.specs.Prelude.{ℕ, List, take, drop, map}
 use Rattle.snmp_walk.specs.declared.arena.Span.{Span}
 
 pub record Store : Type 0 where
   pub datagrams : List (List ℕ)
-  -- for how many more datagrams, and for how many more octets, memory is reserved
+  -- the number of datagrams, and of octets, for which memory is reserved
   pub places : ℕ
   pub room : ℕ
 

@@ -1,5 +1,6 @@
--- A network in memory makes nothing up and alters nothing, and without deliveries it is prompt: for
--- proofs.
+-- A network in memory neither invents nor alters datagrams (`faithful_in_memory`). Once it is
+-- prompt it stays so (`still_prompt_in_memory`), and the walk receives the agent's replies
+-- (`prompt_in_memory`). For proofs.
 use Rattle.std.specs.Prelude.{◌≡◌, ◌⊎◌, ◌+◌, ℕ, zero, suc, List, [], ◌∷◌, ◌++◌, length, map}
 use Rattle.std.specs.Prelude.{Option, Some, None, flat_map}
 use Rattle.std.specs.List.{AllByRecursion, slice_get}
@@ -19,7 +20,7 @@ use Rattle.snmp_walk.specs.Network.{of_walk, requests_by, tried}
 use Rattle.snmp_walk.specs.declared.memory_network.Delivery.{Delivery}
 use Rattle.snmp_walk.specs.declared.memory_network.MemoryNetwork.{MemoryNetwork}
 
--- what happened on the network, in turn
+-- what happened on the network, in order
 abbrev Run : Type 0
 Run = List (Happening (Unit {0}))
 
@@ -42,7 +43,7 @@ one_append (x ∷ xs) ys d (inr one) = elim (one_append xs ys d one) [
   | inr h ↦ inr h
 ]
 
--- a run up to one of its events
+-- a run up to one of its events, and that event
 up_to : {L X : Type 0} (step : L → X → L → Type 0) (xs ys : List X) (x : X) (old new : L)
     → InTurn step old (xs ++ x ∷ ys) new
     → (mid : L) × (next : L) × InTurn step old xs mid × step mid x next
@@ -53,7 +54,7 @@ up_to step (y ∷ xs) ys x old new h =
 -- ---- what was sent each way
 
 module _ (d : List ℕ) where
-  -- by the walk, in the run or before it
+  -- if the walk sent d by the event e, then it tried to send d in the run that begins with e
   by_walk : (e : Happening (Unit {0})) (run : Run) → OneOf (requests_by e) d
       → OneOf (tried (of_walk (e ∷ run))) d
   by_walk (at_walk (sent peer x)) run (inl same) = inl same
@@ -78,7 +79,7 @@ module _ (d : List ℕ) where
     | inr later ↦ inr (in_more e run later)
   ]
 
-  -- and by the agent
+  -- if the agent sent d by the event e, then it sent d in the run that begins with e
   by_agent : (e : Happening (Unit {0})) (run : Run) → OneOf (replies_by e) d
       → IsTriedTo tt (e ∷ run) d
   by_agent (at_agents (sent peer x)) run (inl same) =
@@ -148,7 +149,7 @@ pub still_prompt_in_memory : (old new : MemoryNetwork) (e : Happening (Unit {0})
     → Carries old e new → IsPrompt new
 still_prompt_in_memory old new e none h = left_none old none e (ahead_of new) h.used
 
--- the datagram whose number is the number of all is the latest
+-- the datagram whose number is the length of the list is the latest one
 module _ (d : Option (List ℕ)) where
   latest_found : (ds : List (List ℕ)) → datagram_at ds (length ds) ≡ d → latest ds ≡ d
   latest_found [] found = found
@@ -161,14 +162,14 @@ module _ (d : List ℕ) where
   latest_sent (x ∷ []) = refl
   latest_sent (x ∷ y ∷ ds) = latest_sent (y ∷ ds)
 
--- what the walk receives after a turn of the agent
+-- what the walk receives over a prompt network after a turn of the agent
 module _ (between new : MemoryNetwork) (none : IsPrompt between) (agent : Agent)
     (request : Option (List ℕ)) where
   number_is : (number : ℕ) → IsNextReply between.answer (ahead_of between) (Some number) (ahead_of new)
       → Some number ≡ between.answer
   number_is number h = (next_reply between none (Some number) (ahead_of new) h).0
 
-  -- in which it sent nothing,
+  -- if the agent sent nothing since it had no reply, the walk's receive returns nothing or fails
   after_nothing : (e : Event (Unit {0})) → between.answer ≡ Some 0 → RepliesTo agent request silence
       → Carries between (at_walk e) new → RepliesTo agent request e
   after_nothing (came peer d) is silent h =
@@ -182,7 +183,7 @@ module _ (between new : MemoryNetwork) (none : IsPrompt between) (agent : Agent)
   after_nothing (sent peer d) is silent h = tt
   after_nothing (send_failed peer d) is silent h = tt
 
-  -- in which it sent this reply,
+  -- if the agent sent the reply r, the walk's receive returns r or fails
   after_reply : (e : Event (Unit {0})) (before : List (List ℕ)) (d r : List ℕ) → request ≡ Some d
       → IsReply agent d r → replies_of between ≡ before ++ r ∷ []
       → between.answer ≡ Some (length (replies_of between))
@@ -209,7 +210,7 @@ module _ (between new : MemoryNetwork) (none : IsPrompt between) (agent : Agent)
   after_reply (sent peer x) before d r asked replies are is h = tt
   after_reply (send_failed peer x) before d r asked replies are is h = tt
 
-  -- and which failed
+  -- if the agent's receive or send failed, the walk's receive fails
   after_fault : (e : Event (Unit {0})) → between.answer ≡ None → Carries between (at_walk e) new
       → RepliesTo agent request e
   after_fault (came peer d) is h =

@@ -1,4 +1,4 @@
--- What is true of a whole run.
+-- What is promised of a whole walk over a link.
 use Rattle.std.specs.Prelude.{◌≡◌, ℕ, ◌+◌, ◌*◌, ◌≤◌, ◌<◌, ◌≢◌, ◌⊎◌, List, [], ◌∷◌, ◌++◌, length}
 use Rattle.std.specs.Prelude.{flat_map, replicate, Option}
 use Rattle.snmp_walk.specs.{declared.mode.Mode.Mode, Traffic.Traffic, Traffic.Lost}
@@ -22,14 +22,14 @@ use Rattle.snmp_walk.specs.Room.{HasRoomForAll}
 use Rattle.snmp_walk.specs.Tables.{IsOfWalk, AreFromTables, IsInEach, IsGivenOnce, CountsNames}
 use Rattle.snmp_walk.specs.Tables.{HasRoomInEach, HasIdsFor}
 
--- a walk that has taken no reply yet, and asks for the root or after a name that begins with it
+-- a walk that has taken no reply yet, and asks for its root or from a name that begins with it
 pub record IsFresh (w : Walker) : Type 0 where
   pub phase : w.phase ≡ first_phase w.mode
   pub count : w.count ≡ 0
   pub begins : (s : List ℕ) × (w.asked ≡ w.root ++ s)
 
--- The last datagrams sent are the request of w: one at least unless the link failed, and as many as
--- there are `tries` where no reply came.
+-- The last datagrams sent are the request of w: at least one unless the link failed, and exactly
+-- `tries` if no reply arrived.
 pub record IsLastSent (tries : ℕ) (end : WalkEnd) (new : Traffic) (w : Walker) : Type 0 where
   pub earlier : List (List ℕ)
   pub times : ℕ
@@ -42,13 +42,14 @@ pub record Reading : Type 0 where
   pub datagram : List ℕ
   pub rows : List VarBind
 
--- the rows of these readings, in turn
+-- the rows of these readings, in order
 abbrev pub rows_read : List Reading → List VarBind
 rows_read readings = flat_map (λ r. r.rows) readings
 
--- Each of these datagrams replied to the request of the walk, in turn, from one state of the link
--- to the next, and the walk v read them as these rows, and is w then. `Tried` says what came of a
--- walk's request over the link. `IsWalker` holds of each walk that waited.
+-- The walk read these datagrams, in order, as these rows, and its state went from v to w. Each
+-- datagram answered the request that waited then, and the link went from one state to the next,
+-- from `old` to `new`. `Tried` says what came of a request over the link. `IsWalker` holds of each
+-- state in which the walk waited.
 abbrev pub AreRead : {L : Type 0} → (Tried : Walker → L → Outcome → L → Type 0) → Walker → L
     → List Reading → Walker → L → Type 0
 AreRead {L} Tried v old [] w new = (w ≡ v) × (new ≡ old)
@@ -56,17 +57,17 @@ AreRead {L} Tried v old (r ∷ more) w new =
     IsWalker v × (u : Walker) × (between : L) × Tried v old (answered r.datagram) between
     × MeansBy v r.datagram (step.Rows r.rows) u × AreRead Tried u between more w new
 
--- The walk that began as `first` gave just the rows that it read in the replies to its requests,
--- which took the link from one state to the other, and is w then.
+-- The walk that began as `first` passed on exactly the rows that it read in the replies to its
+-- requests. These took the link from `old` to `new`, and the walk to state w.
 pub record HasRead {L : Type 0} (Tried : Walker → L → Outcome → L → Type 0) (first : Walker)
     (old : L) (w : Walker) (new : L) (given : List VarBind) : Type 0 where
   pub readings : List Reading
   pub rows : given ≡ rows_read readings
   pub are_read : AreRead Tried first old readings w new
 
--- What came of the last request of the walk that began as `first`, over the link in the state
--- `old`: it had given all of these rows but for `more`, and asked by w from the state `now` of the
--- link on. `Sent` says how that request was sent.
+-- The last request of the walk that began as `first`, over the link in state `old`, had this
+-- outcome. The walk had passed on all of `rows` but `more`, and sent the request in state w, the
+-- link being in state `now`. `Sent` says how the request was sent.
 pub record IsAskedLast {L : Type 0} (Tried : Walker → L → Outcome → L → Type 0)
     (Sent : Walker → Type 0) (first : Walker) (old : L) (rows : List VarBind) (new : L)
     (outcome : Outcome) (w : Walker) (more : List VarBind) : Type 0 where
@@ -86,8 +87,8 @@ IsReadSo Asked end =
     (datagram : List ℕ) × (w : Walker) × (more : List VarBind) × Asked (answered datagram) w more
     × (over : Walker) × MeansBy w datagram (step.Last more end) over
 
--- the reply to the last request is read as the last rows given, then the one that the sink refused,
--- and perhaps more
+-- the reply to the last request is read as the last rows passed on, then the one that the sink
+-- refused, and perhaps more
 abbrev pub IsRefusedSo : (Asked : Outcome → Walker → List VarBind → Type 0)
     → (refused : List VarBind) → Type 0
 IsRefusedSo Asked refused =
@@ -95,9 +96,9 @@ IsRefusedSo Asked refused =
     × (read : Step) × (over : Walker) × (left : List VarBind) × MeansBy w datagram read over
     × (rows_in read ≡ more ++ (refused ++ left))
 
--- Why a run ends, whatever the link brings, `Asked` saying what came of its last request: by a
--- reply that is read as this end, because no reply came or the link failed, or by the sink, which
--- refused a row of the reply. A request of a walk is never too long.
+-- Why a walk ended, whatever the link delivered. `Asked` says what came of its last request. A
+-- reply was read as this end; no reply arrived, or the link failed; or the sink refused a row of
+-- the reply. A request of a walk is never too long.
 abbrev pub IsEndOfRun : (Asked : Outcome → Walker → List VarBind → Type 0)
     → (refused : List VarBind) → WalkEnd → Type 0
 IsEndOfRun Asked refused ending.RequestTooLong = ⊥
@@ -106,9 +107,9 @@ IsEndOfRun Asked refused ending.Link = (w : Walker) × Asked cut_off w []
 IsEndOfRun Asked refused (ending.Sink fault) = IsRefusedSo Asked refused
 IsEndOfRun Asked refused why = IsReadSo Asked why
 
--- What is promised of a run over any link, which it took from the state `old` to the state `new`:
--- the names given, with the one that was refused, rise; a walk that is done has counted the
--- bindings; and each end comes for its own reason.
+-- What is promised of a walk over any link, which it took from `old` to `new`: the names of the
+-- rows passed on, and then of the one that was refused, increase; a walk that is done has counted
+-- the rows; and each end has its reason.
 pub record EndFacts {L : Type 0} (Tried : Walker → L → Outcome → L → Type 0)
     (Sent : Walker → Type 0) (first : Walker) (old : L) (rows refused : List VarBind)
     (end : WalkEnd) (new : L) : Type 0 where
@@ -116,9 +117,9 @@ pub record EndFacts {L : Type 0} (Tried : Walker → L → Outcome → L → Typ
   pub counted : CountsAll end rows
   pub reason : IsEndOfRun (IsAskedLast Tried Sent first old rows new) refused end
 
--- How a run may end over an honest link, after these bindings: w was waiting for the reply that
--- ended it, which gave none of them where it was an error or had no binding, and else the last.
--- Where no reply came, `Silent` holds of the walker that waited.
+-- How a walk can end over an honest link, after these rows. It waited in state w for the reply
+-- that ended it. That reply had none of the rows if it was an error or had no bindings, and
+-- otherwise the last ones. If no reply arrived, `Silent` holds of w.
 abbrev pub IsLawfulEnd : Agents → (Walker → Type 0) → Walker → List VarBind → WalkEnd → Type 0
 IsLawfulEnd agents Silent first rows ending.Link = Unit {0}
 IsLawfulEnd agents Silent first rows (ending.Sink fault) = Unit {0}
@@ -138,7 +139,8 @@ IsLawfulEnd agents Silent first rows why =
     × Reaches (IsNextFrom agents) (IsGotFrom agents) first w given
     × Ends (IsNextFrom agents) (IsGotFrom agents) (IsTooLarge agents) first w rows why
 
--- an error, a reply without bindings and no reply at all bring no rows
+-- if the end is an error status, a reply without bindings, no reply, or a failure of the link,
+-- then `rows` is empty
 abbrev pub BringsNone : WalkEnd → List VarBind → Type 0
 BringsNone (ending.Fault status index) rows = rows ≡ []
 BringsNone (ending.NoProgress asked) rows = rows ≡ []
@@ -146,9 +148,9 @@ BringsNone ending.NoResponse rows = rows ≡ []
 BringsNone ending.Link rows = rows ≡ []
 BringsNone _ rows = Unit {0}
 
--- How a run ended over an honest link, by its last request: w had given the first of these rows and
--- was waiting for the reply to it, which brought the others. All that a lawful end says of a walker
--- holds of this one.
+-- How a walk ended over an honest link, by its last request. In state w, it had passed on the
+-- first of these rows and waited for the reply to that request, which had the others. All that a
+-- lawful end says of some state holds of w.
 pub record IsEndedBy (agents : Agents) (Silent Sent : Walker → Type 0) (first : Walker)
     (rows : List VarBind) (end : WalkEnd) : Type 0 where
   pub w : Walker
@@ -178,8 +180,8 @@ pub record HasNoReply (agents : Agents) (tries : ℕ) (old new : Traffic) (w : W
 abbrev pub HasNone : Agents → Walker → Type 0
 HasNone agents w = IsUnanswered agents (canon (request_of w))
 
--- what the walk gives of one table, `got` being what a Get of the name that the walk begins from
--- gives
+-- what the walk returns of one table; `got` is the result of a Get of the name that the walk
+-- begins from
 abbrev pub walk_at : Walker → MibView → VarBind → List VarBind
 walk_at first view got = walk_from first.mode first.root first.asked got (variables view)
 
@@ -194,91 +196,91 @@ IsDoneOrStopped ending.Link = Unit {0}
 IsDoneOrStopped (ending.Sink fault) = Unit {0}
 IsDoneOrStopped _ = ⊥
 
--- the walk is done, or was stopped by the link or the sink, or no reply came
+-- the walk is done, or was stopped by the link or the sink, or no reply arrived
 abbrev pub IsDoneOrCutOff : WalkEnd → Type 0
 IsDoneOrCutOff ending.NoResponse = Unit {0}
 IsDoneOrCutOff why = IsDoneOrStopped why
 
--- What is promised of a run where each reply that it read is that of one of these agents to the
--- request that waited. It gave these rows to the sink, and then the one that was refused, if any
--- was. Where no reply came, `Silent` holds of the walker that waited.
+-- What is promised of a walk if each reply that it read is a reply of one of these agents to the
+-- waiting request. It gave `rows` to the sink, and then the one that was refused, if any was. If
+-- no reply arrived, `Silent` holds of the state that waited.
 pub record GivenFacts (agents : Agents) (Silent : Walker → Type 0) (first : Walker)
     (rows refused : List VarBind) (end : WalkEnd) : Type 0 where
-  -- each row given is the next instance, in one of the tables, after the name before it; before
-  -- these comes the root's own, where the mode says so; in their place a plain walk may give what a
-  -- Get of the root gives
+  -- each row is the next instance, in one of the tables, after the name before it; before them
+  -- comes the root's own, if the mode says so; in their place, a plain walk may return the result
+  -- of a Get of the root
   pub part : IsPartOfWalk (IsNextFrom agents) (IsGotFrom agents) first (rows ++ refused)
-  -- the link and the sink may stop it at any time; each other end comes only for its reason
+  -- the link and the sink may stop it at any time; each other end has its reason
   pub lawful : IsLawfulEnd agents Silent first rows end
-  -- over one table what was given, with what was refused, is a beginning of the walk,
+  -- with one table, what was given and refused is a prefix of the walk,
   pub beginning : (view : MibView) (got : VarBind) → agents.tables ≡ view ∷ []
       → IsGet view first.asked got
       → (more : List VarBind) × (walk_at first view got ≡ (rows ++ refused) ++ more)
-  -- and where the walk is done it is all of it
+  -- and all of it was given if the walk is done
   pub all_at_done : (view : MibView) (got : VarBind) → agents.tables ≡ view ∷ []
       → IsGet view first.asked got → IsDone end
       → rows ≡ walk_at first view got
-  -- Without its root's Get a walk gives the rows after the name that it begins from: a beginning of
-  -- them, and all of them if it is done.
+  -- Without a Get of its root, a walk returns the rows after the name that it begins from: a
+  -- prefix of them, and all of them if it is done.
   pub rest_beginning : (view : MibView) → agents.tables ≡ view ∷ [] → first.mode ≡ mode.NoLast
       → (more : List VarBind)
       × (rest_of first.root first.asked (variables view) ≡ (rows ++ refused) ++ more)
   pub rest_at_done : (view : MibView) → agents.tables ≡ view ∷ [] → first.mode ≡ mode.NoLast
       → IsDone end → rows ≡ rest_of first.root first.asked (variables view)
-  -- over several tables each binding given is that of one of them
+  -- with several tables, each row is from one of them
   pub from_tables : AreFromTables agents first (rows ++ refused)
-  -- each name of the walk that all tables have, and that doesn't come after the last name given, is
-  -- given once,
+  -- each name of the walk that all tables have, and that doesn't come after the last name given,
+  -- was given once,
   pub common_names : (name : List ℕ) → IsOfWalk first name → IsInEach agents name
       → (front : List VarBind) (last : VarBind) → rows ≡ front ++ last ∷ []
       → (Precedes last.name name → ⊥) → IsGivenOnce rows name
-  -- and where the walk is done each of them is
+  -- and so was each of them if the walk is done
   pub common_at_done : IsDone end → (name : List ℕ) → IsOfWalk first name → IsInEach agents name
       → IsGivenOnce rows name
-  -- a plain walk that is done gave a binding at least
+  -- a plain walk that is done gave at least one row
   pub some_at_done : IsDone end → first.mode ≡ mode.Plain → rows ≢ []
-  -- If each single binding of each table has room, and there are enough ids for the names below the
-  -- root, a walk is done unless the link or the sink stops it or no reply comes.
+  -- If each single binding of each table has room, and there are enough ids for the names below
+  -- the root, the walk is done unless the link or the sink stops it or no reply arrives.
   pub done_unless_lost : (k : ℕ) → CountsNames agents first k → HasRoomInEach agents first
       → HasIdsFor first k → IsDoneOrCutOff end
 
--- What is promised of a run over an honest link, over which earlier runs had lower ids. It gave
--- these rows to the sink, and then the one that was refused, if any was.
+-- What is promised of a walk over an honest link, over which earlier runs had lower ids. It gave
+-- `rows` to the sink, and then the one that was refused, if any was.
 pub record WalkFacts (agents : Agents) (tries : ℕ) (old : Traffic) (first : Walker)
     (rows refused : List VarBind) (end : WalkEnd) (new : Traffic) : Type 0 where
-  -- each reply was that of one of the agents to the request that waited, and where none came the
-  -- deliveries lost it
+  -- each reply that was read is a reply of one of the agents to the waiting request; if none
+  -- arrived, one of the agents has none or the deliveries lost it
   pub given : GivenFacts agents (HasNoReply agents tries old new) first rows refused end
-  -- the end is that of the request sent last
+  -- the walk ended by what came of the request sent last
   pub last_request : IsEndedBy agents (HasNoReply agents tries old new) (IsLastSent tries end new)
       first rows end
-  -- where each receive gives the reply to the latest datagram, no reply comes only where one of the
+  -- if each receive returns the reply to the latest datagram, no reply arrives only if one of the
   -- agents has none
   pub replied : old.ahead ≡ [] → IsLawfulEnd agents (HasNone agents) first rows end
-  -- and where there is room for each single binding of each table, and there are enough ids for the
-  -- names below the root, a walk is done unless the link or the sink stops it
+  -- and if there is room for each single binding of each table, and there are enough ids for the
+  -- names below the root, the walk is done unless the link or the sink stops it
   pub done_unless_stopped : (k : ℕ) → CountsNames agents first k → HasRoomInEach agents first
       → HasIdsFor first k → old.ahead ≡ [] → IsDoneOrStopped end
 
--- how many Gets a walk of this mode may send besides the requests for the next instances
+-- the number of Gets that a walk of this mode may send besides the requests for the next instances
 abbrev pub gets : Mode → ℕ
 gets mode.NoLast = 0
 gets _ = 1
 
--- What is promised of the requests of a run that gave these rows, over a link that keeps the list
--- of the datagrams sent. `honest` says that the link is honest, and earlier runs had lower ids.
+-- What is promised of the requests of a walk that passed on `rows`, over a link that lists the
+-- datagrams sent. `honest` says that the link is honest and that earlier runs had lower ids.
 pub record SendFacts (agents : Agents) (honest : Type 0) (tries : ℕ) (old : Traffic)
     (first : Walker) (rows : List VarBind) (end : WalkEnd) (new : Traffic) : Type 0 where
   pub requests : List Try
   pub sent : new.sent ≡ old.sent ++ sent_by requests
-  -- ids rise by one, and each request is sent at most this many times
+  -- their ids increase by one, and each request is sent at most `tries` times
   pub are_tries : AreTries tries first rows first.id requests
   -- the last id is at most 2147483647
   pub few : first.id + length requests ≤ 2147483648
-  -- each was sent at least once, unless the link failed at the first send of the last,
+  -- each was sent at least once, unless the link failed at the first send of the last one,
   pub each_sent : (before : List Try) × (last : Try) × (requests ≡ before ++ last ∷ [])
       × IsEachSent before × (end ≢ ending.Link → 0 < last.times)
-  -- and where no reply came, the last was sent just as many times
+  -- and if no reply arrived, the last one was sent exactly `tries` times
   pub all_tries : end ≡ ending.NoResponse → (before : List Try) × (last : Try)
       × (requests ≡ before ++ last ∷ []) × (last.times ≡ tries)
   -- at most 64 deliveries are used for each datagram sent
@@ -287,14 +289,14 @@ pub record SendFacts (agents : Agents) (honest : Type 0) (tries : ℕ) (old : Tr
   -- there is at most one request for each of k names below the root, one more, and a Get
   pub few_of_names : honest → (k : ℕ) → CountsNames agents first k
       → length requests ≤ k + 1 + gets first.mode
-  -- where there is room for all bindings that each request for the next instances asks for, a walk
-  -- by GetBulk of r repetitions sends at most k / r + 1 of them
+  -- if there is room for all bindings that each request for the next instances asks for, a walk by
+  -- GetBulk with r repetitions sends at most k / r + 1 of them
   pub few_where_all_fit : honest
       → ((t : Try) → OneOf requests t → t.by.phase ≡ phase.Rows → HasRoomForAll agents t.by)
       → (k : ℕ) → CountsNames agents first k
       → (n : ℕ) × (asked_for first.method * n ≤ k) × (length requests ≤ n + 1 + gets first.mode)
 
--- ready for each try of as many requests as a walk of k names may send, and one more: each has at
--- most 1,000 octets
+-- the link is ready for each try of as many requests as a walk of k names may send, and one more:
+-- each has at most 1,000 octets
 abbrev pub IsReadyForAll : (ℕ → ℕ → Type 0) → (tries k : ℕ) → Type 0
 IsReadyForAll Ready tries k = Ready ((k + 3) * tries) ((k + 3) * tries * 1000)

@@ -1,4 +1,4 @@
--- The request of a Get of names, and what its reply brings (RFC 3416, section 4.2.1).
+-- The request of a Get of names, and what its reply means (RFC 3416, section 4.2.1).
 use Rattle.std.specs.Prelude.{◌≡◌, ◌≢◌, ◌⊎◌, ◌<◌, ◌≤◌, ℕ, ℤ, pos, Bool, true, false, ◌&&◌, not}
 use Rattle.std.specs.Prelude.{if◌then◌else◌, List, [], ◌∷◌, ◌++◌, map, length, replicate, Option}
 use Rattle.std.specs.Prelude.{Result, Ok, Err}
@@ -16,11 +16,11 @@ use Rattle.snmp_walk.specs.Link.{Agents, OneOf, IsUnanswered, Outcome, answered,
 use Rattle.snmp_walk.specs.Facts.{IsDone, IsDoneOrCutOff, IsDoneOrStopped}
 use Rattle.snmp_agent.specs.table.Table.{MibView, IsGet}
 
--- each name as it is sent, with the value Null
+-- the wire form of each name, with the value NULL
 abbrev pub asked_names : List (List ℕ) → List VarBind
 asked_names names = map (λ o. asking (wire o)) names
 
--- the Get of these names, in one message of this community and id
+-- the Get of these names in one message, with this community and id
 abbrev pub get_request : List ℕ → ℕ → List (List ℕ) → Message
 get_request community id names = record {
   version = pos 1;
@@ -32,13 +32,13 @@ get_request community id names = record {
   bindings = asked_names names;
 }
 
--- bindings of just these names, as they are sent and in order, none of which is endOfMibView
+-- the bindings have exactly the wire forms of these names, in order, and none is endOfMibView
 pub record AreFor (names : List (List ℕ)) (bindings : List VarBind) : Type 0 where
   pub named : map wire names ≡ map (λ p. p.name) bindings
   pub values : (p : VarBind) → OneOf bindings p → p.value ≢ end_of_mib_view
 
--- What a reply means to a Get of these names: it brings all its bindings, where it has no error
--- status and they are for the names, and else ends the Get without them.
+-- What a reply means to a Get of these names. If it has no error status and its bindings are for
+-- the names, all of them are passed on. Otherwise it ends the Get without them.
 abbrev pub MeansToGet : List (List ℕ) → Message → Result (List VarBind) WalkEnd → Type 0
 MeansToGet names m (Ok rows) = (m.a ≡ pos 0) × AreFor names m.bindings × (rows ≡ m.bindings)
 MeansToGet names m (Err end) =
@@ -51,8 +51,8 @@ pub record WaitingGet : Type 0 where
   pub community : List ℕ
   pub id : ℕ
 
--- What came of the Get's request, `Tried`, is this reply to it: a Response of its community and id,
--- and over an honest link the Response of one of the agents to it.
+-- m is the reply to the Get's request, as what came of it (`Tried`) says: a Response with its
+-- community and id, and over an honest link the Response of one of the agents to it.
 abbrev pub IsBrought : (Tried : Outcome → Type 0) → Agents → (honest : Type 0) → List ℕ → ℕ
     → List (List ℕ) → Message → Type 0
 IsBrought Tried agents honest community id names m =
@@ -61,13 +61,13 @@ IsBrought Tried agents honest community id names m =
     × IsResponse view agents.max_size (get_request community id names) m)
     × ((datagram : List ℕ) × Tried (answered datagram) × Spells m datagram)
 
--- the bindings are what Gets of these names give of the table, each at its name's place
+-- the bindings are the results of Gets of these names in the table, in the order of the names
 abbrev pub AreGot : MibView → (names : List (List ℕ)) → List VarBind → Type 0
 AreGot view names bindings = AreAnswers (λ asked given. IsGet view asked.name given)
     (asked_names names) bindings
 
--- There is room: the request has the agents' community and fits a datagram, and the agents'
--- messages have room for the Response with what Gets of the names give.
+-- There is room: the request has the agents' community and fits into a datagram, and the Response
+-- with the results of Gets of the names fits into the agents' messages.
 pub record HasRoomForGet (agents : Agents) (request : Message) (names : List
     (List ℕ)) : Type 0 where
   pub community : request.community ≡ agents.community
@@ -76,7 +76,7 @@ pub record HasRoomForGet (agents : Agents) (request : Message) (names : List
       → AreGot view names all
       → Fits agents.max_size (response request (pos 0) (pos 0) all)
 
--- the request was sent once for each try, and one of the agents has no reply to it or the
+-- the request q was sent once for each try, and one of the agents has no reply to it or the
 -- deliveries used lost it
 pub record IsLostGet (agents : Agents) (tries : ℕ) (old : Traffic) (q : List ℕ)
     (new : Traffic) : Type 0 where
@@ -85,8 +85,8 @@ pub record IsLostGet (agents : Agents) (tries : ℕ) (old : Traffic) (q : List �
       ⊎ ((used : List (Option ℕ)) × (old.ahead ≡ used ++ new.ahead)
       × Lost agents (old.sent ++ q ∷ []) q used tries 0)
 
--- The Response with what Gets of the names give is longer than an agent's messages may be, and the
--- error status is tooBig.
+-- The error status is tooBig, and the Response with the results of Gets of the names is longer
+-- than an agent's messages may be.
 pub record IsTooBig (agents : Agents) (request : Message) (names : List (List ℕ))
     (status index : ℤ) : Type 0 where
   pub too_big : status ≡ pos 1
@@ -97,8 +97,8 @@ pub record IsTooBig (agents : Agents) (request : Message) (names : List (List �
   pub got : AreGot view names all
   pub no_room : Fits agents.max_size (response request (pos 0) (pos 0) all) → ⊥
 
--- How a Get may end: `Fails` says which error statuses a reply may have, `Bad` that it may have
--- other names than those asked for, and `Silent` that none may come.
+-- How a Get can end. `Fails` says which error statuses a reply may have, `Bad` that it may have
+-- other names than those asked for, and `Silent` that no reply may arrive.
 abbrev pub IsEndOfGet : (Fails : ℤ → ℤ → Type 0) → (Bad Silent : Type 0) → Message
     → List (List ℕ) → WalkEnd → Type 0
 IsEndOfGet Fails Bad Silent request names (ending.Done count) = count ≡ length names
@@ -111,21 +111,21 @@ IsEndOfGet Fails Bad Silent request names ending.Link = Unit {0}
 IsEndOfGet Fails Bad Silent request names (ending.Sink fault) = Unit {0}
 IsEndOfGet Fails Bad Silent request names _ = ⊥
 
--- Over any link: the bindings given, with the one that was refused, have the names asked for, as
--- they are sent, from the first on, and all of them where the Get is done.
+-- What holds over any link: the bindings passed on, and then the one that was refused, have the
+-- wire forms of the names asked for, from the first on, and of all of them if the Get is done.
 pub record AreForNames (request : Message) (names : List (List ℕ)) (given refused : List VarBind)
     (end : WalkEnd) : Type 0 where
   pub left : List (List ℕ)
   pub named : map wire names ≡ map (λ p. p.name) (given ++ refused) ++ left
   pub whole : IsDone end → (left ≡ []) × (refused ≡ [])
   pub ends : IsEndOfGet (λ _ _. Unit {0}) (Unit {0}) (Unit {0}) request names end
-  -- without names the Get is done, and a request that fits no datagram ends it
+  -- without names the Get is done, and a request that is longer than a datagram ends it
   pub no_names : names ≡ [] → IsDone end
   pub too_long : names ≢ [] → 65507 < length (canon request) → end ≡ ending.RequestTooLong
 
--- Why a Get of names ended, whatever the link brings, `Tried` saying what came of its request, and
--- `From` of a message that it is the reply to it: by what such a reply brings, or by the sink, that
--- refused a binding of it, or because none came.
+-- Why a Get of names ended, whatever the link delivered. `Tried` says what came of its request,
+-- and `From` that a message is the reply to it. It ended as that reply says; or because the sink
+-- refused one of its bindings, no reply arrived, or the link failed.
 abbrev pub IsReasonOfGet : (Tried : Outcome → Type 0) → (From : Message → Type 0)
     → (names : List (List ℕ)) → (given refused : List VarBind) → WalkEnd → Type 0
 IsReasonOfGet Tried From names given refused (ending.Done count) =
@@ -140,41 +140,40 @@ IsReasonOfGet Tried From names given refused ending.Link = Tried cut_off × (giv
 IsReasonOfGet Tried From names given refused end =
     (m : Message) × From m × MeansToGet names m (Err end) × (given ++ refused ≡ [])
 
--- What is promised of a Get where the reply that it read, if any, is that of one of these agents to
--- its request. It gave these rows to the sink, and then the one that was refused, if any was.
+-- What is promised of a Get if the reply that it read, if any, is a reply of one of these agents
+-- to its request. It gave `rows` to the sink, and then the one that was refused, if any was.
 pub record GotFacts (agents : Agents) (request : Message) (names : List (List ℕ))
     (rows refused : List VarBind) (end : WalkEnd) : Type 0 where
-  -- over one table what was given, with what was refused, is a beginning of what Gets of the names
-  -- give,
+  -- with one table, what was given and refused is a prefix of the results of Gets of the names,
   pub beginning : (view : MibView) (all : List VarBind) → agents.tables ≡ view ∷ []
       → AreGot view names all → (more : List VarBind) × (all ≡ (rows ++ refused) ++ more)
-  -- and where it is done it is all of it
+  -- and all of it was given if the Get is done
   pub all_at_done : (view : MibView) (all : List VarBind) → agents.tables ≡ view ∷ []
       → AreGot view names all → IsDone end → rows ≡ all
-  -- it ends with an error status only where the agents' messages have no room, and never because
-  -- the reply has other names than those asked for
+  -- it ends with an error status only if the agents' messages have no room, and never because the
+  -- reply has other names than those asked for
   pub ends : IsEndOfGet (IsTooBig agents request names) ⊥ (Unit {0}) request names end
-  -- where there is room, it is done unless the link or the sink stops it or no reply comes
+  -- if there is room, it is done unless the link or the sink stops it or no reply arrives
   pub done_unless_lost : HasRoomForGet agents request names → IsDoneOrCutOff end
 
--- What is promised of a Get over an honest link over which nothing was sent before. It gave these
--- rows to the sink, and then the one that was refused, if any was.
+-- What is promised of a Get over an honest link, over which earlier runs had lower ids. It gave
+-- `rows` to the sink, and then the one that was refused, if any was.
 pub record GetFacts (agents : Agents) (tries : ℕ) (old : Traffic) (request : Message) (names : List
     (List ℕ)) (rows refused : List VarBind) (end : WalkEnd) (new : Traffic) : Type 0 where
-  -- a reply was that of one of the agents to the request
+  -- a reply that was read is a reply of one of the agents to the request
   pub given : GotFacts agents request names rows refused end
-  -- no reply came only where it was sent by each try, and an agent has none or the deliveries lost
-  -- it
+  -- if no reply arrived, each try sent the request, and an agent has no reply or the deliveries
+  -- lost it
   pub lost_without_response : end ≡ ending.NoResponse
       → IsLostGet agents tries old (canon request) new
-  -- Where there is room, and each receive gives the reply to the latest datagram, a Get is done
+  -- If there is room, and each receive returns the reply to the latest datagram, the Get is done
   -- unless the link or the sink stops it.
   pub done_unless_stopped : HasRoomForGet agents request names → old.ahead ≡ []
       → IsDoneOrStopped end
 
 -- ---- for private functions
 
--- whether bindings are for the names, computed
+-- whether the bindings are for these names (`AreFor`), computed
 abbrev pub are_for : List (List ℕ) → List VarBind → Bool
 are_for [] [] = true
 are_for [] (p ∷ more) = false
@@ -182,14 +181,15 @@ are_for (o ∷ names) [] = false
 are_for (o ∷ names) (p ∷ more) = (pointwise nat_eq p.name (wire o) && not
     (is_end p.value)) && are_for names more
 
--- what a reply brings, computed
+-- what a reply means to a Get of these names (`MeansToGet`), computed
 abbrev pub answers_of : List (List ℕ) → Message → Result (List VarBind) WalkEnd
 answers_of names m =
     if int_eq m.a (pos 0)
     then (if are_for names m.bindings then Ok m.bindings else Err ending.BadReply)
     else Err (ending.Fault m.a m.b)
 
--- what a reply means to a Get: all its bindings and the end, or the end without them
+-- the step that a reply means to a Get of `count` names: it ends the Get, with all its bindings or
+-- without them
 abbrev pub step_of : ℕ → Result (List VarBind) WalkEnd → Step
 step_of count (Ok rows) = step.Last rows (ending.Done count)
 step_of count (Err end) = step.Last [] end

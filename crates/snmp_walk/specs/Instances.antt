@@ -3,11 +3,11 @@ use Rattle.std.specs.Prelude.{◌≡◌, ◌≢◌, ◌⊎◌, ℕ, List}
 use Rattle.snmp_oid.specs.Identifier.{IsBelow}
 use Rattle.snmp_wire.specs.Message.{VarBind, no_such_object, no_such_instance, end_of_mib_view}
 
--- the binding is an instance below the root
+-- b is an instance below the root
 pub record IsInside (root : List ℕ) (b : VarBind) : Type 0 where
   pub below : IsBelow b.name root
   pub value : b.value ≢ end_of_mib_view
 
--- noSuchObject or noSuchInstance stands in place of a value
+-- b has noSuchObject or noSuchInstance in place of a value
 abbrev pub IsMissing : VarBind → Type 0
 IsMissing b = (b.value ≡ no_such_object) ⊎ (b.value ≡ no_such_instance)

@@ -14,8 +14,8 @@ use Rattle.snmp_walk.specs.declared.loose.Way.TheVariants as way
 
 -- ---- ways to reply
 
--- The request has one name, with the value Null, as a request of a walk has. If it is a GetBulk, it
--- has no non-repeaters, and asks for one repetition at least.
+-- q asks for one name, with the value NULL, as a request of a walk does. If it is a GetBulk, it
+-- has no non-repeaters and asks for at least one repetition.
 pub record AsksForOne (q : Message) : Type 0 where
   pub name : List ℕ
   pub bindings : q.bindings ≡ asking name ∷ []
@@ -25,16 +25,16 @@ pub record AsksForOne (q : Message) : Type 0 where
 abbrev pub general_error : ℤ
 general_error = pos 5
 
--- the Response to a request whose first variable can't be read, with the request's own bindings
--- (4.2.1 to 4.2.3)
+-- the Response to q if its first variable can't be read, with the bindings of q (4.2.1 to 4.2.3)
 abbrev pub failed : Message → Message
 failed q = response q general_error (pos 1) q.bindings
 
--- the request with this max-repetitions
+-- the request q with max-repetitions n
 abbrev pub with_repetitions : ℕ → Message → Message
 with_repetitions n q = record q { b = pos n }
 
--- the element with its length in five octets, by the long form (X.690, 8.1.3.5)
+-- `longer` is the element `reply` with its length in five octets, by the long form (X.690,
+-- 8.1.3.5)
 pub record IsLengthened (reply longer : List ℕ) : Type 0 where
   pub content : List ℕ
   pub same : IsElement sequence_tag content reply
@@ -44,9 +44,9 @@ pub record IsLengthened (reply longer : List ℕ) : Type 0 where
   pub are_octets : AreOctets size
   pub parts : longer ≡ sequence_tag ∷ size ++ content
 
--- In this way the octets are sent in place of the agent's reply to the request: genErr, if it fits;
--- the reply to n repetitions, if the request is a GetBulk for more; the reply in another encoding,
--- if there is room for four octets more.
+-- In this way, `octets` are sent in place of the agent's reply to q: genErr, if it fits; the reply
+-- to n repetitions, if q is a GetBulk for more; the reply in another encoding, if there is room
+-- for four octets more.
 abbrev pub Replaces : Agent → Way → (q : Message) → (reply octets : List ℕ) → Type 0
 Replaces agent way.Whole q reply octets = ⊥
 Replaces agent way.GenErr q reply octets = AsksForOne q × Fits agent.max_size (failed q)
@@ -56,8 +56,8 @@ Replaces agent (way.Fewer n) q reply octets = AsksForOne q × (q.kind ≡ kind.G
 Replaces agent way.LongLength q reply octets = AsksForOne q × (length reply + 4 ≤ agent.max_size)
     × IsLengthened reply octets
 
--- In this way the agent sends these octets to the datagram: what replaces its reply, or the reply if
--- nothing does.
+-- In this way, the agent sends `octets` in reply to the datagram: what replaces its reply, or the
+-- reply if nothing does.
 pub record IsSentIn (agent : Agent) (way : Way) (datagram octets : List ℕ) : Type 0 where
   pub request : Message
   pub encoded : Spells request datagram
@@ -68,40 +68,40 @@ pub record IsSentIn (agent : Agent) (way : Way) (datagram octets : List ℕ) : T
 
 -- ---- the link
 
--- the agent at its other end
+-- the agent at the other end of the link
 abbrev pub agent_at : LooseLink → Agent
 agent_at link = agent_of link.table.now link.config
 
--- the same agent, as those of a link
+-- the same agent, as the agents of a link
 abbrev pub agents_at : LooseLink → Agents
 agents_at link = agents_over (link.table.now ∷ []) link.config
 
--- the datagram that was sent last, and no octets before the first
+-- the datagram that was sent last; empty before the first
 abbrev pub last_sent : LooseLink → List ℕ
 last_sent link = link.request.items
 
--- the ways that it hasn't used
+-- the ways that aren't used yet
 abbrev pub ways_left : LooseLink → List Way
 ways_left link = drop link.used link.ways.now
 
--- the next way, and those after it; after the last each is `Whole`
+-- `next` is the next way, and `left` are those after it; after the last, each way is `Whole`
 abbrev pub IsNextWay : List Way → Way → (left : List Way) → Type 0
 IsNextWay [] next left = (next ≡ way.Whole) × (left ≡ [])
 IsNextWay (first ∷ more) next left = (next ≡ first) × (left ≡ more)
 
--- a fault changes neither the agent, nor the datagram sent last, nor the ways
+-- a call that fails leaves the agent, the datagram sent last and the ways unchanged
 pub record IsUnchanged (old new : LooseLink) : Type 0 where
   pub agent : agent_at new ≡ agent_at old
   pub last : last_sent new ≡ last_sent old
   pub ways : ways_left new ≡ ways_left old
 
--- a send stores the datagram in place of the one before
+-- a send stores `datagram` in place of the one before
 pub record IsSentOver (old : LooseLink) (datagram : List ℕ) (new : LooseLink) : Type 0 where
   pub agent : agent_at new ≡ agent_at old
   pub last : last_sent new ≡ datagram
   pub ways : ways_left new ≡ ways_left old
 
--- a receive uses the next way, and changes nothing else
+-- a receive uses the next way and changes nothing else
 pub record UsesWay (old : LooseLink) (used : Way) (new : LooseLink) : Type 0 where
   pub agent : agent_at new ≡ agent_at old
   pub last : last_sent new ≡ last_sent old

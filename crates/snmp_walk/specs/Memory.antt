@@ -1,4 +1,4 @@
--- What is kept of a link to an agent in memory.
+-- The state of a `MemoryLink`, and what its calls change.
 use Rattle.std.specs.Prelude.{◌≡◌, ℕ, ◌+◌, ◌<◌, ◌≤◌, ◌⊎◌, List, [], ◌∷◌, ◌++◌, length, drop, Option}
 use Rattle.std.specs.Prelude.{Some, None}
 use Rattle.std.specs.List.{slice_get}
@@ -7,7 +7,7 @@ use Rattle.snmp_agent.specs.{declared.config.Why.Why, Reply.IsReply, Reply.IsDro
 use Rattle.snmp_walk.specs.{declared.memory.MemoryLink.MemoryLink, Link.Agents, Link.AreLawful}
 use Rattle.snmp_walk.specs.{Link.agent_in, Traffic.Traffic, Traffic.datagram_at}
 
--- the agents of these tables
+-- the agents that serve these tables
 abbrev pub agents_over : List MibView → Config → Agents
 agents_over tables config = record {
   tables = tables;
@@ -19,24 +19,25 @@ agents_over tables config = record {
 abbrev pub agents_of : MemoryLink → Agents
 agents_of link = agents_over link.tables.now link.config
 
--- the datagrams sent over the link, and the deliveries that it hasn't used
+-- the datagrams sent over the link, and the deliveries that aren't used yet
 abbrev pub traffic_of : MemoryLink → Traffic
 traffic_of link = record {
   sent = link.arena.datagrams;
   ahead = drop link.used link.deliveries.now;
 }
 
--- its agents are lawful
+-- the agents of `link` are lawful
 pub record IsHonest (link : MemoryLink) : Type 0 where
   pub lawful : AreLawful (agents_of link)
 
--- there is memory for `sends` more datagrams of `octets` octets together
+-- `link` has memory for `sends` more datagrams of `octets` octets in total
 pub record IsReadyFor (link : MemoryLink) (sends octets : ℕ) : Type 0 where
   pub places : sends ≤ link.arena.places
   pub room : octets ≤ link.arena.room
 
--- The next delivery is the reply to the datagram of this number, or nothing, and then the number is
--- 0; after the last of them it is the reply to the latest datagram. `left` are those after it.
+-- `number` is that of the datagram whose reply the next delivery delivers, or 0 if it delivers
+-- nothing. If no delivery is ahead, it is that of the latest datagram. `left` are the deliveries
+-- after it.
 abbrev pub IsNextNumber : List (List ℕ) → (ahead : List (Option ℕ)) → ℕ
     → (left : List (Option ℕ)) → Type 0
 IsNextNumber sent ahead number left =
@@ -44,9 +45,8 @@ IsNextNumber sent ahead number left =
     ⊎ (((ahead ≡ None ∷ left) × (number ≡ 0))
     ⊎ ((ahead ≡ []) × (left ≡ []) × (number ≡ length sent)))
 
--- The agent's table for the datagram of this number, which counts from 1, is the one whose place is
--- the item of `uses` of this number. Past the end of `uses` it is the last table. Places count from
--- 0.
+-- Datagram `number`, counted from 1, is answered from the table `view`: the one at the index
+-- `uses[number - 1]` in `tables`, or the last table if `uses` has fewer items.
 abbrev pub IsTableFor : List MibView → (uses : List ℕ) → (number : ℕ) → MibView → Type 0
 IsTableFor tables uses number view =
     ((before : ℕ) × (place : ℕ) × (number ≡ before + 1) × (slice_get uses before ≡ Some place)
@@ -54,7 +54,7 @@ IsTableFor tables uses number view =
     ⊎ ((length uses < number)
     × ((front : List MibView) × (tables ≡ front ++ view ∷ [])))
 
--- the octets are the reply to the datagram of this number, by the agent of the table for it
+-- `octets` are the reply to datagram `number`, by the agent of the table for it
 pub record IsReplyOf (agents : Agents) (uses : List ℕ) (sent : List (List ℕ)) (number : ℕ)
     (octets : List ℕ) : Type 0 where
   pub datagram : List ℕ
@@ -63,7 +63,7 @@ pub record IsReplyOf (agents : Agents) (uses : List ℕ) (sent : List (List ℕ)
   pub serves : IsTableFor agents.tables uses number view
   pub reply : IsReply (agent_in agents view) datagram octets
 
--- there is no datagram of this number, or the agent of the table for it has no reply to it
+-- datagram `number` doesn't exist, or the agent of the table for it has no reply to it
 abbrev pub HasNoReplyOf : Agents → (uses : List ℕ) → (sent : List (List ℕ)) → (number : ℕ)
     → Type 0
 HasNoReplyOf agents uses sent number =
@@ -72,33 +72,33 @@ HasNoReplyOf agents uses sent number =
     × (datagram_at sent number ≡ Some datagram) × IsTableFor agents.tables uses number view
     × IsDropped (agent_in agents view) datagram why)
 
--- a send adds the datagram to those sent; agents, uses and deliveries stay the same
+-- a send appends `datagram` to those sent; agents, uses and deliveries are unchanged
 pub record IsSentOver (old : MemoryLink) (datagram : List ℕ) (new : MemoryLink) : Type 0 where
   pub agents : agents_of new ≡ agents_of old
   pub uses : new.uses.now ≡ old.uses.now
   pub sent : (traffic_of new).sent ≡ (traffic_of old).sent ++ datagram ∷ []
   pub ahead : (traffic_of new).ahead ≡ (traffic_of old).ahead
 
--- a receive uses the next delivery, which is for the datagram of this number; agents, uses and
--- datagrams sent stay the same
+-- a receive uses the next delivery, which is for datagram `number`; agents, uses and datagrams
+-- sent are unchanged
 pub record UsesDelivery (old : MemoryLink) (number : ℕ) (new : MemoryLink) : Type 0 where
   pub agents : agents_of new ≡ agents_of old
   pub uses : new.uses.now ≡ old.uses.now
   pub sent : (traffic_of new).sent ≡ (traffic_of old).sent
   pub next : IsNextNumber (traffic_of old).sent (traffic_of old).ahead number (traffic_of new).ahead
 
--- a receive brings the reply to the datagram whose number the next delivery gives
+-- a receive returns `octets`, the reply to the datagram that the next delivery names
 abbrev pub IsBroughtBy : MemoryLink → List ℕ → MemoryLink → Type 0
 IsBroughtBy old octets new = (number : ℕ) × UsesDelivery old number new
     × IsReplyOf (agents_of old) old.uses.now (traffic_of old).sent number octets
 
--- a receive brings nothing, since there is no such reply
+-- a receive returns nothing: the next delivery names no datagram, or one without a reply
 abbrev pub IsSilentBy : MemoryLink → MemoryLink → Type 0
 IsSilentBy old new = (number : ℕ) × UsesDelivery old number new
     × HasNoReplyOf (agents_of old) old.uses.now (traffic_of old).sent number
 
--- A fault changes neither agents nor traffic nor which table replies to which datagram, and leaves
--- the memory that was there.
+-- A call that fails changes neither agents nor traffic, nor which table replies to which datagram.
+-- Memory that was reserved stays reserved.
 pub record IsAfterFault (old new : MemoryLink) : Type 0 where
   pub agents : agents_of new ≡ agents_of old
   pub uses : new.uses.now ≡ old.uses.now

@@ -1,4 +1,4 @@
--- What happens on a network in memory.
+-- The state of a network in memory, and what can happen on it.
 use Rattle.std.specs.Prelude.{◌≡◌, ◌+◌, ◌<◌, ℕ, List, [], ◌∷◌, ◌++◌, length, drop, Option, Some}
 use Rattle.std.specs.Prelude.{None}
 use Rattle.snmp_agent.specs.Event.{came, silence, receive_failed, sent, send_failed}
@@ -15,21 +15,22 @@ requests_of network = network.requests.datagrams
 abbrev pub replies_of : MemoryNetwork → List (List ℕ)
 replies_of network = network.replies.datagrams
 
--- the deliveries that are still to come
+-- the deliveries that aren't used yet
 abbrev pub ahead_of : MemoryNetwork → List Delivery
 ahead_of network = drop network.used network.deliveries.now
 
--- The agent receives the datagram of this number, which counts from 1, or none where that is 0;
--- then these deliveries are left. After the last it is the latest datagram.
+-- The agent's next receive returns the datagram with this number, counted from 1, or nothing if it
+-- is 0, and `left` are the deliveries after it. After the last delivery, it returns the latest
+-- datagram.
 abbrev pub IsNextRequest : (requests : List (List ℕ)) → (ahead : List Delivery) → (number : ℕ)
     → (left : List Delivery) → Type 0
 IsNextRequest requests [] number left = (number ≡ length requests) × (left ≡ [])
 IsNextRequest requests (delivery.Request k ∷ more) number left = (number ≡ k) × (left ≡ more)
 IsNextRequest requests ahead number left = (number ≡ 0) × (left ≡ ahead)
 
--- The walk receives the datagram of this number, or none if that is 0, or its receive fails if there
--- is no number; then these deliveries are left. After the last it is what the agent's last turn
--- answered.
+-- The walk's next receive returns the datagram with this number, counted from 1, or nothing if it
+-- is 0; without a number it fails. `left` are the deliveries after it. After the last delivery, it
+-- returns what the agent sent in its last turn.
 abbrev pub IsNextReply : (answer : Option ℕ) → (ahead : List Delivery) → (next : Option ℕ)
     → (left : List Delivery) → Type 0
 IsNextReply answer [] next left = (next ≡ answer) × (left ≡ [])
@@ -37,20 +38,20 @@ IsNextReply answer (delivery.Reply k ∷ more) next left = (next ≡ Some k) × 
 IsNextReply answer (delivery.Nothing ∷ more) next left = (next ≡ Some 0) × (left ≡ more)
 IsNextReply answer ahead next left = (next ≡ Some 0) × (left ≡ ahead)
 
--- how many of the deliveries come before the first that isn't a request
+-- the number of deliveries before the first that isn't a request
 abbrev pub leading_requests : List Delivery → ℕ
 leading_requests [] = 0
 leading_requests (delivery.Request k ∷ more) = leading_requests more + 1
 leading_requests _ = 0
 
--- the datagrams that the agent sent by this
+-- the datagrams that the agent sent by this event: one or none
 abbrev pub replies_by : Happening (Unit {0}) → List (List ℕ)
 replies_by (at_agents (sent peer d)) = d ∷ []
 replies_by _ = []
 
--- A receive uses the next delivery, and these are left: it brings the datagram of that number
--- whole, or nothing where there is none, or fails, that of the agent only where the datagram is
--- longer than any over UDP. A send uses none.
+-- A receive uses the next delivery, and `left` are those after it. It returns the datagram with
+-- that number whole, or nothing if there is none, or fails. The agent's receive fails only if the
+-- datagram is longer than any over UDP. A send uses no delivery.
 abbrev pub Uses : MemoryNetwork → Happening (Unit {0}) → (left : List Delivery) → Type 0
 Uses old (at_walk (came peer d)) left =
     (number : ℕ) × IsNextReply old.answer (ahead_of old) (Some number) left
@@ -71,8 +72,8 @@ Uses old (at_agents receive_failed) left =
     × (d : List ℕ) × (datagram_at (requests_of old) number ≡ Some d) × (65507 < length d)
 Uses old _ left = left ≡ ahead_of old
 
--- the number of the reply that the agent sent in its last turn, 0 if it sent none, and none if its
--- receive or its send failed; `count` is the number of all replies so far
+-- the number of the reply that the agent sent in its last turn, after this event: 0 if it sent
+-- none, and none if its receive or its send failed; `count` is the number of all replies so far
 abbrev pub answer_after : (count : ℕ) → Happening (Unit {0}) → (answer : Option ℕ) → Option ℕ
 answer_after count (at_walk e) answer = answer
 answer_after count (at_agents (sent peer d)) answer = Some count
@@ -80,7 +81,7 @@ answer_after count (at_agents (send_failed peer d)) answer = None
 answer_after count (at_agents receive_failed) answer = None
 answer_after count (at_agents _) answer = Some 0
 
--- this may happen between the two states: what was sent so far is kept
+-- e can happen between the two states; what was sent before stays stored
 pub record Carries (old : MemoryNetwork) (e : Happening (Unit {0})) (new : MemoryNetwork) :
     Type 0 where
   pub requests : requests_of new ≡ requests_of old ++ requests_by e
@@ -93,6 +94,6 @@ pub record IsNew (network : MemoryNetwork) : Type 0 where
   pub requests : requests_of network ≡ []
   pub replies : replies_of network ≡ []
 
--- no delivery is left, so that the network loses and delays nothing
+-- no delivery is left, so that the network loses and delays nothing from now on
 abbrev pub IsPrompt : MemoryNetwork → Type 0
 IsPrompt network = ahead_of network ≡ []

@@ -1,23 +1,23 @@
--- How a run moves its link.
+-- How the requests of a run change its link.
 use Rattle.std.specs.Prelude.{◌≤◌, ◌<◌, ◌+◌, ◌*◌, ℕ, List, length, replicate}
 use Rattle.snmp_wire.specs.Message.{VarBind}
 use Rattle.snmp_walk.specs.{Moves.Moves, Run.AreTries, Run.IsEachSent, Run.Try, Run.sent_by}
 use Rattle.snmp_walk.specs.{Walker.Walker, declared.link.Link.Ghosts as LinkFacts}
 
--- sends of these datagrams in turn, and so many receives at most, took the link from one state to
--- the other, and the last of these calls failed if `failed` holds
+-- sends of the datagrams `tried`, in order, and at most `receives` receives took the link from
+-- `old` to `new`, and `failed` says whether the last of these calls failed
 abbrev pub IsMoved : {W : Type 0} → LinkFacts W → W → (tried : List (List ℕ)) → (receives : ℕ)
     → (failed : Type 0) → W → Type 0
 IsMoved {W} facts old tried receives failed new = Moves facts.keeps facts.honest facts.agents
     facts.traffic facts.fault_count facts.ready old tried receives failed new
 
--- at most 64 receives for each datagram sent, over a link that keeps these
+-- over a link that lists the datagrams sent, there are at most 64 receives for each of them
 abbrev pub AreFew : {W : Type 0} → LinkFacts W → W → (receives : ℕ) → W → Type 0
 AreFew {W} facts old receives new = facts.keeps old
     → receives + 64 * length (facts.traffic old).sent ≤ 64 * length (facts.traffic new).sent
 
--- requests of the walk that began as `first` and gave these rows moved the link so: their ids rise
--- by one, and each was tried 1 to `tries` times
+-- requests of the walk that began as `first` and passed on these rows took the link from `old` to
+-- `new`: their ids increase by one, and each was tried 1 to `tries` times
 pub record IsMovedByRequests {W : Type 0} (facts : LinkFacts W) (tries : ℕ) (first : Walker)
     (given : List VarBind) (old : W) (failed : Type 0) (new : W) : Type 0 where
   pub requests : List Try
@@ -29,7 +29,7 @@ pub record IsMovedByRequests {W : Type 0} (facts : LinkFacts W) (tries : ℕ) (f
 
 -- ---- for private functions
 
--- 1 to `tries` tries of this datagram moved the link so
+-- 1 to `tries` tries of this datagram took the link from `old` to `new`
 abbrev pub IsMovedByTries : {W : Type 0} → LinkFacts W → W → List ℕ → (tries : ℕ)
     → (failed : Type 0) → W → Type 0
 IsMovedByTries {W} facts old datagram tries failed new =

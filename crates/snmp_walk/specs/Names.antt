@@ -1,32 +1,33 @@
 -- Tests of names in a walk: which are below its root, and which come after another (RFC 3416,
--- section 4.2.2). By these two `Walk` picks rows of a table, as its laws say in words of names.
+-- section 4.2.2). `Walk` uses these two to pick the rows of a table; the laws of walks say the
+-- same in terms of names.
 use Rattle.std.specs.Prelude.{ℕ, Bool, true, false, ◌&&◌, not, nat_lt, List, length}
 use Rattle.std.specs.{List.starts_with, Bool.nat_eq, Ordering.nat_cmp, Ordering.is_lt}
 use Rattle.std.specs.Cmp.Lexicographic.{slice_cmp}
 use Rattle.snmp_wire.specs.Message.{Datum, VarBind}
 use Rattle.snmp_wire.specs.Message.Datum.{no_such_object, no_such_instance, end_of_mib_view}
 
--- the name begins with the root and is longer
+-- whether `name` begins with `root` and is longer
 abbrev pub is_below : List ℕ → List ℕ → Bool
 is_below name root = starts_with nat_eq name root && nat_lt (length root) (length name)
 
--- the second name comes after the first
+-- whether p comes after o
 abbrev pub comes_after : List ℕ → List ℕ → Bool
 comes_after o p = is_lt (slice_cmp nat_cmp o p)
 
 -- ---- for private functions
 
--- endOfMibView, in place of a value
+-- whether the value is endOfMibView
 abbrev pub is_end : Datum → Bool
 is_end end_of_mib_view = true
 is_end _ = false
 
--- noSuchObject or noSuchInstance, in place of a value
+-- whether the value is noSuchObject or noSuchInstance
 abbrev pub is_missing : Datum → Bool
 is_missing no_such_object = true
 is_missing no_such_instance = true
 is_missing _ = false
 
--- the binding is an instance below the root
+-- whether `binding` is an instance below `root`
 abbrev pub is_inside : List ℕ → VarBind → Bool
 is_inside root binding = not (is_end binding.value) && is_below binding.name root

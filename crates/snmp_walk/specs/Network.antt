@@ -11,46 +11,45 @@ use Rattle.snmp_wire.specs.{Message.Message, Spelling.Spells}
 use Rattle.snmp_walk.specs.Link.{Agents, OneOf, IsReplyFrom, agent_in}
 use Rattle.snmp_walk.specs.Responses.{IsResponseFrom}
 
--- What happens at one end of the network: at that of the walk, which has one peer, or at that of
--- the agents.
+-- an event at one end of the network: at the walk's end, which has one peer, or at the agents' end
 pub data Happening (Peer : Type 0) : Type 0 where
   at_walk : Event (Unit {0}) → Happening Peer
   at_agents : Event Peer → Happening Peer
 
--- what of it happened at the walk's end,
+-- the events at the walk's end of the network, in order
 abbrev pub of_walk : {Peer : Type 0} → List (Happening Peer) → List (Event (Unit {0}))
 of_walk [] = []
 of_walk (at_walk e ∷ more) = e ∷ of_walk more
 of_walk (at_agents e ∷ more) = of_walk more
 
--- and at that of the agents
+-- the events at the agents' end of the network, in order
 abbrev pub of_agents : {Peer : Type 0} → List (Happening Peer) → List (Event Peer)
 of_agents [] = []
 of_agents (at_walk e ∷ more) = of_agents more
 of_agents (at_agents e ∷ more) = e ∷ of_agents more
 
--- the datagrams that the walk sent, or tried to send: one whose send failed may have gone out
+-- the datagrams that the walk sent, or tried to send: one whose send failed may have arrived
 abbrev pub tried : List (Event (Unit {0})) → List (List ℕ)
 tried [] = []
 tried (sent peer d ∷ more) = d ∷ tried more
 tried (send_failed peer d ∷ more) = d ∷ tried more
 tried (_ ∷ more) = tried more
 
--- the datagrams that the walk sent by this
+-- the datagrams that the walk sent by this event: one or none
 abbrev pub requests_by : {Peer : Type 0} → Happening Peer → List (List ℕ)
 requests_by (at_walk (sent peer d)) = d ∷ []
 requests_by _ = []
 
--- the first of these events, if there is one, is a send: nothing is received before
+-- the first of these events, if there is one, is a send: nothing is received before it
 abbrev pub BeginWithSend : List (Event (Unit {0})) → Type 0
 BeginWithSend [] = Unit {0}
 BeginWithSend (sent peer d ∷ more) = Unit {0}
 BeginWithSend (send_failed peer d ∷ more) = Unit {0}
 BeginWithSend _ = ⊥
 
--- Each datagram that came to the walk, and encodes a message of this sort, is the reply of one of
--- the agents to a datagram that the walk had tried to send before, or encodes another Response that
--- it may send.
+-- Each datagram that arrived at the walk, and encodes a message of this sort, is the reply of one
+-- of the agents to a datagram that the walk had tried to send before, or encodes another Response
+-- that this agent may send to that.
 abbrev pub AreRepliesOf : (Message → Type 0) → Agents → List (Event (Unit {0})) → Type 0
 AreRepliesOf Sort agents events =
     (before after : List (Event (Unit {0}))) (peer : Unit {0}) (r : List ℕ)
@@ -58,65 +57,65 @@ AreRepliesOf Sort agents events =
     → (d : List ℕ) × OneOf (tried before) d
     × (IsReplyFrom agents d r ⊎ IsResponseFrom agents d m)
 
--- all that came are replies of the agents,
+-- each message that arrived is a reply of the agents
 abbrev pub AreReplies : Agents → List (Event (Unit {0})) → Type 0
 AreReplies agents events = AreRepliesOf (λ m. Unit {0}) agents events
 
--- or all but those with an error status, such as genErr, of which any may come
+-- each message that arrived is a reply of the agents, or has an error status, such as genErr
 abbrev pub AreRepliesOrErrors : Agents → List (Event (Unit {0})) → Type 0
 AreRepliesOrErrors agents events = AreRepliesOf (λ m. m.a ≡ pos 0) agents events
 
--- the agents sent the datagram to the peer, or tried to
+-- the agents sent d to the peer, or tried to
 abbrev pub IsTriedTo : {Peer : Type 0} → Peer → List (Happening Peer) → List ℕ → Type 0
 IsTriedTo peer run d = OneOf run (at_agents (sent peer d))
     ⊎ OneOf run (at_agents (send_failed peer d))
 
--- The network between a walk and its agents, to whom the walk is this peer, makes nothing up and
--- alters nothing, whatever it loses, repeats, delays or brings in another order, as UDP may (RFC
--- 768). Other peers may send the agents what they like, and no message of theirs comes to the walk.
+-- The network neither invents nor alters datagrams between the walk, which is the peer `walker` to
+-- the agents, and these. It may lose, repeat, delay and reorder them, as UDP may (RFC 768). Other
+-- peers may send the agents what they like, but no message of theirs arrives at the walk.
 pub record IsFaithful {Peer : Type 0} (walker : Peer) (run : List (Happening Peer)) : Type 0 where
-  -- a message that came to the walk was sent to it before by the agents,
+  -- a message that arrived at the walk was sent to it by the agents before,
   pub replies : (before after : List (Happening Peer)) (peer : Unit {0}) (d : List ℕ)
       → run ≡ before ++ at_walk (came peer d) ∷ after → (m : Message) → Spells m d
       → IsTriedTo walker before d
-  -- and a datagram that came to the agents from the walk was sent before by the walk
+  -- and a datagram that arrived at the agents from the walk was sent by the walk before
   pub requests : (before after : List (Happening Peer)) (d : List ℕ)
       → run ≡ before ++ at_agents (came walker d) ∷ after → OneOf (tried (of_walk before)) d
 
--- how an agent was served for a while: its table, how many turns, their counts, and what happened
--- in them
+-- how an agent was served for a while: its table, the number of turns, their counts, and the
+-- events in them
 pub record Service (Peer : Type 0) : Type 0 where
   pub view : MibView
   pub turns : ℕ
   pub served : Served
   pub events : List (Event Peer)
 
--- each of them served one of the agents
+-- each of these services served one of the agents
 abbrev pub AreServices : {Peer : Type 0} → Agents → List (Service Peer) → Type 0
 AreServices agents [] = Unit {0}
 AreServices agents (s ∷ more) = OneOf agents.tables s.view
     × AreTurns (agent_in agents s.view) s.turns s.served s.events × AreServices agents more
 
--- One after the other they did all that happened at the agents' end. A server that was started
--- again, or whose table changed, is another one.
+-- All events at the agents' end happened in these services, one after the other. A server that was
+-- started again, or whose table changed, is another service.
 pub record AreServed {Peer : Type 0} (agents : Agents) (run : List (Happening Peer)) : Type 0 where
   pub services : List (Service Peer)
   pub each : AreServices agents services
   pub in_turn : of_agents run ≡ flat_map (λ s. s.events) services
 
--- what a send of the walk was: the datagram was sent, or a fault
+-- the event of a send of the walk: the datagram was sent, or the send failed
 abbrev pub event_of_send : Result (Unit {0}) LinkFault → List ℕ → Event (Unit {0})
 event_of_send (Ok _) datagram = sent tt datagram
 event_of_send (Err _) datagram = send_failed tt datagram
 
--- and a receive: a datagram that came, silence, or a fault
+-- the event of a receive of the walk: a datagram arrived, or nothing did, or the receive failed
 abbrev pub event_of_got : Result (Option ℕ) LinkFault → List ℕ → Event (Unit {0})
 event_of_got (Ok (Some n)) buffer = came tt (take n buffer)
 event_of_got (Ok None) buffer = silence
 event_of_got (Err _) buffer = receive_failed
 
--- What a receive of the walk returned is what the agent has for this datagram, if there is one: its
--- reply, or nothing if it drops the datagram. The receive may fail.
+-- A receive of the walk returned what the agent has for this datagram, if there is one: its reply,
+-- or nothing if it drops the datagram. The receive may fail.
 abbrev pub RepliesTo : Agent → (request : Option (List ℕ)) → Event (Unit {0}) → Type 0
 RepliesTo agent request (came peer r) = (d : List ℕ) × (request ≡ Some d) × IsReply agent d r
 RepliesTo agent request silence = (request ≡ None)

@@ -1,4 +1,4 @@
--- What comes of a reply that was waited for: it is read, and its bindings are given to a sink.
+-- How the reply to a waiting request is read, and its rows are given to a sink.
 use Rattle.std.specs.Prelude.{◌≡◌, ℕ, true, List, [], ◌∷◌, ◌++◌, Result, Ok, Err, Option, Some}
 use Rattle.std.specs.Prelude.{None}
 use Rattle.snmp_wire.specs.{Message.VarBind, Message.Message, Spelling.Spells}
@@ -9,7 +9,7 @@ use Rattle.snmp_walk.specs.declared.rows.Step.TheVariants as step
 use Rattle.snmp_walk.specs.private.Course as heard
 use Rattle.snmp_walk.specs.Link.{Outcome, answered, missed, cut_off}
 
--- the bindings that a step gives
+-- the rows that a step passes on
 abbrev pub rows_in : Step → List VarBind
 rows_in step.Stray = []
 rows_in (step.Rows rows) = rows
@@ -17,12 +17,13 @@ rows_in (step.Last rows why) = rows
 
 -- ---- for private functions
 
--- whether a step ends the walk or the Get
+-- whether the walk or the Get continues after a step, or how it ends
 abbrev pub leads_to : Step → Heard
 leads_to (step.Last rows why) = heard.ends why
 leads_to _ = heard.goes_on
 
--- what came of a step whose bindings were given to the sink, until it refused one
+-- The rows of a step were given to the sink, which went from `before` to `after`, until it refused
+-- one. `what` says whether the walk or the Get continues then, or how it ends.
 pub data Delivers {S : Type 0} (takes : S → VarBind → Result (Unit {0}) SinkFault → S → Type 0)
     (given : Step) (before : S) (what : Heard) (after : S) : Type 0 where
   all_given : what ≡ leads_to given → Given takes before (rows_in given) after
@@ -32,7 +33,7 @@ pub data Delivers {S : Type 0} (takes : S → VarBind → Result (Unit {0}) Sink
       → Given takes before rows between → takes between p (Err fault) after
       → Delivers takes given before what after
 
--- the datagram encodes the reply of this community and request-id, which was read as one step
+-- `datagram` encodes the reply with this community and request-id, which was read as one step
 pub record IsReadAs {W S : Type 0} (datagram : List ℕ) (community : List ℕ) (id : ℕ)
     (reads : Message → Step → W → Type 0)
     (takes : S → VarBind → Result (Unit {0}) SinkFault → S → Type 0) (before : S) (new : W)
@@ -44,8 +45,8 @@ pub record IsReadAs {W S : Type 0} (datagram : List ℕ) (community : List ℕ) 
   pub read : reads message given new
   pub delivered : Delivers takes given before what after
 
--- what a call that waits for a reply returns, by what came: the reply, which was read, or nothing,
--- or that the link failed, which leave things as they were
+-- What a call returns that waits for a reply, by what came of the request. If the reply arrived,
+-- `IsReadSo` holds of it and of the result. If none did, or the link failed, `Same` holds.
 abbrev pub Tells : {X E : Type 0} → (IsReadSo : List ℕ → X → Type 0) → (Same : Type 0)
     → Result (Option X) E → Outcome → Type 0
 Tells IsReadSo Same (Ok (Some x)) what = (datagram : List ℕ) × (what ≡ answered datagram)

@@ -1,4 +1,4 @@
--- Where a walk begins, and which request it sends (RFC 3416, section 4.2).
+-- The state in which a walk begins, and the request that it sends (RFC 3416, section 4.2).
 use Rattle.std.specs.Prelude.{◌≡◌, ◌<◌, ℕ, ℤ, pos, unsigned_abs, List, [], ◌∷◌}
 use Rattle.snmp_oid.specs.Identifier.{wire}
 use Rattle.snmp_wire.specs.{Canon.canon, declared.kind.Kind.Kind, Message.Message, Name.asking}
@@ -10,12 +10,13 @@ use Rattle.snmp_walk.specs.declared.mode.Method.{Method}
 use Rattle.snmp_walk.specs.declared.mode.Method.TheVariants as method
 use Rattle.snmp_walk.specs.declared.mode.Phase.TheVariants as phase
 
--- a walk that includes its root begins with a Get of it, and any other with the instances after it
+-- A walk that includes its root begins with a Get of it, and any other with a request for the next
+-- instances.
 abbrev pub first_phase : Mode → Phase
 first_phase mode.Include = phase.First
 first_phase _ = phase.Rows
 
--- a walk before its first request
+-- the state of a walk before its first request
 abbrev pub started : List ℕ → Mode → Method → List ℕ → ℕ → Walker
 started root mode method community id = record {
   root = root;
@@ -28,7 +29,7 @@ started root mode method community id = record {
   count = 0;
 }
 
--- a walk that goes on after a name
+-- the state of a walk that is resumed after a name
 abbrev pub resumed : List ℕ → List ℕ → Method → List ℕ → ℕ → Walker
 resumed root after method community id = record {
   root = root;
@@ -41,23 +42,23 @@ resumed root after method community id = record {
   count = 0;
 }
 
--- how many bindings a request for the next instances asks for
+-- the number of bindings that a request for the next instances asks for
 abbrev pub asked_for : Method → ℕ
 asked_for method.Next = 1
 asked_for (method.Bulk repetitions) = unsigned_abs repetitions
 
--- the PDU of the waiting request: for the next instances by the method, and else a Get
+-- the kind of the waiting request: by the method for the next instances, otherwise a Get
 abbrev pub request_kind : Phase → Method → Kind
 request_kind phase.Rows method.Next = kind.GetNextRequest
 request_kind phase.Rows (method.Bulk repetitions) = kind.GetBulkRequest
 request_kind _ method = kind.GetRequest
 
--- its max-repetitions, and 0 where it has none
+-- the max-repetitions of the waiting request, or 0 if it has none
 abbrev pub request_repetitions : Phase → Method → ℤ
 request_repetitions phase.Rows (method.Bulk repetitions) = repetitions
 request_repetitions _ method = pos 0
 
--- the request that is waiting: one name, with the value Null
+-- the waiting request: one name, with the value NULL
 abbrev pub request_of : Walker → Message
 request_of w = record {
   version = pos 1;
@@ -69,8 +70,9 @@ request_of w = record {
   bindings = asking w.asked ∷ [];
 }
 
--- The datagram is the shortest encoding of a request with a lower id, as a run before sent. Its
--- reply has that id too, so a late one isn't the reply to a request of this id or a higher one.
+-- The datagram is the shortest encoding of a request with an id below `id`, as an earlier run may
+-- have sent it. Its reply has that id too, so that a late reply isn't taken for one to a request
+-- with `id` or a higher id.
 pub record IsOfLowerId (id : ℕ) (datagram : List ℕ) : Type 0 where
   pub request : Message
   pub in_range : IsMessageInRange request

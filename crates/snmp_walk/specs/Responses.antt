@@ -1,5 +1,5 @@
--- The Responses that RFC 3416, section 4.2, lets agents send to a walk or a Get, as they may differ
--- from those of `snmp_agent`.
+-- The Responses that RFC 3416, section 4.2, lets agents send to a walk or a Get. `snmp_agent`
+-- sends some of them.
 use Rattle.std.specs.Prelude.{pos, ◌≡◌, ℕ, ◌≤ℤ◌, List, [], ◌∷◌, length}
 use Rattle.snmp_wire.specs.declared.kind.Kind.TheVariants as kind
 use Rattle.snmp_wire.specs.Message.{VarBind, Message}
@@ -7,9 +7,9 @@ use Rattle.snmp_agent.specs.table.Table.{MibView, IsNext}
 use Rattle.snmp_agent.specs.Reply.{IsRequest, IsWhole, Fits, response, no_error, too_big}
 use Rattle.snmp_walk.specs.{Link.Agents, Link.OneOf, Standing.IsChain}
 
--- An agent of this table, whose messages have at most `max_size` octets, may send the Response:
--- what was asked for; tooBig, where that is longer; to a GetBulk of one name, at most
--- max-repetitions successors, each of the name before, and none only where the first has no room.
+-- An agent of this table, whose messages have at most `max_size` octets, may send the Response r
+-- to q: what was asked for; tooBig, if that is longer; or, to a GetBulk of one name, at most
+-- max-repetitions successors, each of the name before it, and none only if the first has no room.
 -- So it may send fewer than have room, and endOfMibView more than once.
 pub data MayRespond (view : MibView) (max_size : ℕ) (q r : Message) : Type 0 where
   whole : IsWhole view q r → MayRespond view max_size q r
@@ -22,7 +22,7 @@ pub data MayRespond (view : MibView) (max_size : ℕ) (q r : Message) : Type 0 w
       × (Fits max_size (response q no_error (pos 0) (first ∷ [])) → ⊥))
       → r ≡ response q no_error (pos 0) bindings → MayRespond view max_size q r
 
--- one of the agents may send the Response to the request in the datagram, in any encoding
+-- one of the agents may send the Response r to the request in the datagram, in any encoding
 pub record IsResponseFrom (agents : Agents) (datagram : List ℕ) (r : Message) : Type 0 where
   pub view : MibView
   pub one : OneOf agents.tables view

@@ -1,4 +1,4 @@
--- The requests of a walk, and how often each is sent.
+-- The requests of a walk, and how many times each is sent.
 use Rattle.std.specs.Prelude.{◌≡◌, ℕ, ◌+◌, ◌^◌, ◌<◌, ◌≤◌, ◌⊎◌, true, List, [], ◌∷◌, ◌++◌, length}
 use Rattle.std.specs.Prelude.{pos, replicate}
 use Rattle.snmp_wire.specs.{Message.VarBind, Message.Message, Canon.canon}
@@ -9,12 +9,12 @@ use Rattle.snmp_walk.specs.declared.mode.Phase.TheVariants as phase
 use Rattle.snmp_walk.specs.Request.{asked_for, request_of}
 use Rattle.std.specs.List.{list_any}
 
--- a request of the walk, and how often it was sent
+-- a request of a walk, by the walk's state, and how many times it was sent
 pub record Try : Type 0 where
   pub by : Walker
   pub times : ℕ
 
--- the datagrams that were sent
+-- the datagrams of these requests, as many times as each was sent
 abbrev pub sent_by : List Try → List (List ℕ)
 sent_by [] = []
 sent_by (t ∷ more) = replicate t.times (canon (request_of t.by)) ++ sent_by more
@@ -29,7 +29,8 @@ IsNameIn [] name = ⊥
 IsNameIn (p ∷ rows) name = (name ≡ p.name) ⊎ IsNameIn rows name
 
 -- A Get asks for the name that the walk begins from: the first request of a walk that includes its
--- root, and a later one of a plain walk. Others ask from that name, or from a name given.
+-- root, and the last one of a plain walk. Any other request asks from that name, or from the name
+-- of a row that was passed on.
 abbrev pub AsksFor : Walker → List VarBind → Phase → Walker → Type 0
 AsksFor first rows phase.First by = (by.asked ≡ first.asked) × (first.mode ≡ mode.Include)
     × (by.id ≡ first.id)
@@ -37,12 +38,13 @@ AsksFor first rows phase.Rows by = (by.asked ≡ first.asked) ⊎ IsNameIn rows 
 AsksFor first rows phase.Last by = (by.asked ≡ first.asked) × (first.mode ≡ mode.Plain)
 AsksFor first rows phase.Over by = ⊥
 
--- the walk that began as `first`, and gave these rows, asked by this request
+-- the walk that began as `first`, and passed on these rows, sent a request in state `by`
 pub record Asks (first : Walker) (rows : List VarBind) (by : Walker) : Type 0 where
   pub same : by ≡ record first { phase = by.phase; asked = by.asked; id = by.id; count = by.count }
   pub name : AsksFor first rows by.phase by
 
--- requests in turn, of ids that rise by one from this one on, each sent at most `tries` times
+-- the requests of a walk in order, with ids that increase by one from `id` on, each sent at most
+-- `tries` times
 abbrev pub AreTries : ℕ → Walker → List VarBind → ℕ → List Try → Type 0
 AreTries tries first rows id [] = Unit {0}
 AreTries tries first rows id (t ∷ more) =
@@ -51,12 +53,12 @@ AreTries tries first rows id (t ∷ more) =
 
 -- ---- for private functions
 
--- as many bindings as were asked for, or endOfMibView among them
+-- there are as many bindings as were asked for, or one of them is endOfMibView
 abbrev pub IsFull : Method → List VarBind → Type 0
 IsFull method bindings = (length bindings ≡ asked_for method)
     ⊎ (list_any (λ p. is_end p.value) bindings ≡ true)
 
--- where the agents have room for all bindings that are asked for, a reply without an error has them
+-- if the agents have room for all bindings that w asks for, a reply m without an error has them
 abbrev pub IsFullReply : Agents → Walker → Message → Type 0
 IsFullReply agents w m = HasRoomForAll agents w → w.phase ≡ phase.Rows → m.a ≡ pos 0
     → IsFull w.method m.bindings

@@ -11,17 +11,17 @@ use Rattle.snmp_walk.specs.declared.end.WalkEnd.{WalkEnd}
 use Rattle.snmp_walk.specs.declared.link.Link.{Ghosts as LinkFacts}
 use Rattle.snmp_walk.specs.declared.network.NetworkLink.{NetworkLink}
 
--- the agent at the other end, as a list of one
+-- the agent at the other end, as the agents of a link
 abbrev pub agents_at : {N : Type 0} → NetworkLink N → Agents
 agents_at {N} link = agents_over (link.table.now ∷ []) link.config
 
--- the table and the configuration of the agent are the same
+-- the table and the configuration of the agent are unchanged
 abbrev pub SameAgent : {N : Type 0} → (old new : NetworkLink N) → Type 0
 SameAgent {N} old new =
     agent_of new.table.now new.config ≡ agent_of old.table.now old.config
 
--- The agent had its turns, as many as the network says, and then this happened at the walk's end.
--- `carries` says what may happen between two states of the network.
+-- The agent had its turns, as many as the network says, and then e happened at the walk's end.
+-- `carries` says what can happen between two states of the network.
 abbrev pub IsServedBy : {N Peer : Type 0} → (carries : N → Happening Peer → N → Type 0)
     → (turn_count : N → ℕ) → (old : NetworkLink N) → Event (Unit {0}) → (new : NetworkLink N)
     → Type 0
@@ -31,15 +31,15 @@ IsServedBy {N} {Peer} carries turn_count old e new =
     × InTurn carries old.network (map at_agents events ++ at_walk e ∷ []) new.network
 
 -- What is known of a walk over a link to the agents at the other end of a network. `prompt` says
--- whether the network loses and delays nothing.
+-- that the network loses and delays nothing.
 pub record IsWalkServed {W : Type 0} (facts : LinkFacts W) (agents : Agents) (prompt : Type 0)
     (link after : W) (tries : ℕ) (first : Walker) (given refused : List VarBind) (end : WalkEnd) :
     Type 0 where
-  -- what `run_walk` promises of a walk over any link: how each request was tried, and for which
-  -- reason the walk ended
+  -- what `run_walk` promises of a walk over any link: how each request was tried, and why the walk
+  -- ended
   pub walked : IsWalkedOver facts link after tries first given refused end
-  -- Whatever the network loses, repeats and delays, each row given is the agent's next instance,
-  -- and what is given is a beginning of the walk, and all of it if the walk is done.
+  -- Whatever the network loses, repeats and delays, each row passed on is the agent's next
+  -- instance. The rows are a prefix of the walk, and all of it if the walk is done.
   pub served : GivenFacts agents (λ w. Unit {0}) first given refused end
   -- Over a network that loses and delays nothing, the walk is done unless the network or the sink
   -- fails, if each binding of the table has room and there are enough ids for its names.

@@ -1,25 +1,25 @@
--- What a sink was given: bindings whose calls returned Ok, each made in the state that the call
+-- What a sink was given: bindings whose calls returned `Ok`, each in the state that the call
 -- before left.
 use Rattle.std.specs.Prelude.{◌≡◌, List, [], ◌∷◌, Result, Ok, Err}
 use Rattle.snmp_wire.specs.Message.{VarBind}
 use Rattle.snmp_walk.specs.{declared.end.SinkFault.SinkFault, declared.end.WalkEnd.WalkEnd}
 use Rattle.snmp_walk.specs.declared.end.WalkEnd.TheVariants as ending
 
--- the bindings took the sink from one state to the other
+-- the sink took these bindings, and went from `old` to `new`
 abbrev pub Given : {S : Type 0} → (S → VarBind → Result (Unit {0}) SinkFault → S → Type 0) → S
     → List VarBind → S → Type 0
 Given {S} takes old [] new = new ≡ old
 Given {S} takes old (p ∷ more) new = (between : S) × takes old p (Ok tt) between
     × Given takes between more new
 
--- the sink refused one binding, and these are that one
+-- `refused` is one binding, which the sink refused
 abbrev pub Refused : {S : Type 0} → (S → VarBind → Result (Unit {0}) SinkFault → S → Type 0) → S
     → List VarBind → SinkFault → S → Type 0
 Refused {S} takes old refused fault new = (p : VarBind) × (refused ≡ p ∷ [])
     × takes old p (Err fault) new
 
--- the bindings were given, and then one was refused where the walk ended because of the sink, and
--- else none
+-- the sink took `rows`; if the walk ended because of it, it then refused the one binding in
+-- `refused`, which is otherwise empty
 abbrev pub Took : {S : Type 0} → (S → VarBind → Result (Unit {0}) SinkFault → S → Type 0) → S
     → (rows refused : List VarBind) → WalkEnd → S → Type 0
 Took {S} takes old rows refused (ending.Sink fault) new = (between : S)

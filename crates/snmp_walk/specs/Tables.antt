@@ -1,4 +1,4 @@
--- What a walk gives where the agent's table changes: each reply is that of one of several tables.
+-- What a walk returns if the agent's table changes: each reply is from one of several tables.
 use Rattle.std.specs.Prelude.{◌≡◌, ℕ, ◌+◌, ◌≤◌, ◌⊎◌, List, [], ◌∷◌, ◌++◌, length}
 use Rattle.snmp_oid.specs.Identifier.{IsBelow, Precedes}
 use Rattle.snmp_wire.specs.Message.{VarBind}
@@ -7,37 +7,37 @@ use Rattle.snmp_walk.specs.declared.mode.Mode.TheVariants as mode
 use Rattle.snmp_walk.specs.{Run.IsNameIn, Walk.rest_of, Walker.Walker, Room.HasRoomForEach}
 use Rattle.snmp_walk.specs.Link.{Agents, OneOf, IsGotFrom}
 
--- the name is below the root of the walk, and comes after the name that the walk begins from
+-- the name is below the walk's root, and comes after the name that the walk begins from
 abbrev pub IsBelowRoot : Walker → List ℕ → Type 0
 IsBelowRoot first name = IsBelow name first.root × Precedes first.asked name
 
--- the walk gives variables of this name: one below its root or, where it includes the root, that of
--- the root
+-- the walk returns variables with this name: it is below the root or, in a walk that includes the
+-- root, the root's own
 abbrev pub IsOfWalk : Walker → List ℕ → Type 0
 IsOfWalk first name = IsBelowRoot first name ⊎ ((first.mode ≡ mode.Include) × (name ≡ first.asked))
 
--- a variable of one of the tables that the walk gives
+-- p is a variable of one of the tables, with a name that the walk returns
 abbrev pub IsFromTable : Agents → Walker → VarBind → Type 0
 IsFromTable agents first p = (view : MibView) × OneOf agents.tables view × IsRow view p
     × IsOfWalk first p.name
 
--- Each binding given is a variable of one of the tables; or a plain walk gave one binding alone,
--- what a Get of the name that it begins from gives.
+-- Each binding returned is a variable of one of the tables; or a plain walk returned only the
+-- result of a Get of the name that it begins from.
 abbrev pub AreFromTables : Agents → Walker → List VarBind → Type 0
 AreFromTables agents first given =
     ((p : VarBind) → OneOf given p → IsFromTable agents first p)
     ⊎ ((first.mode ≡ mode.Plain) × (p : VarBind) × (given ≡ p ∷ [])
     × IsGotFrom agents first.asked p)
 
--- the table has a variable of this name
+-- the table has a variable with this name
 abbrev pub HasName : MibView → List ℕ → Type 0
 HasName view name = (p : VarBind) × IsRow view p × (p.name ≡ name)
 
--- each of the tables has a variable of this name
+-- each of the tables has a variable with this name
 abbrev pub IsInEach : Agents → List ℕ → Type 0
 IsInEach agents name = (view : MibView) → OneOf agents.tables view → HasName view name
 
--- one of the bindings has this name, and no other has
+-- exactly one of the bindings has this name
 pub record IsGivenOnce (given : List VarBind) (name : List ℕ) : Type 0 where
   pub before : List VarBind
   pub binding : VarBind
@@ -47,13 +47,13 @@ pub record IsGivenOnce (given : List VarBind) (name : List ℕ) : Type 0 where
   pub not_before : IsNameIn before name → ⊥
   pub not_behind : IsNameIn behind name → ⊥
 
--- these are all names below the root that one of the tables has, and maybe others
+-- `names` has every name below the root that one of the tables has, and maybe others
 abbrev pub HoldsNames : Agents → Walker → List (List ℕ) → Type 0
 HoldsNames agents first names = (view : MibView) → OneOf agents.tables view
     → (p : VarBind) → IsRow view p → IsBelowRoot first p.name → OneOf names p.name
 
--- The number k counts the names below the root: those of the rows that the one table has there, or
--- a list that holds those of several tables.
+-- k counts the names below the root: those of the rows that the one table has there, or those in a
+-- list that has the names of several tables.
 pub data CountsNames (agents : Agents) (first : Walker) (k : ℕ) : Type 0 where
   of_table : (view : MibView) → agents.tables ≡ view ∷ []
       → k ≡ length (rest_of first.root first.asked (variables view)) → CountsNames agents first k

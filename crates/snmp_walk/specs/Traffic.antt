@@ -1,18 +1,18 @@
--- What goes over a link: the datagrams sent, and which of their replies the next receives give.
+-- The traffic of a link: the datagrams sent over it, and what its next receives deliver.
 use Rattle.std.specs.Prelude.{◌≡◌, ◌≢◌, ℕ, zero, suc, ◌+◌, ◌⊎◌, List, [], ◌∷◌, ◌++◌, take, Option}
 use Rattle.std.specs.Prelude.{Some, None}
 use Rattle.std.specs.List.{slice_get}
 use Rattle.snmp_walk.specs.Link.{Agents, IsReplyFrom, IsUnanswered}
 
--- what was sent over a link, and what will be received
+-- the datagrams sent over a link, and the deliveries to come
 pub record Traffic : Type 0 where
   -- the datagrams sent, in order
   pub sent : List (List ℕ)
-  -- What the next receives give, in order: nothing, or the reply to the k-th datagram sent, counted
-  -- from 1. After these each receive gives the reply to the latest datagram.
+  -- What the next receives deliver, in order: nothing, or the reply to the k-th datagram sent,
+  -- counted from 1. After these, each receive delivers the reply to the latest datagram.
   pub ahead : List (Option ℕ)
 
--- the k-th datagram sent; there is none for 0
+-- the k-th datagram sent, counted from 1; none for 0
 abbrev pub datagram_at : List (List ℕ) → ℕ → Option (List ℕ)
 datagram_at sent zero = None
 datagram_at sent (suc k) = slice_get sent k
@@ -23,18 +23,18 @@ latest [] = None
 latest (d ∷ []) = Some d
 latest (d ∷ e ∷ more) = latest (e ∷ more)
 
--- the octets that were received, if any were: the front of the buffer
+-- what a receive returned: the first n octets of the buffer, or nothing
 abbrev pub received : Option ℕ → List ℕ → Option (List ℕ)
 received None buffer = None
 received (Some n) buffer = Some (take n buffer)
 
--- what the agents return for a datagram: a reply to it, or nothing where there is none
+-- what the agents return for a datagram: a reply to it, or nothing if one of them has none
 abbrev pub Gives : Agents → Option (List ℕ) → Option (List ℕ) → Type 0
 Gives agents None reply = reply ≡ None
 Gives agents (Some datagram) None = IsUnanswered agents datagram
 Gives agents (Some datagram) (Some reply) = IsReplyFrom agents datagram reply
 
--- what one receive gives, and the deliveries that are left after it
+-- one receive delivers `reply`, and `left` are the deliveries after it
 abbrev pub Receives : Agents → (sent : List (List ℕ)) → (ahead : List (Option ℕ))
     → Option (List ℕ) → (left : List (Option ℕ)) → Type 0
 Receives agents sent [] reply left = (left ≡ []) × Gives agents (latest sent) reply
@@ -42,25 +42,26 @@ Receives agents sent (None ∷ next) reply left = (left ≡ next) × (reply ≡ 
 Receives agents sent (Some k ∷ next) reply left = (left ≡ next)
     × Gives agents (datagram_at sent k) reply
 
--- the delivery gives nothing
+-- this delivery delivers nothing
 abbrev pub IsNothing : Agents → List (List ℕ) → Option ℕ → Type 0
 IsNothing agents sent None = Unit {0}
 IsNothing agents sent (Some k) = Gives agents (datagram_at sent k) None
 
--- the delivery gives the reply to another datagram than this one
+-- this delivery delivers the reply to another datagram than q
 abbrev pub IsOther : Agents → List (List ℕ) → List ℕ → Option ℕ → Type 0
 IsOther agents sent q None = ⊥
 IsOther agents sent q (Some k) =
     (d : List ℕ) × (reply : List ℕ) × (datagram_at sent k ≡ Some d) × (d ≢ q)
     × IsReplyFrom agents d reply
 
--- the datagrams sent, once the request is sent again where tries are left
+-- the datagrams sent after q was sent again, or not if no tries are left
 abbrev pub resent : List (List ℕ) → List ℕ → ℕ → List (List ℕ)
 resent sent q zero = sent
 resent sent q (suc t) = sent ++ q ∷ []
 
--- The deliveries bring no reply to the request in `tries` tries, the first of which has received
--- `count` other replies: each try ends with a receive that gives nothing, or with its 64th.
+-- The deliveries are used up by exactly `tries` tries of the request q, and deliver no reply to
+-- it. The first of these tries has received `count` other replies. Each try ends with a receive
+-- that returns nothing, or with its 64th receive.
 abbrev pub Lost : Agents → List (List ℕ) → List ℕ → List (Option ℕ) → (tries count : ℕ) → Type 0
 Lost agents sent q [] tries count = tries ≡ 0
 Lost agents sent q (e ∷ more) zero count = ⊥

@@ -1,22 +1,22 @@
--- How a walk goes from row to row: each is what a GetNext of the name before it may give.
--- `Next o p` says that a GetNext of the name o may give the binding p, and `Got o p` that a Get of
--- o may. With one table that doesn't change there is one such binding for each name; with several,
--- one for each table.
+-- How a walk goes from row to row: each is what a GetNext of the name before it may return. `Next
+-- o p` says that a GetNext of the name o may return the binding p. With one table that doesn't
+-- change, there is one such binding for each name; with several tables, one for each of them.
 use Rattle.std.specs.Prelude.{ℕ, List, [], ◌∷◌}
 use Rattle.snmp_wire.specs.Message.{VarBind}
 use Rattle.snmp_walk.specs.Instances.{IsInside}
 
--- the name of the last binding, or the one before all of them
+-- the name of the last binding, or o if there is none
 abbrev pub last_name : List ℕ → List VarBind → List ℕ
 last_name o [] = o
 last_name o (p ∷ more) = last_name p.name more
 
--- each binding is one that a GetNext of the name before it may give, and an instance below the root
+-- each binding is one that a GetNext of the name before it may return, and an instance below the
+-- root
 abbrev pub IsTrail : (List ℕ → VarBind → Type 0) → List ℕ → List ℕ → List VarBind → Type 0
 IsTrail Next root o [] = Unit {0}
 IsTrail Next root o (p ∷ more) = Next o p × IsInside root p × IsTrail Next root p.name more
 
--- a binding that a GetNext of the name may give ends the walk: it has endOfMibView, or isn't below
--- the root
+-- a GetNext of o may return a binding that ends the walk: it has endOfMibView, or isn't below the
+-- root
 abbrev pub IsAtEnd : (List ℕ → VarBind → Type 0) → List ℕ → List ℕ → Type 0
 IsAtEnd Next root o = (p : VarBind) × Next o p × (IsInside root p → ⊥)

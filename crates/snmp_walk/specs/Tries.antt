@@ -1,5 +1,4 @@
--- How the tries of a request go over any link, each from the state in which the one before it
--- ended.
+-- The tries of a request over any link, each from the state in which the one before it ended.
 use Rattle.std.specs.Prelude.{◌≡◌, ◌<◌, ℕ, ◌⊎◌, List, [], ◌∷◌, length, Option, Some, None}
 use Rattle.snmp_agent.specs.Event.{Event, came, silence, receive_failed, sent, send_failed}
 use Rattle.snmp_wire.specs.{Message.Message, Spelling.Spells, Canon.canon}
@@ -8,13 +7,13 @@ use Rattle.snmp_walk.specs.{Walker.Walker, Request.request_of, Judged.IsResponse
 use Rattle.snmp_walk.specs.{Traffic.Receives, Moved.IsMoved, declared.link.Link.Ghosts as LinkFacts}
 use Rattle.snmp_walk.specs.Link.{OneOf, Outcome, answered, missed, cut_off}
 
--- the datagram doesn't encode the reply of this community and request-id: it encodes another
--- message, or none
+-- the datagram doesn't encode the reply with this community and request-id, but another message or
+-- none
 abbrev pub IsNotAwaited : List ℕ → ℕ → List ℕ → Type 0
 IsNotAwaited community id datagram = (m : Message) → Spells m datagram
     → IsResponseTo community id m → ⊥
 
--- the event may happen at the link, between these two of its states, as the link itself says
+-- the event can happen at the link between these two states, by the facts of the link
 abbrev pub Happens : {L : Type 0} → LinkFacts L → L → Event (Unit {0}) → L → Type 0
 Happens {L} facts old (sent peer datagram) new = facts.sends old datagram new
 Happens {L} facts old (send_failed peer datagram) new = facts.send_fails old datagram new
@@ -22,44 +21,46 @@ Happens {L} facts old (came peer datagram) new = facts.brings old datagram new
 Happens {L} facts old silence new = facts.is_silent old new
 Happens {L} facts old receive_failed new = facts.receive_fails old new
 
--- a send of the datagram, and one that failed, which left what was sent and what is ahead as it was
+-- the datagram was sent
 abbrev pub Sends : {L : Type 0} → LinkFacts L → L → List ℕ → L → Type 0
 Sends {L} facts old datagram new = facts.sends old datagram new
     × IsMoved facts old (datagram ∷ []) 0 ⊥ new
 
+-- a send of the datagram failed, and left what was sent and what is ahead as it was
 abbrev pub SendFails : {L : Type 0} → LinkFacts L → L → List ℕ → L → Type 0
 SendFails {L} facts old datagram new = facts.send_fails old datagram new
     × (facts.traffic new ≡ facts.traffic old) × IsMoved facts old (datagram ∷ []) 0 (Unit {0}) new
 
--- a receive gave this, and an honest link what its next delivery gives
+-- a receive returned this, and over an honest link what its next delivery delivers
 abbrev pub Gets : {L : Type 0} → LinkFacts L → L → Option (List ℕ) → L → Type 0
 Gets {L} facts old given new = IsMoved facts old [] 1 ⊥ new
     × (facts.honest old → Receives (facts.agents old) (facts.traffic old).sent
     (facts.traffic old).ahead given (facts.traffic new).ahead)
 
--- a receive that brought the datagram, one that brought nothing, and one that failed, which used no
--- delivery
+-- a receive returned the datagram
 abbrev pub Brings : {L : Type 0} → LinkFacts L → L → List ℕ → L → Type 0
 Brings {L} facts old datagram new = facts.brings old datagram new
     × Gets facts old (Some datagram) new
 
+-- a receive returned nothing
 abbrev pub BringsNothing : {L : Type 0} → LinkFacts L → L → L → Type 0
 BringsNothing {L} facts old new = facts.is_silent old new × Gets facts old None new
 
+-- a receive failed, and used no delivery
 abbrev pub ReceiveFails : {L : Type 0} → LinkFacts L → L → L → Type 0
 ReceiveFails {L} facts old new = facts.receive_fails old new
     × (facts.traffic new ≡ facts.traffic old) × IsMoved facts old [] 1 (Unit {0}) new
 
--- How a try ends after so many datagrams that weren't the reply: a receive brings it; or brings
--- nothing, or 64 had come; or fails.
+-- How a try ends after `strays` datagrams that weren't the reply: a receive returns the reply; or
+-- a receive returns nothing, or there were 64 datagrams; or a receive fails.
 abbrev pub EndsTry : {L : Type 0} → LinkFacts L → (strays : ℕ) → L → Outcome → L → Type 0
 EndsTry {L} facts strays old (answered datagram) new = (strays < 64) × Brings facts old datagram new
 EndsTry {L} facts strays old missed new = ((strays < 64) × BringsNothing facts old new)
     ⊎ ((strays ≡ 64) × (new ≡ old))
 EndsTry {L} facts strays old cut_off new = (strays < 64) × ReceiveFails facts old new
 
--- after a send, receives brought these datagrams in turn, none of them the reply, and then the try
--- ended so
+-- after a send, receives returned the datagrams `strays`, in order, none of them the reply, and
+-- then the try ended with this outcome
 pub record AreReceives {L : Type 0} (facts : LinkFacts L) (Other : List ℕ → Type 0) (old : L)
     (outcome : Outcome) (new : L) (strays : List (List ℕ)) : Type 0 where
   pub last : L
@@ -67,29 +68,30 @@ pub record AreReceives {L : Type 0} (facts : LinkFacts L) (Other : List ℕ → 
   pub others : (datagram : List ℕ) → OneOf strays datagram → Other datagram
   pub over : EndsTry facts (length strays) last outcome new
 
--- the request was sent, and what was received then ended the try so
+-- the request was sent, and what was received then ended the try with this outcome
 pub record IsTry {L : Type 0} (facts : LinkFacts L) (Other : List ℕ → Type 0) (request : List ℕ)
     (outcome : Outcome) (old : L) (strays : List (List ℕ)) (new : L) : Type 0 where
   pub between : L
   pub sent : Sends facts old request between
   pub received : AreReceives facts Other between outcome new strays
 
--- so many tries of the request missed the reply: each of these lists is what one of them received
+-- each of `tries` tries of the request missed the reply; each of the lists is what one of them
+-- received
 pub record AreMissed {L : Type 0} (facts : LinkFacts L) (Other : List ℕ → Type 0)
     (request : List ℕ) (tries : ℕ) (old new : L) : Type 0 where
   pub received : List (List (List ℕ))
   pub all : length received ≡ tries
   pub are_missed : InTurn (IsTry facts Other request missed) old received new
 
--- the last try of the request, whose sending may fail
+-- the last try of the request, whose send may fail
 abbrev pub IsLastTry : {L : Type 0} → LinkFacts L → (List ℕ → Type 0) → List ℕ → L → Outcome → L
     → Type 0
 IsLastTry {L} facts Other request old outcome new =
     ((strays : List (List ℕ)) × IsTry facts Other request outcome old strays new)
     ⊎ ((outcome ≡ cut_off) × SendFails facts old request new)
 
--- What came of the request in so many tries at most: each of them missed the reply, or fewer did
--- and one more ended so.
+-- What came of the request in at most `tries` tries: each of them missed the reply, or fewer did
+-- and one more ended with this outcome.
 abbrev pub AreTried : {L : Type 0} → LinkFacts L → (List ℕ → Type 0) → List ℕ → (tries : ℕ) → L
     → Outcome → L → Type 0
 AreTried {L} facts Other request tries old missed new = AreMissed facts Other request tries old new
@@ -98,7 +100,7 @@ AreTried {L} facts Other request tries old outcome new =
     × AreMissed facts Other request earlier old before
     × IsLastTry facts Other request before outcome new
 
--- what came of the request whose reply the walk w waits for, in so many tries at most
+-- what came of the request whose reply the walk w waits for, in at most `tries` tries
 abbrev pub IsTried : {L : Type 0} → LinkFacts L → (tries : ℕ) → Walker → L → Outcome → L → Type 0
 IsTried {L} facts tries w old outcome new = AreTried facts (IsNotAwaited w.community w.id)
     (canon (request_of w)) tries old outcome new

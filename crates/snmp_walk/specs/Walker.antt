@@ -1,4 +1,4 @@
--- What a walk knows between two datagrams.
+-- The state of a walk between two datagrams.
 use Rattle.std.specs.Int.{w32}
 use Rattle.std.specs.Prelude.{FitsSigned, All, ℕ, pos, ◌≤ℤ◌, ◌*◌, ◌^◌, ◌<◌, ◌≤◌, List, length}
 use Rattle.snmp_oid.specs.Identifier.{IsIdentifier, IsWire}
@@ -6,32 +6,32 @@ use Rattle.snmp_walk.specs.{declared.mode.Mode.Mode, declared.mode.Phase.Phase}
 use Rattle.snmp_walk.specs.declared.mode.Method.{Method}
 use Rattle.snmp_walk.specs.declared.mode.Method.TheVariants.{Next, Bulk}
 
--- a state of a walk, as contracts see it
+-- the state of a walk, as contracts see it
 pub record Walker : Type 0 where
   pub root : List ℕ
   pub mode : Mode
   pub method : Method
   pub community : List ℕ
-  -- which request is waiting
+  -- which of its requests is waiting
   pub phase : Phase
-  -- the name that it asks for, or after which it asks
+  -- the name that the waiting request asks for, or asks from
   pub asked : List ℕ
-  -- its id
+  -- the id of the waiting request
   pub id : ℕ
-  -- how many bindings were given
+  -- the number of bindings passed on
   pub count : ℕ
 
--- a GetBulk has at least 1 repetition
+-- a GetBulk has at least one repetition
 abbrev pub IsMethod : Method → Type 0
 IsMethod Next = Unit {0}
 IsMethod (Bulk repetitions) = pos 1 ≤ℤ repetitions
 
--- the repetitions of a GetBulk fit 32 bits with a sign: they are at most 2147483647
+-- the max-repetitions of a GetBulk is a signed number of 32 bits, and so at most 2147483647
 abbrev pub HasRange : Method → Type 0
 HasRange Next = Unit {0}
 HasRange (Bulk repetitions) = FitsSigned w32 repetitions
 
--- what is true of each state of a walk
+-- what holds of each state of a walk
 pub record IsWalker (w : Walker) : Type 0 where
   pub method : IsMethod w.method
   pub community : length w.community ≤ 255

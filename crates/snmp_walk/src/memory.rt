@@ -109,8 +109,8 @@ impl<'a> MemoryLink<'a> {
         }
     }
 
-    /// Reserves memory so that the next `sends` sends, of at most `octets` octets in total, succeed.
-    /// What was reserved before stays reserved, also if memory runs out.
+    /// Reserves memory so that the next `sends` sends, of at most `octets` octets in total,
+    /// succeed. What was reserved before stays reserved, also if memory runs out.
     pub fn reserve(&mut self, sends: usize, octets: usize) -> Result<(), AllocError>
         ensures ready { OnOk result (IsReadyFor self.new sends octets) }
         ensures kept { (s o : ℕ) → IsReadyFor self.old s o → IsReadyFor self.new s o }

@@ -14,8 +14,8 @@ use snmp_agent::{Config, Endpoint, Table, serve_at};
 /// It may lose, repeat, delay and reorder datagrams, as UDP may (RFC 768). It makes none up and
 /// alters none.
 pub trait Network: Endpoint {
-    ghost use Rattle.std.specs.Prelude.{◌≡◌, ◌≤◌, ◌++◌, ◌∷◌, [], ℕ, List, map, length, IfOk, IfSome};
-    ghost use Rattle.std.specs.Prelude.{OnErr, OnOk};
+    ghost use Rattle.std.specs.Prelude.{◌≡◌, ◌≤◌, ◌++◌, ◌∷◌, [], ℕ, List, map, length};
+    ghost use Rattle.std.specs.Prelude.{IfOk, IfSome, OnErr, OnOk};
     ghost use Rattle.snmp_io.specs.Count.{HasRisen};
     ghost use Rattle.snmp_agent.specs.Event.{Event, InTurn};
     ghost use Rattle.snmp_agent.specs.{Reply.Agent, Serving.AreTurns};

@@ -34,8 +34,8 @@ use snmp_wire::MAX_DATAGRAM;
 /// - `moved.few`: there are at most 64 receives for each datagram sent.
 /// - `later`: a later walk over the link may begin with the id after those of this one.
 ///
-/// Over an honest link, one that delivers only replies of its agents, if the requests that were sent
-/// over it before have lower ids:
+/// Over an honest link, one that delivers only replies of its agents, if the requests sent over it
+/// before have lower ids:
 ///
 /// - `judged.given`: the same as `happened.replied`. If the table changes during the walk and the
 ///   walk is done, each name that all the tables have is passed once (`common_at_done`).

@@ -1,10 +1,10 @@
--- Which replies may come while a request is tried over an honest link, for proofs.
+-- Which replies an honest link can deliver while a request is tried, for proofs.
 use Rattle.std.specs.Prelude.{◌≡◌, ℕ, ◌⊎◌, List}
 use Rattle.snmp_wire.specs.Canon.{canon}
 use Rattle.snmp_walk.specs.{Walker.Walker, Request.IsOfLowerId, Request.request_of}
 use Rattle.snmp_walk.specs.Link.{Agents, IsReplyFrom, OneOf}
 
--- `Other` holds of no reply to the request, and of each reply to another of the datagrams sent
+-- `Other` holds of no reply to q, and of each reply to another of the datagrams sent
 pub record IsAsked (agents : Agents) (Other : List ℕ → Type 0) (q : List ℕ) (sent : List
     (List ℕ)) : Type 0 where
   pub own : (octets : List ℕ) → IsReplyFrom agents q octets → Other octets → ⊥
@@ -15,6 +15,6 @@ pub record IsAsked (agents : Agents) (Other : List ℕ → Type 0) (q : List ℕ
 abbrev pub IsSentBefore : Walker → List ℕ → Type 0
 IsSentBefore w d = (d ≡ canon (request_of w)) ⊎ IsOfLowerId w.id d
 
--- each of these datagrams is such a request
+-- each of these datagrams is the waiting request, or a request with a lower id
 abbrev pub IsEarlier : List (List ℕ) → Walker → Type 0
 IsEarlier sent w = (d : List ℕ) → OneOf sent d → IsSentBefore w d

@@ -1,4 +1,4 @@
--- How the bindings of a reply are read one by one, for private clauses.
+-- How the rows at the start of a reply are read, one by one; for private clauses.
 use Rattle.std.specs.Prelude.{◌≡◌, ℕ, ◌+◌, List, [], ◌∷◌, if◌then◌else◌, Bool, ◌||◌, nat_lt}
 use Rattle.std.specs.Prelude.{Option, Some, None, length, take}
 use Rattle.std.specs.List.{list_any}
@@ -7,23 +7,23 @@ use Rattle.snmp_walk.specs.{declared.walker.Ending.Ending}
 use Rattle.snmp_walk.specs.{Names.is_inside, Names.is_missing, Names.comes_after, Trail.last_name}
 use Rattle.snmp_walk.specs.declared.walker.Ending.TheVariants as ending
 
--- what follows the instances that are read: nothing, a binding that ends the walk, or one below the
--- root whose name doesn't rise
+-- what follows the rows: nothing, a binding that isn't an instance below the root, or one that is,
+-- but whose name isn't greater
 pub data After : Type 0 where
   nothing : After
   leaving : After
   falling : (name : List ℕ) → After
 
--- the instances that are read, and what follows them
+-- the rows at the start of a reply, and what follows them
 pub record ReadFront : Type 0 where
   pub rows : List VarBind
   pub after : After
 
--- the binding, and what is read after it
+-- b, and then what is read after it
 abbrev pub before : VarBind → ReadFront → ReadFront
 before b front = record { rows = b ∷ front.rows; after = front.after }
 
--- what is read of bindings after the name `last`
+-- the rows at the start of these bindings, after the name `last`, and what follows them
 abbrev pub front_of : (root last : List ℕ) → List VarBind → ReadFront
 front_of root last [] = record { rows = []; after = nothing }
 front_of root last (b ∷ more) =
@@ -32,32 +32,32 @@ front_of root last (b ∷ more) =
     else record { rows = []; after = falling b.name })
     else record { rows = []; after = leaving }
 
--- how the binding after the name `last` ends what is read, if it does
+-- how the binding b, after the name `last`, continues or ends the rows
 abbrev pub ending_at : (root last : List ℕ) → VarBind → Ending
 ending_at root last b =
     if is_inside root b
     then (if comes_after last b.name then ending.GoesOn else ending.Falls)
     else ending.Leaves
 
--- the ending, with the name of the last binding that was read
+-- what follows the rows, with the name of the last binding that was read
 abbrev pub after_of : Ending → List ℕ → After
 after_of ending.GoesOn name = nothing
 after_of ending.Leaves name = leaving
 after_of ending.Falls name = falling name
 
--- this name, or the other where there is none
+-- the name, or `other` if there is none
 abbrev pub name_or : List ℕ → Option (List ℕ) → List ℕ
 name_or other None = other
 name_or other (Some name) = name
 
--- what is read was read so far: up to the name `last`, so many rows, all but these
+-- all of `front` but `left` was read: `rows` rows, up to the name `last`
 pub record IsReadTo (asked : List ℕ) (front : ReadFront) (last : List ℕ) (rows : ℕ)
     (left : ReadFront) : Type 0 where
   pub count : length front.rows ≡ rows + length left.rows
   pub name : last_name asked front.rows ≡ last_name last left.rows
   pub after : front.after ≡ left.after
 
--- all is read: so many rows, up to the name `last`, and this follows them
+-- all of `front` was read: `rows` rows, up to the name `last`, and `next` follows them
 pub record IsFrontOf (asked : List ℕ) (bindings : List VarBind) (front : ReadFront) (last : List ℕ)
     (rows : ℕ) (next : After) : Type 0 where
   pub count : length front.rows ≡ rows
@@ -65,7 +65,7 @@ pub record IsFrontOf (asked : List ℕ) (bindings : List VarBind) (front : ReadF
   pub name : last_name asked front.rows ≡ last
   pub after : front.after ≡ next
 
--- more bindings than there is room for, or noSuchObject or noSuchInstance among them
+-- whether there are more than `room` bindings, or noSuchObject or noSuchInstance among them
 abbrev pub is_misplaced : ℕ → List VarBind → Bool
 is_misplaced room bindings = nat_lt room (length bindings) || list_any
     (λ p. is_missing p.value) bindings

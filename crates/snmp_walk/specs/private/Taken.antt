@@ -1,5 +1,5 @@
--- What a message means to a walk, computed, for private clauses alone: public ones are stated by
--- the rules of `Judged`, which name just what is computed here.
+-- What a message means to a walk, computed. Only private clauses use it; public ones use the rules
+-- of `Judged`, which say the same.
 use Rattle.std.specs.Prelude.{ℕ, pos, Bool, true, false, ◌&&◌, not, ◌==◌, nat_lt}
 use Rattle.std.specs.Prelude.{if◌then◌else◌, ◌+◌, List, [], ◌∷◌, length, Option, Some, None}
 use Rattle.std.specs.{Bool.nat_eq, Ordering.int_eq, Cmp.Lexicographic.pointwise}
@@ -24,21 +24,21 @@ abbrev pub is_response : Kind → Bool
 is_response kind.Response = true
 is_response _ = false
 
--- the message is a Response of version 2c, of this community and this request-id
+-- whether m is a Response of SNMPv2c with this community and request-id
 abbrev pub awaits : List ℕ → ℕ → Message → Bool
 awaits community id m =
     int_eq m.version (pos 1) && pointwise nat_eq m.community community && is_response m.kind
     && int_eq m.id (pos id)
 
--- the message is the reply to the waiting request
+-- whether m is the reply to the waiting request
 abbrev pub is_awaited : Walker → Message → Bool
 is_awaited w m = not (is_over w.phase) && awaits w.community w.id m
 
--- the walk ends, after these bindings
+-- the walk passes on these rows and ends
 abbrev pub stops : Walker → List VarBind → WalkEnd → Step × Walker
 stops w rows why = (step.Last rows why, record w { phase = phase.Over })
 
--- the walk gives these bindings and sends its next request, with the next id, if there is one
+-- the walk passes on these rows and sends its next request, or ends if no id is left
 abbrev pub goes_on : Walker → Phase → List VarBind → Step × Walker
 goes_on w next rows =
     if nat_lt w.id 2147483647
@@ -57,27 +57,27 @@ abbrev pub is_plain : Mode → Bool
 is_plain mode.Plain = true
 is_plain _ = false
 
--- Nothing more is below the root: where a plain walk gave nothing it asks for the root itself, else
--- the walk is done.
+-- No more instances are below the root: a plain walk that has passed on nothing asks for the root
+-- itself, and any other walk is done.
 abbrev pub closes : Walker → List VarBind → Step × Walker
 closes w rows =
     if is_plain w.mode && (w.count + length rows == 0)
     then goes_on w phase.Last []
     else stops w rows (ending.Done (w.count + length rows))
 
--- the walk gives these rows at the front of a reply, by what follows them
+-- what the rows at the start of a reply mean, by what follows them
 abbrev pub reads_as : After → Walker → List VarBind → Step × Walker
 reads_as reading.nothing w rows = goes_on w phase.Rows rows
 reads_as reading.leaving w rows = closes w rows
 reads_as (reading.falling name) w rows =
     stops w rows (ending.NotIncreasing (last_name w.asked rows) name)
 
--- the bindings of a reply with the next instances, none of them out of place
+-- what the bindings of a reply with the next instances mean, if none is out of place
 abbrev pub reads : Walker → List VarBind → Step × Walker
 reads w bindings =
     let front = front_of w.root w.asked bindings in reads_as front.after w front.rows
 
--- a reply with the next instances
+-- what the bindings of a reply with the next instances mean
 abbrev pub reads_next : Walker → List VarBind → Step × Walker
 reads_next w [] = stops w [] (ending.NoProgress w.asked)
 reads_next w (b ∷ more) =
@@ -85,22 +85,23 @@ reads_next w (b ∷ more) =
     then stops w [] ending.BadReply
     else reads w (b ∷ more)
 
--- the one binding of a Get's reply: of the name asked for, and no endOfMibView
+-- the only binding of a reply to a Get, if it has the name asked for and isn't endOfMibView
 abbrev pub got : List ℕ → List VarBind → Option VarBind
 got asked [] = None
 got asked (b ∷ []) = if pointwise nat_eq b.name asked && not (is_end b.value) then Some b else None
 got asked (b ∷ c ∷ more) = None
 
--- the binding, where it has a value
+-- the binding, if it has a value
 abbrev pub if_present : VarBind → List VarBind
 if_present b = if is_missing b.value then [] else b ∷ []
 
--- the reply to the first request of a walk that includes the root, a Get of it
+-- what the reply to the first request of a walk that includes its root means, a Get of the root
 abbrev pub reads_first : Walker → Option VarBind → Step × Walker
 reads_first w None = stops w [] ending.BadReply
 reads_first w (Some b) = goes_on w phase.Rows (if_present b)
 
--- the reply to the last request of a plain walk that gave nothing, a Get of the root
+-- what the reply to the last request of a plain walk means that returned nothing, a Get of the
+-- root
 abbrev pub reads_last : Walker → Option VarBind → Step × Walker
 reads_last w None = stops w [] ending.BadReply
 reads_last w (Some b) = stops w (b ∷ []) (ending.Done (w.count + 1))
@@ -111,11 +112,11 @@ reads_for phase.Rows w bindings = reads_next w bindings
 reads_for phase.Last w bindings = reads_last w (got w.asked bindings)
 reads_for phase.Over w bindings = (step.Stray, w)
 
--- the reply that was waited for: an error status ends the walk, else its bindings decide
+-- what the reply m means: an error status ends the walk; without one, the bindings decide
 abbrev pub reads_reply : Walker → Message → Step × Walker
 reads_reply w m = if int_eq m.a (pos 0) then reads_for w.phase w m.bindings else stops w []
     (ending.Fault m.a m.b)
 
--- what a message means to a walk, and the walk after it
+-- what m means to the walk w, and the state of the walk after it
 abbrev pub take_of : Walker → Message → Step × Walker
 take_of w m = if is_awaited w m then reads_reply w m else (step.Stray, w)
