@@ -1,4 +1,4 @@
--- The request of a walk, written as its head and then the binding that asks for a name.
+-- The request of a walk, written as its head and then the binding with the requested name (`request_made`).
 use Rattle.std.proofs.Common.{◌≡◌, ◌≤◌, ◌+◌, List, ℕ, [], ◌++◌, length, take, length-append, append_assoc, sym, ap, ◌∙◌, arith}
 use Rattle.std.proofs.lemmas.List.{take_at}
 use Rattle.snmp_wire.specs.{Canon.canon, Canon.canon_binding, Canon.canon_head, Laws.HasPieces, Message.Message, Name.asking}

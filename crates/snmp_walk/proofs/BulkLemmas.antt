@@ -1,4 +1,4 @@
--- What a GetBulk of one name is given: each binding is the answer to a GetNext of the name before it.
+-- In the answer to a GetBulk of one name, each binding answers a GetNext of the name before it (`one_bulk`).
 use Rattle.std.proofs.{lemmas.Grind.common_steps, lemmas.Int.ints, lemmas.Bool.cases_lt, lemmas.Bool.or_right}
 use Rattle.std.proofs.Common.{◌≡◌, ◌≢◌, ◌⊎◌, inl, inr, true, false, ℕ, zero, suc, ◌<◌, ◌≤◌, ℤ, pos, negsuc, ◌≤ℤ◌, List, [], ◌∷◌, ◌++◌, length, take}
 use Rattle.std.proofs.Common.{drop, refl, sym, ◌∙◌, ap, subst, arith, length-append, append_assoc}
@@ -22,7 +22,7 @@ chain_by Next Other by o (p ∷ ps) h = (by o p h.0, chain_by Next Other by p.na
 
 -- ---- one name
 
--- the request of one name
+-- the bindings of a request for one name
 abbrev asked_of : List ℕ → List VarBind
 asked_of o = record { name = o; value = null_value } ∷ []
 
@@ -64,7 +64,7 @@ module _ (codec : Codec) (view : MibView) (good : IsMibView view) where
       let same : a.0 ≡ b.0 = one_after i o a.0 b.0 a.1 b.1 in
       one_next b.0.name p q (subst (λ (r : VarBind). IsNext view r.name p) same a.2) b.2
 
-  -- behind so many rounds this is the name that is asked for
+  -- o is the name reached from `asked` after this many rounds
   abbrev IsBehind : List ℕ → ℕ → List ℕ → Type 0
   IsBehind asked zero o = o ≡ asked
   IsBehind asked (suc i) o = (q : VarBind) × IsNextAfter view i asked q × (q.name ≡ o)

@@ -1,4 +1,4 @@
--- Over one table the facts of a run are about its rows.
+-- From what a run over any tables satisfies to what is promised over one table (`facts`, `send_facts`).
 use Rattle.std.proofs.Common.{◌≡◌, ◌≢◌, inl, inr, ℕ, ◌+◌, ◌*◌, ◌≤◌, ◌<◌, List, [], ◌∷◌, ◌++◌, length, sym, ◌∙◌, ap, subst, arith, length-append}
 use Rattle.std.proofs.Common.{Option}
 use Rattle.snmp_wire.specs.{Message.VarBind, Canon.canon}
@@ -36,7 +36,7 @@ lawful_whole : (agents : Agents) (Silent : Walker → Type 0) (first : Walker) (
 lawful_whole agents Silent first rows (ending.Done n) d h = h.5.1
 lawful_whole agents Silent first rows _ d h = absurd d
 
--- where no delivery was ahead, none was lost
+-- if no delivery was ahead, none lost the reply
 none_lost : (agents : Agents) (tries : ℕ) (old new : Traffic) (w : Walker) → 0 < tries → old.ahead ≡ [] → HasNoReply agents tries old new w → HasNone agents w
 none_lost agents tries old new w some none h = elim h.lost [
   | inl u ↦ u
@@ -52,13 +52,13 @@ none_lost agents tries old new w some none h = elim h.lost [
       absurd (omega (arith, some, zero_tries))
 ]
 
--- the same end, with what is known of silence
+-- a lawful end is lawful with a weaker statement about the state that got no reply
 pub lawful_by : (agents : Agents) (Silent Other : Walker → Type 0) (first : Walker) (rows : List VarBind) (end : WalkEnd) → ((w : Walker) → Silent w → Other w)
     → IsLawfulEnd agents Silent first rows end → IsLawfulEnd agents Other first rows end
 lawful_by agents Silent Other first rows ending.NoResponse by h = (h.0, h.1, h.2, by h.0 h.3)
 lawful_by agents Silent Other first rows _ by h = h
 
--- a trail has no more rows than there are names below the root
+-- a trail has at most as many rows as there are names below the root
 pub counted_few : Codec → (agents : Agents) → AreViews agents.tables → (first : Walker) → IsFresh first → (k : ℕ) → CountsNames agents first k
     → HasFew (IsNextFrom agents) first k
 counted_few codec agents views first fresh k (of_table view e is) =
@@ -115,7 +115,7 @@ module _ (codec : Codec) (agents : Agents) (Silent : Walker → Type 0) (first :
 module _ (codec : Codec) (agents : Agents) (tries : ℕ) (old new : Traffic) (first : Walker) (rows refused : List VarBind) (end : WalkEnd) (some : 0 < tries)
     (fresh : IsFresh first) (views : AreViews agents.tables) (part : IsPartOfWalk (IsNextFrom agents) (IsGotFrom agents) first (rows ++ refused))
     (lawful : IsLawfulEnd agents (HasNoReply agents tries old new) first rows end) where
-  -- nothing was lost
+  -- if no delivery was ahead, nothing was lost
   replied : old.ahead ≡ [] → IsLawfulEnd agents (HasNone agents) first rows end
   replied none = lawful_by agents (HasNoReply agents tries old new) (HasNone agents) first rows end
       (λ w h. none_lost agents tries old new w some none h) lawful
@@ -130,7 +130,7 @@ module _ (codec : Codec) (agents : Agents) (tries : ℕ) (old new : Traffic) (fi
         swift_end codec agents first views rooms k (counted_few codec agents views first fresh k counts) ids rows end (replied none);
   }
 
--- what a run sent
+-- the requests of a run satisfy `SendFacts`
 pub send_facts : Codec → (agents : Agents) (honest Roomy : Type 0) (tries : ℕ) (old new : Traffic) (first w : Walker) (rows given : List VarBind)
     (end : WalkEnd) → IsFresh first → IsWalker w
     → (h : Sends tries first rows old (w.id + 1) new)

@@ -1,4 +1,4 @@
--- Where a walk begins, and how a reply ends it.
+-- A fresh walk has made no progress (`fresh_stands`), and an honest reply ends a walk lawfully (`lawful_reply`).
 use Rattle.std.proofs.Common.{◌≡◌, ℕ, List, [], ◌++◌, refl, sym, ap, subst, arith, append-nil}
 use Rattle.std.proofs.lemmas.List.Elements.{All-nil}
 use Rattle.std.specs.Prelude.{◌≢◌}
@@ -9,7 +9,7 @@ use Rattle.snmp_walk.specs.declared.mode.Mode.TheVariants as mode
 use Rattle.snmp_walk.specs.declared.end.WalkEnd.TheVariants as ending
 use Rattle.snmp_walk.specs.Standing.{IsOpening, IsStage, IsPaced, Reaches, Ends, opening_gets}
 
--- before the first request
+-- a fresh walk has returned nothing and waits for the reply to its first request
 pub fresh_stands : (Next Got : List ℕ → VarBind → Type 0) (first : Walker) → IsFresh first → Reaches Next Got first first []
 fresh_stands Next Got first h =
     let at = by_mode first.mode refl in
@@ -36,7 +36,7 @@ fresh_stands Next Got first h =
           },
         )
 
--- a reply ends it lawfully
+-- if an honest reply ends the walk, the end is lawful
 pub lawful_reply : (agents : Agents) (Silent : Walker → Type 0) (first w : Walker) (given more : List VarBind) (why : WalkEnd)
     → BringsNone why more → Reaches (IsNextFrom agents) (IsGotFrom agents) first w given
     → Ends (IsNextFrom agents) (IsGotFrom agents) (IsTooLarge agents) first w (given ++ more) why

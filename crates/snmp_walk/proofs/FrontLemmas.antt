@@ -1,4 +1,4 @@
--- The front of a reply that a walk gives, read binding by binding.
+-- The rows at the start of a reply, as the loop reads them (`front_done`, `front_ended`).
 use Rattle.std.proofs.{lemmas.Grind.common_steps, lemmas.Bool.le-ltb, lemmas.Bool.cond_both}
 use Rattle.std.proofs.Common.{◌≡◌, ℕ, ◌+◌, Bool, true, false, cond, List, [], ◌∷◌, length, take, refl, sym, ◌∙◌, ap, subst, arith}
 use Rattle.std.specs.Prelude.{◌||◌}
@@ -11,7 +11,8 @@ use Rattle.snmp_walk.specs.declared.walker.Ending.TheVariants as ending
 use Rattle.snmp_walk.specs.private.Reading.{After, nothing, leaving, falling, ReadFront, before, front_of, ending_at, after_of, IsReadTo, IsFrontOf}
 use Rattle.snmp_walk.specs.private.Reading.{is_misplaced}
 
--- Facts of what is read, binding by binding.
+-- Induction over the bindings by what `front_of` reads: if P holds without bindings, and with one more binding in each of the three cases, it holds of all
+-- bindings.
 pub fronts_by : (root : List ℕ) (P : (o : List ℕ) → List VarBind → ReadFront → Type 0)
     → ((o : List ℕ) → P o [] (record { rows = []; after = nothing }))
     → ((o : List ℕ) (p : VarBind) (more : List VarBind) (front : ReadFront) → is_inside root p ≡ true → comes_after o p.name ≡ true
@@ -27,7 +28,7 @@ fronts_by root P none up falls leaves o (p ∷ more) =
     (λ i. cond_both (comes_after o p.name) _ _ (P o (p ∷ more)) (λ u. up o p more (front_of root p.name more) i u rest) (λ f. falls o p more i f))
     (λ f. leaves o p more f)
 
--- the rows are the first of the bindings, and all where nothing follows them
+-- the rows are the first of the bindings, and all of them if nothing follows them
 abbrev IsOf : List VarBind → ReadFront → Type 0
 IsOf bindings front = (take (length front.rows) bindings ≡ front.rows) × (front.after ≡ nothing → front.rows ≡ bindings)
 
@@ -36,7 +37,7 @@ front_taken root = fronts_by root (λ o. IsOf) (λ o. (refl, λ _. refl))
     (λ o p more front i u h. (ap (λ (s : List VarBind). p ∷ s) h.0, λ e. ap (λ (s : List VarBind). p ∷ s) (h.1 e)))
     (λ o p more i f. (refl, λ e. absurd cc)) (λ o p more f. (refl, λ e. absurd cc))
 
--- one more binding, by how it ends what is read
+-- one more binding is a row, or it ends the rows
 abbrev Read : VarBind → ReadFront → Bool → Bool → ReadFront
 Read b later is_in rises = cond is_in (cond rises (before b later) record { rows = []; after = falling b.name }) record { rows = []; after = leaving }
 
@@ -59,7 +60,7 @@ front_done root asked last rows all after h =
     let count : length (front_of root asked all).rows ≡ rows = omega (arith, h.count) in
     record { count = count; taken = rw (← count) (front_taken root asked all).0; name = h.name; after = h.after }
 
--- a loop over bindings: what is left of them, and what was read
+-- the loop has read `rows` bindings of `all`, up to the name `last`, and `left` are those that it hasn't read
 module _ (root asked last : List ℕ) (rows : ℕ) (b : VarBind) (all left more : List VarBind)
     (so_far : IsReadTo asked (front_of root asked all) last rows (front_of root last left)) (is : left ≡ b ∷ more) where
   pub front_ended : (e : Ending) → e ≡ ending_at root last b → (e ≡ ending.GoesOn → ⊥) → (name : List ℕ) → name ≡ b.name
@@ -80,14 +81,14 @@ some_read : (w : Walker) (bindings : List VarBind) → is_misplaced (asked_for w
 some_read w [] fine some = absurd (some refl)
 some_read w (b ∷ more) fine some = rw fine
 
--- how a reply is read, by what follows the instances at its front
+-- if the bindings aren't out of place, a reply is read by what follows the rows at its start
 module _ (w : Walker) (bindings : List VarBind) (fine : is_misplaced (asked_for w.method) bindings ≡ false) (last : List ℕ) (rows : ℕ) (after : After)
     (h : IsFrontOf w.asked bindings (front_of w.root w.asked bindings) last rows after) where
   read : (bindings ≡ [] → ⊥) → reads_next w bindings ≡ reads_as after w (take rows bindings)
   read some = some_read w bindings fine some ∙ ap (λ (a : After). reads_as a w (front_of w.root w.asked bindings).rows) h.after
       ∙ ap (reads_as after w) (sym h.taken)
 
-  -- of no bindings nothing is read
+  -- without bindings there are no rows, and nothing follows them
   none_read : bindings ≡ [] → (rows ≡ 0) × (after ≡ nothing)
   none_read none = let k = rw none at h in (sym k.count, sym k.after)
 
@@ -100,6 +101,6 @@ module _ (w : Walker) (bindings : List VarBind) (fine : is_misplaced (asked_for 
   pub read_falling : (name : List ℕ) → after ≡ falling name → reads_next w bindings ≡ stops w (take rows bindings) (walk_end.NotIncreasing last name)
   read_falling name e = grind (arith, common_steps, read, none_read)
 
--- a reply without bindings has none out of place
+-- in a reply without bindings none is out of place
 pub none_misplaced : (room : ℕ) → is_misplaced room [] ≡ false
 none_misplaced room = ap (λ (b : Bool). b || false) (le-ltb room 0 (omega arith))

@@ -1,4 +1,4 @@
--- How a Get ends, and what its bindings and its end are to the names that it asked for.
+-- The ends of a Get, and what each says of the names that it asked for (`front_of_reply`, `lost_get`).
 use Rattle.std.proofs.{lemmas.Grind.common_steps, lemmas.Bool.eqb-true, lemmas.Bool.false≢true, lemmas.List.map-append, lemmas.List.nil_from_length}
 use Rattle.std.proofs.Common.{◌≡◌, ◌≢◌, ◌⊎◌, inl, inr, ◌++◌, ◌<◌, ℕ, Bool, true, false, List, [], ◌∷◌, length, map, Result, Ok, Err, refl, sym, ◌∙◌}
 use Rattle.std.proofs.Common.{ap, subst, append_assoc, append-nil, length-append, arith, replicate}
@@ -23,7 +23,7 @@ use Rattle.snmp_agent.specs.{Reply.IsResponse, table.Table.MibView}
 use Rattle.snmp_walk.specs.Link as outcome
 use Rattle.snmp_walk.proofs.HonestLemmas.{IsAnsweredBy, answered_by}
 
--- whether bindings are for names
+-- whether bindings are for names, by one name and the others
 pub for_more : (o : List ℕ) (names : List (List ℕ)) (p : VarBind) (more : List VarBind)
     → ((p.name ≡ wire o) × (p.value ≡ end_of_mib_view → ⊥)) × AreFor names more → AreFor (o ∷ names) (p ∷ more)
 for_more o names p more h = grind (arith, common_steps)
@@ -48,7 +48,7 @@ for_decided (o ∷ names) (p ∷ more) =
     (Decides-not (is_end p.value) (end_decided p.value))) (for_decided names more))
 for_decided names bindings = ((λ e. absurd (false≢true e)), (λ h. let named = h.named in let no : ⊥ = cc in absurd no))
 
--- what a reply brings is what it means
+-- `answers_of` computes what a reply means to a Get
 pub means_to_get : (names : List (List ℕ)) (m : Message) → MeansToGet names m (answers_of names m)
 means_to_get names m = grind (arith, common_steps, Decides-int_eq, for_decided)
 
@@ -56,7 +56,7 @@ means_to_get names m = grind (arith, common_steps, Decides-int_eq, for_decided)
 abbrev pub MayEnd : Message → List (List ℕ) → WalkEnd → Type 0
 MayEnd request names end = IsEndOfGet (λ _ _. Unit {0}) (Unit {0}) (Unit {0}) request names end
 
--- the ends to which the reply leads
+-- the ends that come by the reply
 abbrev pub IsByReply : WalkEnd → Type 0
 IsByReply ending.RequestTooLong = ⊥
 IsByReply ending.NoResponse = ⊥
@@ -65,7 +65,7 @@ IsByReply _ = Unit {0}
 
 module _ {S : Type 0} (takes : S → VarBind → Result (Unit {0}) SinkFault → S → Type 0) (request : Message) (names : List (List ℕ))
     (Tried : Outcome → Type 0) (From : Message → Type 0) (before after : S) where
-  -- a Get ended so, for its own reason, once the sink was given these bindings, and refused that
+  -- the Get ended with `end`, for its own reason, after the sink was given `rows` and refused `refused`
   pub record IsGot (end : WalkEnd) : Type 0 where
     pub rows : List VarBind
     pub refused : List VarBind
@@ -73,7 +73,7 @@ module _ {S : Type 0} (takes : S → VarBind → Result (Unit {0}) SinkFault →
     pub reason : IsReasonOfGet Tried From names rows refused end
     pub ends : MayEnd request names end
 
-  -- by its reply
+  -- if the reply m arrived, the Get ended by it
   module _ (m : Message) (from : From m) where
     by_step : (r : Result (List VarBind) WalkEnd) → MeansToGet names m r → (what : Heard) → Delivers takes (step_of (length names) r) before what after
         → (end : WalkEnd) × (what ≡ heard.ends end) × IsByReply end × IsGot end
@@ -123,7 +123,7 @@ module _ {S : Type 0} (takes : S → VarBind → Result (Unit {0}) SinkFault →
     by_reply given what is d = by_step (answers_of names m) (means_to_get names m) what (subst (λ (x : Step). Delivers takes x before what after) is d)
 
 module _ (names : List (List ℕ)) (Tried : Outcome → Type 0) (From : Message → Type 0) (rows refused : List VarBind) where
-  -- what was given and refused is the front of a reply's bindings, all of them where the Get is done, or nothing
+  -- what was given and refused is a prefix of a reply's bindings, all of them if the Get is done; or it is empty
   abbrev pub IsFrontOfReply : WalkEnd → Type 0
   IsFrontOfReply end = ((m : Message) × (left : List VarBind) × From m × MeansToGet names m (Ok ((rows ++ refused) ++ left))
       × (IsDone end → (left ≡ []) × (refused ≡ []))) ⊎ ((rows ++ refused ≡ []) × (IsDone end → ⊥))
@@ -186,7 +186,7 @@ module _ (codec : Codec) (community : List ℕ) (id : ℕ) (names : List (List �
       → IsAnsweredBy codec Asked ranged no_set agents octets
   answered agents lawful octets h = answered_by codec Asked ranged no_set agents lawful octets h
 
-  -- a message that it spells is the Response of one of the agents
+  -- a message that the agents' reply encodes is the Response of one of them
   pub response_of : (agents : Agents) → AreLawful agents → (m : Message) (d : List ℕ) → Spells m d → IsReplyFrom agents (canon Asked) d
       → (view : MibView) × OneOf agents.tables view × (community ≡ agents.community) × IsResponse view agents.max_size Asked m
   response_of agents lawful m d spelt reply =
@@ -203,7 +203,7 @@ module _ (codec : Codec) (community : List ℕ) (id : ℕ) (names : List (List �
 
   module _ {L : Type 0} (facts : LinkFacts L) (keeping : (link : L) → facts.honest link → facts.keeps link) (link after : L) (tries : ℕ)
       (lawful : facts.honest link → AreLawful (facts.agents link)) where
-    -- the message that came
+    -- the message that arrived is a reply to the Get's request
     pub brought : (m : Message) (d : List ℕ) → IsGetTried facts link after tries community id names (outcome.answered d) → Spells m d → awaits community id m ≡ true
         → IsBrought (IsGetTried facts link after tries community id names) (facts.agents link) (IsHonestFrom facts id link) community id names m
     brought m d tried spelt awaited = (
@@ -215,7 +215,7 @@ module _ (codec : Codec) (community : List ℕ) (id : ℕ) (names : List (List �
       (d, tried, spelt),
     )
 
-    -- none came
+    -- if none arrived, the request was lost
     pub lost_get : IsGetTried facts link after tries community id names outcome.missed → IsHonestFrom facts id link
         → (facts.traffic after).sent ≡ (facts.traffic link).sent ++ replicate tries (canon Asked)
         → IsLostGet (facts.agents link) tries (facts.traffic link) (canon Asked) (facts.traffic after)

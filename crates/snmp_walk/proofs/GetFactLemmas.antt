@@ -1,4 +1,4 @@
--- What a Get gives over an honest link, and when it is done.
+-- What a Get returns over an honest link, and when it is done (`get_facts`, `get_of`).
 use Rattle.std.proofs.{lemmas.Grind.common_steps, lemmas.List.length-take}
 use Rattle.std.proofs.Common.{◌≡◌, ◌≢◌, ◌⊎◌, inl, inr, ℕ, ℤ, ◌<◌, ◌≤◌, List, [], ◌∷◌, ◌++◌, length, take, refl, sym, ◌∙◌, ap, subst, arith, pos}
 use Rattle.std.proofs.Common.{append-nil, Option}
@@ -29,13 +29,13 @@ use Rattle.snmp_walk.proofs.MoveLemmas.{Suits, agrees, moved_of, sent_of, tries_
 use Rattle.snmp_walk.specs.Link as outcome
 use Rattle.snmp_walk.specs.Responses as sending
 
--- Gets of the names give one list
+-- the results of Gets of the names are one list
 one_got : (view : MibView) → IsMibView view → (names : List (List ℕ)) (a b : List VarBind) → AreGot view names a → AreGot view names b → a ≡ b
 one_got view good [] [] [] h k = refl
 one_got view good (o ∷ names) (p ∷ a) (q ∷ b) h k = grind (arith, common_steps, one_got view good names a b h.1 k.1, get_one)
 one_got view good names a b h k = absurd assumption
 
--- they are for the names
+-- these results are for the names
 for_got : (view : MibView) → IsMibView view → (names : List (List ℕ)) (bindings : List VarBind) → AreGot view names bindings → AreFor names bindings
 for_got view good [] [] h = for_nothing
 for_got view good (o ∷ names) (p ∷ bindings) h = grind (arith, common_steps, for_got view good names bindings h.1, for_more, get_name, no_end, get_value)
@@ -51,7 +51,7 @@ MayBeBrought Tried agents honest community id names m = IsResponseTo community i
     × (honest → (view : MibView) × OneOf agents.tables view × (community ≡ agents.community)
     × MayRespond view agents.max_size (get_request community id names) m) × ((datagram : List ℕ) × Tried (outcome.answered datagram) × Spells m datagram)
 
--- an end's reason tells no more of a reply than this
+-- if `From` implies `Other`, an end that has its reason with `From` has it with `Other`
 module _ (Tried : Outcome → Type 0) (From Other : Message → Type 0) (by : (m : Message) → From m → Other m) (names : List (List ℕ))
     (rows refused : List VarBind) where
   reason_by : (end : WalkEnd) → IsReasonOfGet Tried From names rows refused end → IsReasonOfGet Tried Other names rows refused end
@@ -69,7 +69,7 @@ module _ (agents : Agents) (lawful : AreLawful agents) (community : List ℕ) (i
   good_view : (view : MibView) → OneOf agents.tables view → IsMibView view
   good_view view one = view_of agents.tables lawful.views view one
 
-  -- a whole Response gives what Gets of the names give
+  -- m is the Response with the results of Gets of the names
   abbrev GivesAll : MibView → Message → Type 0
   GivesAll view m = (all : List VarBind) × AreGot view names all × (m ≡ response Request (pos 0) (pos 0) all)
 
@@ -78,7 +78,7 @@ module _ (agents : Agents) (lawful : AreLawful agents) (community : List ℕ) (i
   from_whole view m (got_next bindings k answers e) = let no : ⊥ = cc in absurd no
   from_whole view m (unwritten k e) = let no : ⊥ = cc in absurd no
 
-  -- a Response does, or is tooBig since that doesn't fit
+  -- m is tooBig, since the Response with these results doesn't fit
   abbrev IsBigReply : MibView → Message → Type 0
   IsBigReply view m = (m ≡ response Request (pos 1) (pos 0) []) × ((all : List VarBind) × AreGot view names all
       × (Fits agents.max_size (response Request (pos 0) (pos 0) all) → ⊥))
@@ -88,13 +88,13 @@ module _ (agents : Agents) (lawful : AreLawful agents) (community : List ℕ) (i
   from_response view m (sending.shortened large is no_fit e) = grind (arith, common_steps, from_whole)
   from_response view m (sending.bulk asked bindings k singles one chain few none e) = let no : ⊥ = cc in absurd no
 
-  -- our agents' Responses are among those that agents may send
+  -- the Responses of `snmp_agent` are among those that agents may send
   may_respond : (view : MibView) (m : Message) → IsResponse view agents.max_size Request m → MayRespond view agents.max_size Request m
   may_respond view m (whole is fits) = sending.whole is
   may_respond view m (shortened large is no_fit e) = sending.shortened large is no_fit e
   may_respond view m (bulk all bindings k asked longest e) = let no : ⊥ = cc in absurd no
 
-  -- a reply without an error brings what Gets of the names give, and one with an error is tooBig
+  -- a reply without an error has the results of Gets of the names, and one with an error is tooBig
   brought_all : (view : MibView) (m : Message) → MayRespond view agents.max_size Request m → m.a ≡ pos 0 → AreGot view names m.bindings
   brought_all view m is status = grind (arith, common_steps, from_response)
 
@@ -110,7 +110,7 @@ module _ (agents : Agents) (lawful : AreLawful agents) (community : List ℕ) (i
       absurd (no_fit (subst (Fits agents.max_size) (sym all.2) (room.response_fits view all.0 one all.1)))
   response_fits room view one m (bulk all bindings k asked longest e) = let no : ⊥ = cc in absurd no
 
-  -- what is true of the one table
+  -- with one table, all results are from it
   module _ (view : MibView) (all : List VarBind) (one_view : agents.tables ≡ view ∷ []) (are : AreGot view names all) where
     one_good : IsMibView view
     one_good = good_view view (subst (λ (tables : List MibView). OneOf tables view) (sym one_view) (inl refl))
@@ -119,7 +119,7 @@ module _ (agents : Agents) (lawful : AreLawful agents) (community : List ℕ) (i
     same_rows v one rows h =
         one_got view one_good names rows all (subst (λ (w : MibView). AreGot w names rows) (only_one view v agents.tables one_view one) h) are
 
-  -- the facts, by how the Get ended
+  -- the facts of a Get, by how it ended
   module _ (honest : Type 0) (is_honest : honest) (Tried : Outcome → Type 0) (rows refused : List VarBind) (end : WalkEnd) where
     abbrev Brought : Message → Type 0
     Brought = MayBeBrought Tried agents honest community id names
@@ -142,7 +142,7 @@ module _ (agents : Agents) (lawful : AreLawful agents) (community : List ℕ) (i
           λ room. absurd (big.1.1.2 (room.response_fits from.0 big.1.1.0 from.1 big.1.1.1)),
         )
 
-    -- what was given, where there is one table
+    -- with one table, what was given is a prefix of the results
     given_front : IsFrontOfReply names Tried Brought rows refused end → (view : MibView) (all : List VarBind) → agents.tables ≡ view ∷ [] → AreGot view names all
         → ((more : List VarBind) × (all ≡ (rows ++ refused) ++ more)) × (IsDone end → rows ≡ all)
     given_front (inl h) view all one_view are =
@@ -163,7 +163,7 @@ module _ (agents : Agents) (lawful : AreLawful agents) (community : List ℕ) (i
         }
 
   module _ (codec : Codec) (own : length (canon Request) ≤ 65507 → Spells Request (canon Request)) (tries : ℕ) (some : 0 < tries) (old new : Traffic) where
-    -- where there is room, and no deliveries are ahead, a reply comes
+    -- if there is room and no deliveries are ahead, a reply arrives
     never_lost : HasRoomForGet agents Request names → old.ahead ≡ [] → IsLostGet agents tries old (canon Request) new → ⊥
     never_lost room none lost = elim lost.lost [
       | inl u ↦ no_drop codec Request (own room.request_fits) refl (agent_in agents u.view) room.community tt (response_fits room u.view u.one) u.why u.dropped
@@ -187,7 +187,7 @@ module _ (agents : Agents) (lawful : AreLawful agents) (community : List ℕ) (i
           done_unless_stopped = λ room ahead. unless_silent end (λ silent. never_lost room ahead (lost silent)) (given.done_unless_lost room);
         }
 
--- ---- what happened
+-- ---- the events at the link
 
 module _ {W : Type 0} (codec : Codec) (facts : LinkFacts W) (link after : W) (tries : ℕ) (community : List ℕ) (id : ℕ) (names : List (List ℕ))
     (ranged : IsMessageInRange (get_request community id names)) where
@@ -200,7 +200,7 @@ module _ {W : Type 0} (codec : Codec) (facts : LinkFacts W) (link after : W) (tr
   abbrev tried_events : (what : Outcome) → Was what → (events : List (Event (Unit {0}))) × InTurn (Happens facts) link events after
   tried_events what h = all_tries facts q (IsNotAwaited community id) tries link after what h
 
-  -- the one datagram that was sent is the request
+  -- only the request was sent, so that a reply is to it
   module _ (agents : Agents) (good : AreLawful agents) where
     abbrev IsFromThese : Message → Type 0
     IsFromThese m = MayBeBrought Was agents (Unit {0}) community id names m
@@ -230,7 +230,7 @@ module _ {W : Type 0} (codec : Codec) (facts : LinkFacts W) (link after : W) (tr
     abbrev Known : WalkEnd → Type 0
     Known end = HasHappened facts link after end (λ agents why. GotFacts agents (get_request community id names) names rows refused why)
 
-    -- by an error nothing was given
+    -- an error ended the Get, and nothing was given
     abbrev IsFailed : WalkEnd → Type 0
     IsFailed end = (rows ++ refused ≡ []) × ((status index : ℤ) × (end ≡ ending.Fault status index))
 
@@ -332,7 +332,7 @@ module _ {W S : Type 0} (facts : LinkFacts W) (link : W) (tries : ℕ) (communit
   abbrev IsOver : W → S → WalkEnd → Type 0
   IsOver after sunk end = IsRun takes before end sunk (λ given refused. IsGotOver facts link after tries community id names given refused end)
 
-  -- what the Get comes to, by what the exchange returned
+  -- what a Get comes to, by what `exchange` returned
   abbrev pub IsGetTurn : W → S → WalkEnd → Result (Option Course) LinkFault → Type 0
   IsGetTurn after sunk end (Ok (Some course.GoesOn)) = ⊥
   IsGetTurn after sunk end (Ok (Some course.Ends)) = IsOver after sunk end
@@ -403,7 +403,7 @@ module _ {W S : Type 0} (facts : LinkFacts W) (link : W) (tries : ℕ) (communit
       };
     }
 
-    -- without a request that fits a datagram
+    -- the request is longer than a datagram
     pub got_too_long : 65507 < length (canon Asked) → IsOver link before ending.RequestTooLong
     got_too_long long =
         got_over (λ fits. absurd (omega (arith, fits, long))) link before ending.RequestTooLong
@@ -449,7 +449,7 @@ module _ {W S : Type 0} (facts : LinkFacts W) (link : W) (tries : ℕ) (communit
           all_lower_sent Asked ranged no_set id (id + 1) refl (omega arith) (facts.traffic link).sent (facts.traffic after).sent y.0 y.2
           (all_lower_more (facts.traffic link).sent id (id + 1) (omega arith) low))
 
-      -- by what it returned
+      -- by what the exchange returned
       abbrev IsReadSo : {V : Type 0} → V → S → List ℕ → Heard → Type 0
       IsReadSo {V} new sunk d what = IsReadAs d community id (λ m given (_ : V). given ≡ got_step names m) takes before new sunk what
 

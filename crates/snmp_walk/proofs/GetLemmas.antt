@@ -1,4 +1,4 @@
--- What a Get asks, name by name, and what its reply is for.
+-- The bindings of a Get's request, name by name, and whether a reply is for these names.
 use Rattle.std.proofs.{lemmas.Grind.common_steps, lemmas.Grind.flat_map-append, lemmas.Bool.and_parts}
 use Rattle.std.proofs.Common.{◌≡◌, ℕ, ◌+◌, ◌<◌, ◌≤◌, Bool, true, false, List, [], ◌∷◌, ◌++◌, length, take, drop, get_or, refl, sym, ◌∙◌, ap, arith}
 use Rattle.std.proofs.Common.{length-append, append-nil, add-one, drop-cons}
@@ -10,7 +10,7 @@ use Rattle.snmp_wire.specs.{ber.Value.null_value, Message.VarBind, Message.Messa
 use Rattle.snmp_wire.specs.Canon.{canon, canon_binding, canon_bindings, canon_fields, canon_front, canon_head, canon_opening}
 use Rattle.snmp_walk.specs.{Names.is_end, Get.asked_names, Get.are_for, Get.answers_of}
 
--- the test of one binding
+-- whether p has the wire form of o, and isn't endOfMibView
 abbrev pub is_for : List ℕ → VarBind → Bool
 is_for o p = pointwise nat_eq p.name (wire o) && not (is_end p.value)
 
@@ -35,7 +35,7 @@ pub written_more : (names : List (List ℕ)) (i : ℕ) (o : List ℕ) (p : VarBi
     → canon_bindings (asked_names (take (i + 1) names)) ≡ canon_bindings (asked_names (take i names)) ++ canon_binding p
 written_more names i o p h e is = rw (take_more names i o h, ← e, is, map-append, canon_append, canon_one)
 
--- a front is no longer than all
+-- the bindings for the first names aren't longer than those for all
 pub longer_all : (names : List (List ℕ)) (i : ℕ) → length (canon_bindings (asked_names (take i names))) ≤ length (canon_bindings (asked_names names))
 longer_all names i =
     let whole : canon_bindings (asked_names names) ≡ canon_bindings (asked_names (take i names)) ++ canon_bindings (asked_names (drop i names)) =
@@ -43,12 +43,12 @@ longer_all names i =
     ∙ ap canon_bindings (map-append _ (take i names) (drop i names)) ∙ canon_append (asked_names (take i names)) (asked_names (drop i names)) in
     omega (arith, ap length whole, length-append (canon_bindings (asked_names (take i names))) (canon_bindings (asked_names (drop i names))))
 
--- what stands before the bindings is the same, whatever they are
+-- what comes before the bindings is the same, whatever they are
 pub head_of : (m : Message) (total : ℕ) → canon_head (record m { bindings = [] }) total ≡ canon_head m total
 unfolding canon_head canon_front canon_opening canon_fields
 head_of m total = refl
 
--- the octets of the request, by its pieces
+-- the request is its head and then its bindings
 module _ (law : HasPieces) (m bare : Message) (same : bare ≡ record m { bindings = [] }) where
   pub pieces_of : (total : ℕ) (text : List ℕ) → total ≡ length (canon_bindings m.bindings) → text ≡ canon_bindings m.bindings
       → canon_head bare total ++ text ≡ canon m
@@ -63,7 +63,7 @@ pub none_written : (0 ≤ 65507) × (0 ≡ length (canon_bindings [])) × ([] �
 unfolding canon_bindings
 none_written = (omega arith, refl, refl)
 
--- there are as many bindings as names
+-- if the bindings are for the names, there are as many
 pub for_length : (names : List (List ℕ)) (ps : List VarBind) → are_for names ps ≡ true → length ps ≡ length names
 for_length [] [] e = refl
 for_length (o ∷ names) (p ∷ ps) e = let rest = for_length names ps (and_parts (is_for o p) (are_for names ps) e).1 in omega (arith, rest)
@@ -81,7 +81,7 @@ pub range_more : (names : List (List ℕ)) (i : ℕ) (o : List ℕ) → i < leng
     → AllByRecursion IsBindingInRange (asked_names (take i names)) → AllByRecursion IsBindingInRange (asked_names (take (i + 1) names))
 range_more names i o h e here front = rw (take_more names i o h, ← e, map-append) (range_push _ _ front here)
 
--- without an error status, and of just these names
+-- without an error status, and for just these names, a reply has what `answers_of` computes
 pub answered_all : (names : List (List ℕ)) (m : Message) (rows : List VarBind) → int_eq m.a (pos 0) ≡ true → are_for names m.bindings ≡ true
     → rows ≡ take (length names) m.bindings
     → Ok rows ≡ answers_of names m

@@ -1,4 +1,4 @@
--- What a walk gives where all that comes are replies of its agents.
+-- What a walk returns if all that arrives are replies of its agents, or errors too (`given_by`).
 use Rattle.std.proofs.Common.{◌≡◌, ◌≢◌, ◌⊎◌, false, pos, inl, inr, ℕ, ℤ, ◌<◌, List, [], ◌∷◌, ◌++◌, refl, sym, ◌∙◌, ap, subst, arith, append_assoc}
 use Rattle.std.proofs.Common.{append-nil}
 use Rattle.std.proofs.lemmas.Bool.{and_from}
@@ -66,7 +66,7 @@ module _ {L : Type 0} (codec : Codec) (facts : LinkFacts L) (tries : ℕ) (first
       begins_both (read_events a.read.readings first w link a.now a.read.are_read).0 (tried_events w a.now after o a.tried).0
       (begins_read a.read.readings first w link a.now a.read.are_read) (begins_tried w a.now after o a.tried)
 
-  -- How a run ended, after these rows and the one refused: as where replies of the agents are all that came, or by an error, where errors may come too.
+  -- How a run ended, after these rows and the one refused: as it can if only replies of the agents arrived, or by an error, if errors may have arrived too.
   abbrev IsHonestEnd : Agents → (rows refused : List VarBind) → WalkEnd → Type 0
   IsHonestEnd agents rows refused end =
       IsPartOfWalk (IsNextFrom agents) (IsGotFrom agents) first (rows ++ refused) × IsLawfulEnd agents (λ w. Unit {0}) first rows end
@@ -83,7 +83,7 @@ module _ {L : Type 0} (codec : Codec) (facts : LinkFacts L) (tries : ℕ) (first
     abbrev Got : List ℕ → VarBind → Type 0
     Got = IsGotFrom agents
 
-    -- where a run stands
+    -- the state of a run: w waits for a reply, `given` was passed on, and `events` have happened
     record Stands (w : Walker) (given : List VarBind) : Type 0 where
       events : List (Event (Unit {0}))
       earlier : IsEarlier (tried events) w
@@ -93,7 +93,7 @@ module _ {L : Type 0} (codec : Codec) (facts : LinkFacts L) (tries : ℕ) (first
     waits : (w : Walker) (given : List VarBind) → Stands w given → is_over w.phase ≡ false
     waits w given s = waiting Rises Named Small rising_answers first given w.asked w.phase s.anyhow.stage
 
-    -- the reply that was read is one to the waiting request
+    -- the reply that was read is a reply to the waiting request
     read_is : (w : Walker) (l new : L) (given : List VarBind) (s : Stands w given) → IsWalker w → (r : List ℕ) (m : Message) → Spells m r → Sort m
         → IsResponseTo w.community w.id m → (h : Tried w l (outcome.answered r) new) → (rest : List (Event (Unit {0})))
         → all ≡ s.events ++ ((tried_events w l new (outcome.answered r) h).0 ++ rest)
@@ -117,7 +117,7 @@ module _ {L : Type 0} (codec : Codec) (facts : LinkFacts L) (tries : ℕ) (first
               absurd (omega (arith, equal, l.2))
         ]
 
-    -- what a reply that was read did, given a step that is no stray: it ended the walk where it said an error
+    -- what a reply that isn't a stray did: it took the walk a step further; or, if it has an error status that isn't an agent's reply, it ended the walk
     record Steps (w : Walker) (given : List VarBind) (st : Step) (u : Walker) : Type 0 where
       honestly : Advances Next Got (IsTooLarge agents) first w given st u
       anyhow : AdvancesAnyhow first w given st u
@@ -166,7 +166,7 @@ module _ {L : Type 0} (codec : Codec) (facts : LinkFacts L) (tries : ℕ) (first
           | inr none ↦ absurd none
         ]
 
-    -- after one reading more, with what is left to happen
+    -- the state of a run that has read some replies, and the events that are left
     abbrev StandsBefore : Walker → List VarBind → List (Event (Unit {0})) → Type 0
     StandsBefore w given rest = (s : Stands w given) × (all ≡ s.events ++ rest)
 
@@ -214,7 +214,7 @@ module _ {L : Type 0} (codec : Codec) (facts : LinkFacts L) (tries : ℕ) (first
         (stands_all a.read.readings first w link a.now [] (late ++ []) a.read.are_read
         (stands_first, is ∙ ap (λ (es : List (Event (Unit {0}))). (read_events a.read.readings first w link a.now a.read.are_read).0 ++ es) (sym (append-nil late))))
 
-    -- what was given is a part of a walk
+    -- what was passed on is a part of a walk
     part_at : (w : Walker) (rows given more : List VarBind) → rows ≡ given ++ more → more ≡ [] → Reaches Next Got first w given
         → IsPartOfWalk Next Got first (rows ++ [])
     part_at w rows given more parts none reaches =
@@ -272,11 +272,11 @@ module _ {L : Type 0} (codec : Codec) (facts : LinkFacts L) (tries : ℕ) (first
         let all_given : a.given ≡ rows = sym (append-nil a.given) ∙ sym a.parts in
         (part_at w rows a.given [] a.parts refl reaches, lawful (subst (Reaches Next Got first w) all_given reaches))
 
-  -- what happened, and what follows where that are replies
+  -- the events at the link, and what follows if replies are all that arrived
   abbrev Known : (rows refused : List VarBind) → WalkEnd → Type 0
   Known rows refused end = HasHappened facts link after end (λ agents why. GivenFacts agents (λ w. Unit {0}) first rows refused why)
 
-  -- what is lawful is so but for errors too
+  -- a lawful end is lawful with an error status taken for a failure of the link
   lawful_but : (agents : Agents) (rows : List VarBind) (end : WalkEnd) → IsLawfulEnd agents (λ w. Unit {0}) first rows end
       → IsLawfulEnd agents (λ w. Unit {0}) first rows (but_for_errors end)
   lawful_but agents rows (ending.Fault status index) h = tt

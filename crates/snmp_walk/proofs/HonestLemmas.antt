@@ -1,4 +1,4 @@
--- An agent's reply to the waiting request is an honest one.
+-- An agent's reply to the waiting request is honest (`honest_reply`, `any_reply`).
 use Rattle.std.proofs.{lemmas.Grind.common_steps, lemmas.Int.ints, lemmas.List.nil_from_length}
 use Rattle.std.proofs.Common.{◌≡◌, ◌≢◌, ◌≤ℤ◌, ◌⊎◌, inl, inr, ℕ, zero, ◌^◌, ◌<◌, ◌≤◌, List, [], ◌∷◌, ◌++◌, length, refl, sym, ◌∙◌, ap, subst, arith, ℤ}
 use Rattle.std.proofs.Common.{pos, negsuc, length-append, append-nil, replicate, true, false}
@@ -24,7 +24,7 @@ use Rattle.snmp_walk.proofs.BulkLemmas.{IsOneBulk, one_bulk, chain_front, chain_
 use Rattle.snmp_walk.specs.Link as outcome
 use Rattle.snmp_walk.specs.Responses as sending
 
--- numbers from 0 below 2^31
+-- numbers from 0 below 2^31 fit into 32 bits with a sign
 pub fits_from : (n : ℕ) → n < 2 ^ 31 → FitsSigned w32 (pos n)
 fits_from n h = omega arith
 
@@ -43,7 +43,7 @@ repetitions_fit p m h = fits_from 0 (omega arith)
 pub request_in_range : (w : Walker) → IsWalker w → IsMessageInRange (request_of w)
 request_in_range w good = grind (arith, common_steps, fits_from, repetitions_fit, name_short)
 
--- a message has an error status or none
+-- the error status of a message is 0 or isn't
 error_of : (z : ℤ) → (z ≡ pos 0) ⊎ (Unit {0} × (z ≢ pos 0))
 error_of (pos zero) = inl refl
 error_of z = inr (tt, λ e. let no : ⊥ = cc in no)
@@ -51,7 +51,7 @@ error_of z = inr (tt, λ e. let no : ⊥ = cc in no)
 pub error_or_none : (m : Message) → (m.a ≡ pos 0) ⊎ (Unit {0} × (m.a ≢ pos 0))
 error_or_none m = error_of m.a
 
--- a request that isn't a Set, and the Responses to it
+-- q is a request in range and not a Set
 module _ (codec : Codec) (q : Message) (ranged : IsMessageInRange q) (no_set : q.kind ≡ kind.SetRequest → ⊥) where
   pub own : Spells q (canon q)
   own = codec.read q (canon q) (codec.strict q ranged)
@@ -64,7 +64,7 @@ module _ (codec : Codec) (q : Message) (ranged : IsMessageInRange q) (no_set : q
   response_by view n r (shortened large a no_fit e) = (pos 1, [], e)
   response_by view n r (bulk all bindings k asked longest e) = (pos 0, bindings, e)
 
-  -- what an agent replies to it
+  -- what an agent replies to q encodes a Response to q
   pub record IsAnsweredBy (agents : Agents) (octets : List ℕ) : Type 0 where
     pub message : Message
     pub spelt : Spells message octets
@@ -93,7 +93,7 @@ module _ (codec : Codec) (q : Message) (ranged : IsMessageInRange q) (no_set : q
         is_response = is_response;
       }
 
--- an agent doesn't drop a request of its community, where it has room for each Response to it
+-- an agent doesn't drop a request with its community if it has room for each Response to that
 pub no_drop : Codec → (q : Message) → Spells q (canon q) → q.version ≡ pos 1 → (agent : Agent) → q.community ≡ agent.community → IsServed q.kind
     → ((r : Message) → IsResponse agent.view agent.max_size q r → Fits agent.max_size r) → (cause : Why) → IsDropped agent (canon q) cause → ⊥
 no_drop codec q own version agent named served fits = elim [
@@ -107,14 +107,14 @@ no_drop codec q own version agent named served fits = elim [
     same : (m : Message) → Spells m (canon q) → m ≡ q
     same m spelt = (codec.one m q (canon q) (canon q) [] [] spelt own refl).0
 
--- the answers to a request of one name
+-- a request for one name has one answer
 pub one_answer : (R : VarBind → VarBind → Type 0) (o : List ℕ) (bindings : List VarBind) → AreAnswers R (record { name = o; value = null_value } ∷ []) bindings
     → (p : VarBind) × (bindings ≡ p ∷ []) × R (record { name = o; value = null_value }) p
 one_answer R o [] h = absurd h
 one_answer R o (p ∷ []) h = (p, refl, h.0)
 one_answer R o (p ∷ q ∷ more) h = absurd h.1
 
--- which phase asks by which PDU
+-- a request that is a Get is the first or the last of its walk
 pub get_phase : (p : Phase) (m : Method) → is_over p ≡ false → request_kind p m ≡ kind.GetRequest → (p ≡ phase.First) ⊎ (p ≡ phase.Last)
 get_phase phase.First m waits k = inl refl
 get_phase phase.Last m waits k = inr refl
@@ -133,7 +133,7 @@ pub set_phase : (p : Phase) (m : Method) → request_kind p m ≡ kind.SetReques
 set_phase phase.Rows method.Next k = cc
 set_phase p m k = cc
 
--- a reply of a table to the waiting request
+-- the replies of an agent that serves the table `view` to the waiting request
 module _ (codec : Codec) (agents : Agents) (w : Walker) (good : IsWalker w) (view : MibView) (view_good : IsMibView view) where
   bulk_of : (all : List VarBind) → IsBulk view (request_of w) all → IsOneBulk codec view view_good w.asked (request_repetitions w.phase w.method) all
   bulk_of all asked = one_bulk codec view view_good (request_of w) w.asked all refl refl asked
@@ -152,7 +152,7 @@ module _ (codec : Codec) (agents : Agents) (w : Walker) (good : IsWalker w) (vie
     get_content m (inl e) c = subst (λ (p : Phase). IsContent p m) (sym e) c
     get_content m (inr e) c = subst (λ (p : Phase). IsContent p m) (sym e) c
 
-    -- what is too large for the agent is too large
+    -- what doesn't fit into the agent's message is too large
     large : (p : VarBind) → (Fits agents.max_size (response (request_of w) no_error (pos 0) (p ∷ [])) → ⊥) → IsTooLarge agents w.id p
     large p no_fit =
         let more : agents.max_size < length (canon (full_response w.community w.id (p ∷ []))) = omega (arith, no_fit) in (good.id, rw community at more)
@@ -162,7 +162,7 @@ module _ (codec : Codec) (agents : Agents) (w : Walker) (good : IsWalker w) (vie
     too_large m bindings p only e no_fit =
         large p (λ fit. no_fit (subst (Fits agents.max_size) (sym (e ∙ ap (response (request_of w) no_error (pos 0)) only)) fit))
 
-    -- it has bindings that were asked for, or tooBig where they have no room
+    -- a Response that the agent may send has bindings that were asked for, or is tooBig because they have no room
     content_of : (r : Message) → MayRespond view agents.max_size (request_of w) r → IsContent w.phase r
     content_of r (sending.whole (got bindings k answers e)) =
         let p = one_answer (λ asked given. IsGet view asked.name given) w.asked bindings answers in
@@ -203,7 +203,7 @@ module _ (codec : Codec) (agents : Agents) (w : Walker) (good : IsWalker w) (vie
           λ empty. let p = none empty in (p.0, (view, one, subst (λ (o : List ℕ). IsNext view o p.0) name p.1), large p.0 p.2),
         )))
 
-    -- where no binding came, the first has no room
+    -- if the longest prefix that fits is empty, the first binding has no room
     first_large : (all bindings : List VarBind) → bindings ≡ [] → IsChain (IsNext view) w.asked all → all ≢ []
         → IsLongestFront agents.max_size (request_of w) all bindings
         → (p : VarBind) × IsNext view w.asked p × (Fits agents.max_size (response (request_of w) no_error (pos 0) (p ∷ [])) → ⊥)
@@ -221,7 +221,7 @@ module _ (codec : Codec) (agents : Agents) (w : Walker) (good : IsWalker w) (vie
         let at = bulk_phase w.phase w.method k in
         rw (at.0, at.2) (subst IsMethod at.2 good.method)
 
-    -- our agents' Responses are among those that agents may send
+    -- the Responses of `snmp_agent` are among those that agents may send
     may_respond : (r : Message) → IsResponse view agents.max_size (request_of w) r → MayRespond view agents.max_size (request_of w) r
     may_respond r (whole is fits) = sending.whole is
     may_respond r (shortened m is no_fit e) = sending.shortened m is no_fit e
@@ -233,7 +233,7 @@ module _ (codec : Codec) (agents : Agents) (w : Walker) (good : IsWalker w) (vie
         (few_of (length bindings) (request_repetitions w.phase w.method) (positive k) few)
         (λ none. first_large all bindings none one_name.chain (one_name.some (positive k)) longest) e
 
-    -- all bindings fit
+    -- if there is room for all bindings, the Response with them fits
     all_fit : (all : List VarBind) → length (canon (full_response agents.community 2147483647 all)) ≤ agents.max_size
         → Fits agents.max_size (response (request_of w) no_error (pos 0) all)
     all_fit all room =
@@ -241,13 +241,13 @@ module _ (codec : Codec) (agents : Agents) (w : Walker) (good : IsWalker w) (vie
         let fits : length (canon (full_response agents.community w.id all)) ≤ agents.max_size = omega (arith, room, longer) in
         rw (← community) at fits
 
-    -- a front that isn't shorter is all
+    -- a prefix that isn't shorter is the whole list
     whole_front : (all bindings more : List VarBind) → all ≡ bindings ++ more → length all ≤ length bindings → all ≡ bindings
     whole_front all bindings more front long =
         let none = nil_from_length more (omega (arith, long, ap length front, length-append bindings more)) in
         front ∙ ap (λ (s : List VarBind). bindings ++ s) none ∙ append-nil bindings
 
-    -- they have all bindings where these have room
+    -- the Response has all bindings if they have room
     full_of : (r : Message) → IsResponse view agents.max_size (request_of w) r → IsFullReply agents w r
     full_of r (whole (got bindings k answers e) fits) room rows status = elim (get_phase w.phase w.method waits k) [
       | inl first ↦ let no : ⊥ = cc in absurd no
@@ -266,7 +266,7 @@ module _ (codec : Codec) (agents : Agents) (w : Walker) (good : IsWalker w) (vie
         subst (IsFull w.method) is
         (subst (λ (n : ℕ). (length all ≡ n) ⊎ (list_any (λ p. is_end p.value) all ≡ true)) count ((bulk_of all asked).full (positive k)))
 
--- the reply of one of the agents to the waiting request
+-- the reply of one of the agents to the waiting request encodes an honest reply, which has all bindings if they have room
 pub honest_reply : Codec → (agents : Agents) → AreLawful agents → (w : Walker) → IsWalker w → is_over w.phase ≡ false → (reply : List ℕ)
     → IsReplyFrom agents (canon (request_of w)) reply
     → (m : Message) × Spells m reply × IsReplyTo (IsNextFrom agents) (IsGotFrom agents) (IsTooLarge agents) w m × IsFullReply agents w m
@@ -307,7 +307,7 @@ module _ (codec : Codec) (q : Message) (ranged : IsMessageInRange q) (no_set : q
       let is = form may_be in
       subst (IsResponseTo q.community id) (sym is.3) (record { version = version; community_is = refl; kind = refl; id_is = is_id })
 
--- the reply of one of the agents, or another Response that it may send, to the waiting request
+-- the reply of one of the agents to the waiting request, or another Response that it may send, is honest
 pub any_reply : Codec → (agents : Agents) → AreLawful agents → (w : Walker) → IsWalker w → is_over w.phase ≡ false → (reply : List ℕ) (m : Message)
     → Spells m reply → IsReplyFrom agents (canon (request_of w)) reply ⊎ IsResponseFrom agents (canon (request_of w)) m
     → IsReplyTo (IsNextFrom agents) (IsGotFrom agents) (IsTooLarge agents) w m
@@ -345,7 +345,7 @@ lower_more id next d more low =
 pub all_lower_more : (sent : List (List ℕ)) (id next : ℕ) → id ≤ next → AreOfLowerIds sent id → AreOfLowerIds sent next
 all_lower_more sent id next more low d one = lower_more id next d more (low d one)
 
--- sends of one request more
+-- if the datagrams sent have ids below `next`, then so have they with more sends of q, whose id is below `next`
 pub all_lower_sent : (q : Message) → IsMessageInRange q → (q.kind ≡ kind.SetRequest → ⊥) → (number next : ℕ) → q.id ≡ pos number → number < next
     → (sent after : List (List ℕ)) (times : ℕ) → after ≡ sent ++ replicate times (canon q) → AreOfLowerIds sent next → AreOfLowerIds after next
 all_lower_sent q ranged no_set number next id_is less sent after times e low d one =
@@ -361,7 +361,7 @@ lower_before w next good less d (inr low) = lower_more w.id next d (omega (arith
 pub before_more : (w v : Walker) → IsWalker w → w.id < v.id → (d : List ℕ) → IsSentBefore w d → IsSentBefore v d
 before_more w v good less d before = inr (lower_before w v.id good less d before)
 
--- all that was sent, with the sends of the waiting request, has ids below the next
+-- all that was sent, and the sends of the waiting request, has ids below the next
 pub all_lower_after : (w : Walker) (sent after : List (List ℕ)) (times next : ℕ) → IsWalker w → w.id < next
     → after ≡ sent ++ replicate times (canon (request_of w)) → IsEarlier sent w → AreOfLowerIds after next
 all_lower_after w sent after times next good less e earlier =
@@ -375,13 +375,13 @@ earlier_more w v sent later times good less e h d one = grind (arith, common_ste
 pub earlier_first : (sent : List (List ℕ)) (w : Walker) → AreOfLowerIds sent w.id → IsEarlier sent w
 earlier_first sent w low d one = inr (low d one)
 
--- ---- what an honest reply is to the walk that waits for it
+-- ---- an honest reply and the walk that waits for it
 
--- by the one message that the octets spell
+-- octets encode at most one message
 pub one_spelt : Codec → (m n : Message) (octets : List ℕ) → Spells m octets → Spells n octets → m ≡ n
 one_spelt codec m n octets a b = (codec.one m n octets octets [] [] a b refl).0
 
--- a reply to a request of a lower id has that id
+-- a reply to a request with a lower id has that id
 pub lower_reply : Codec → (agents : Agents) → AreLawful agents → (id : ℕ) (d r : List ℕ) (m : Message) → IsOfLowerId id d → Spells m r
     → IsReplyFrom agents d r ⊎ IsResponseFrom agents d m → (n : ℕ) × (m.id ≡ pos n) × (n < id)
 lower_reply codec agents lawful id d r m low spelt (inl h) =
@@ -401,7 +401,7 @@ lower_not_awaited codec agents lawful community id d r low reply m spelt respons
     let equal : l.0 ≡ id = cc in
     omega (arith, equal, l.2)
 
--- where what was sent before are requests of lower ids, the replies to the waiting one alone are awaited
+-- if what was sent before are requests with lower ids, only the replies to the waiting one are awaited
 pub asked_of : Codec → (agents : Agents) (sent : List (List ℕ)) (w : Walker) → AreLawful agents → IsWalker w → is_over w.phase ≡ false → IsEarlier sent w
     → IsAsked agents (IsNotAwaited w.community w.id) (canon (request_of w)) sent
 asked_of codec agents sent w lawful good waits earlier = record {
@@ -412,7 +412,7 @@ asked_of codec agents sent w lawful good waits earlier = record {
   ];
 }
 
--- the reply that was read is the one that was waited for
+-- the reply that was read is a reply to the waiting request
 pub from_of : {L : Type 0} (facts : LinkFacts L) → ((link : L) → facts.honest link → facts.keeps link) → Codec → (tries : ℕ) (w : Walker) (link after : L)
     → (facts.honest link → AreLawful (facts.agents link)) → IsWalker w → is_over w.phase ≡ false → (m : Message) (d : List ℕ)
     → IsTried facts tries w link (outcome.answered d) after → Spells m d → IsResponseTo w.community w.id m

@@ -1,4 +1,4 @@
--- A view's variables are a list by rising names, and what the view answers is read off it.
+-- The variables of a view are a list sorted by name; Get and GetNext read off that list (`next_first`, `get_one`).
 use Rattle.std.proofs.Common.{arith, ◌≡◌, inl, inr, ℕ, T, Bool, true, false, List, [], ◌∷◌, map, refl, sym, ◌∙◌, ap, subst, Some, None}
 use Rattle.std.proofs.lemmas.Grind.{common_steps}
 use Rattle.std.proofs.lemmas.Bool.{false≢true, and_parts, false_from_ne_true, cond-true, cond-false, cond_both}
@@ -30,7 +30,7 @@ rising_entries [] h = tt
 rising_entries (e ∷ es) h = let p = and_parts (below_all (slice_cmp nat_cmp) e.0 es) (is_sorted (slice_cmp nat_cmp) es) h in
     (after_entries e.0 es p.0, rising_entries es p.1)
 
--- what is in a list that comes after a name does
+-- if the rows come after o, then so does each of them
 pub one_after : (o : List ℕ) (rows : List VarBind) (p : VarBind) → AreAfter o rows → OneOf rows p → comes_after o p.name ≡ true
 one_after o [] p h one = absurd one
 one_after o (q ∷ rows) p h (inl e) = ap (λ (b : VarBind). comes_after o b.name) e ∙ h.0
@@ -39,7 +39,7 @@ one_after o (q ∷ rows) p h (inr one) = one_after o rows p h.1 one
 pub not_itself : (o n : List ℕ) → comes_after o n ≡ true → n ≡ o → ⊥
 not_itself o n h e = false≢true (sym (after-irrefl o) ∙ ap (comes_after o) (sym e) ∙ h)
 
--- membership in a filtered list
+-- an element of a filtered list is an element of the list, and passes the test
 pub kept : (test : VarBind → Bool) (p : VarBind) (rows : List VarBind) → OneOf (filter test rows) p → OneOf rows p × (test p ≡ true)
 kept test p [] i = absurd i
 kept test p (q ∷ rows) i =
@@ -52,18 +52,18 @@ keeps test p [] h i = absurd i
 keeps test p (q ∷ rows) h (inl same) = grind (arith, common_steps, cond_both)
 keeps test p (q ∷ rows) h (inr i) = let later = keeps test p rows h i in cond_both (test q) _ _ (λ s. OneOf s p) (λ _. inr later) (λ _. later)
 
--- by the test, one name precedes the other
+-- if the test says that p comes after o, then o precedes p
 pub after_precedes : Codec → (o p : List ℕ) → comes_after o p ≡ true → Precedes o p
 after_precedes codec o p e = codec.less o p (less_from_after o p e)
 
--- tests that tell names apart
+-- the tests tell names apart
 pub tie_is : (q x : List ℕ) → eq_by_cmp (slice_cmp nat_cmp) q x ≡ true → q ≡ x
 tie_is q x e = same_text q x (sym e ∙ sym (texts_ties q x))
 
 tie_self : (q : List ℕ) → eq_by_cmp (slice_cmp nat_cmp) q q ≡ true
 tie_self q = ap is_eq (tied_itself nat_list_cmp_total q)
 
--- what is found is in the list
+-- if a search finds a value, the list contains the binding
 found_in : (q : List ℕ) (v : Datum) (es : List (List ℕ × Datum)) → find (slice_cmp nat_cmp) q es ≡ Some v → OneOf (map binding_of es) (binding_of (q, v))
 found_in q v [] h = absurd cc
 found_in q v (e ∷ es) h =
@@ -75,7 +75,7 @@ found_in q v (e ∷ es) h =
 no_tie : (q x : List ℕ) → comes_after x q ≡ true → eq_by_cmp (slice_cmp nat_cmp) q x ≡ false
 no_tie q x after = false_from_ne_true (eq_by_cmp (slice_cmp nat_cmp) q x) (λ tie. not_itself x q after (tie_is q x tie))
 
--- what is in the list is found
+-- if a sorted list contains the binding, a search finds its value
 in_found : (p : VarBind) (es : List (List ℕ × Datum)) → is_sorted (slice_cmp nat_cmp) es ≡ true → OneOf (map binding_of es) p
     → find (slice_cmp nat_cmp) p.name es ≡ Some p.value
 in_found p [] h i = absurd i
@@ -93,7 +93,7 @@ none_named o [] h = refl
 none_named o (q ∷ rows) h =
     cond-false _ (q ∷ rows_named o rows) (rows_named o rows) (other_name o q (h q (inl refl))) ∙ none_named o rows (λ p i. h p (inr i))
 
--- the rows of a name: the one that has it, if there is one
+-- of sorted rows, those with the name of one of them are only that one
 one_named : (p : VarBind) (rows : List VarBind) → AreRising rows → OneOf rows p → rows_named p.name rows ≡ p ∷ []
 one_named p [] h i = absurd i
 one_named p (q ∷ rows) h (inl same) =
@@ -129,14 +129,14 @@ module _ (view : MibView) (good : IsMibView view) where
   pub variables_are : AreInstances (variables view)
   variables_are = instances_of (variables view) (λ p i. (good.names p (in_row p i), good.values p (in_row p i)))
 
-  -- a row that comes after a name is among those that do, and each of these is one
+  -- a row after o is a row of the view whose name o precedes, and the other way round
   behind_row : Codec → (o : List ℕ) (q : VarBind) → OneOf (rows_after o (variables view)) q → IsRow view q × Precedes o q.name
   behind_row codec o q i = grind (arith, common_steps, kept, in_row, less_from_after)
 
   row_behind : (o : List ℕ) (p : VarBind) → IsSuccessor view o p → OneOf (rows_after o (variables view)) p
   row_behind o p s = keeps (λ row. comes_after o row.name) p (variables view) (ap is_lt (less_precedes o p.name s.behind)) (row_in p s.row)
 
-  -- a GetNext is answered by the first row behind the name
+  -- the answer to a GetNext is the first row after the name, or endOfMibView
   next_by : Codec → (o : List ℕ) (p : VarBind) (behind : List VarBind) → behind ≡ rows_after o (variables view) → IsNext view o p → p ≡ or_end o behind
   next_by codec o p [] e (successor s) = absurd (subst (λ (rows : List VarBind). OneOf rows p) (sym e) (row_behind o p s))
   next_by codec o p [] e (end_of_view none is) = is
@@ -158,7 +158,7 @@ module _ (view : MibView) (good : IsMibView view) where
   pub row_none : (o : List ℕ) (p : VarBind) → p.name ≡ o → IsRow view p → get view.rows o ≡ None → ⊥
   row_none o p e row none = let found : get view.rows o ≡ Some p.value = ap (get view.rows) (sym e) ∙ row in cc
 
-  -- a Get has one answer
+  -- a Get has at most one answer
   pub get_one : (o : List ℕ) (p q : VarBind) → IsGet view o p → IsGet view o q → p ≡ q
   get_one o p q (variable e row) (variable f row_q) = grind (arith, common_steps)
   get_one o p q (variable e row) (unknown_object none unknown is) = absurd (row_none o p e row none)

@@ -1,4 +1,4 @@
--- What the rules say of a message, one by one, is what `take_of` computes.
+-- The rules of `Judged` and `take_of` say the same (`means_by`).
 use Rattle.std.proofs.{lemmas.Grind.common_steps, lemmas.List.nil_from_length, lemmas.Bool.false≢true, lemmas.Bool.false_from_ne_true}
 use Rattle.std.proofs.Common.{◌≡◌, ◌⊎◌, inl, inr, ℕ, ◌+◌, ◌<◌, Bool, true, false, cond, List, [], ◌∷◌, ◌++◌, length, refl, sym, ◌∙◌, ap, subst, arith}
 use Rattle.std.proofs.Common.{pos, Option, Some, None, ◌↔◌}
@@ -46,7 +46,7 @@ response_to_decided community id m =
       (λ h. parts.1 (((h.version, h.community_is), h.kind), h.id_is)),
     )
 
--- a message that isn't awaited is no such Response
+-- a message that isn't awaited isn't a Response with this community and request-id
 pub not_response : (community : List ℕ) (id : ℕ) (m : Message) → awaits community id m ≡ false → IsResponseTo community id m → ⊥
 not_response community id m e is = false≢true (sym e ∙ (response_to_decided community id m).1 is)
 
@@ -68,14 +68,14 @@ misplaced_decided w bindings = grind (arith, common_steps, Decides-or, Decides-l
 nothing_decided : (w : Walker) (rows : List VarBind) → Decides (is_plain w.mode && (w.count + length rows == 0)) (GivesNothing w rows)
 nothing_decided w rows = grind (arith, common_steps, Decides-and, plain_decided, Decides-eqb, nil_from_length)
 
--- the reply to a Get
+-- the test of `got` decides whether b replies to the Get
 got_parts : (asked : List ℕ) (b : VarBind) → Decides (pointwise nat_eq b.name asked && not (is_end b.value)) (IsGot asked (b ∷ []) b)
 got_parts asked b =
     let parts = Decides-and (pointwise nat_eq b.name asked) (not (is_end b.value)) (bytes_decides b.name asked)
     (Decides-not (is_end b.value) (end_decided b.value)) in
     ((λ e. let h = parts.0 e in record { alone = refl; name = h.0; value = h.1 }), (λ h. parts.1 (h.name, h.value)))
 
--- the binding that it brings, or that it brings none
+-- `got` returns the one binding that replies to the Get, or none if there is none
 got_decides : (asked : List ℕ) (bindings : List VarBind)
     → ((b : VarBind) × (got asked bindings ≡ Some b) × IsGot asked bindings b)
     ⊎ ((got asked bindings ≡ None) × ((b : VarBind) → IsGot asked bindings b → ⊥))
@@ -83,18 +83,18 @@ got_decides asked [] = inr (refl, λ c h. let alone = h.alone in cc)
 got_decides asked (b ∷ []) = grind (arith, common_steps, got_parts)
 got_decides asked (b ∷ d ∷ more) = inr (refl, λ c h. let alone = h.alone in cc)
 
--- what stands after the rows of a reply, by how it ends them
+-- what follows the rows of a reply, by the binding that ends them
 abbrev IsCut : (root last : List ℕ) → List VarBind → After → Type 0
 IsCut root last [] after = after ≡ nothing
 IsCut root last (b ∷ _) after =
     ((IsInside root b → ⊥) × (after ≡ leaving)) ⊎ (IsInside root b × (Precedes last b.name → ⊥) × (after ≡ falling b.name))
 
--- the order of names, as the standard has it
+-- the order of names, in the standard's terms
 module _ (precedes : (o p : List ℕ) → slice_cmp nat_cmp o p ≡ Less → Precedes o p) where
   after_decided : (o p : List ℕ) → Decides (comes_after o p) (Precedes o p)
   after_decided o p = ((λ e. precedes o p (less_from_after o p e)), (λ h. ap is_lt (less_precedes o p h)))
 
-  -- what is read of rows and what cuts them
+  -- what is read of rows, and then of a binding that ends them
   read_cut : (root o : List ℕ) (rows rest : List VarBind) (after : After) → AreRowsFrom root o rows → IsCut root (last_name o rows) rest after
       → front_of root o (rows ++ rest) ≡ record { rows = rows; after = after }
   read_cut root o [] [] after h c = rw c refl
@@ -105,7 +105,7 @@ module _ (precedes : (o p : List ℕ) → slice_cmp nat_cmp o p ≡ Less → Pre
   read_cut root o (b ∷ rows) rest after h c =
       rw ((inside_decided root b).1 h.0, (after_decided o b.name).1 h.1) (ap (before b) (read_cut root b.name rows rest after h.2 c))
 
-  -- bindings are the rows that are read, and others that cut them
+  -- the bindings are the rows that are read, and then those that end them
   record IsSplit (root o : List ℕ) (bindings : List VarBind) (front : ReadFront) : Type 0 where
     rest : List VarBind
     parts : bindings ≡ front.rows ++ rest
@@ -128,12 +128,12 @@ module _ (precedes : (o p : List ℕ) → slice_cmp nat_cmp o p ≡ Less → Pre
       })
       (λ o b more f. record { rest = b ∷ more; parts = refl; are_rows = tt; cut = inl (outside root b f, refl) })
 
-  -- a step, and the walk after it
+  -- a step, and the walk's state after it
   module _ (given : Step) (new : Walker) where
     abbrev Is : Step × Walker → Type 0
     Is x = (given ≡ x.0) × (new ≡ x.1)
 
-    -- a test decides between two of these
+    -- if a test decides P, a statement by cases of P is a statement about `cond`
     by_test : (b : Bool) (P X Y : Type 0) (x y : Step × Walker) → Decides b P → (P → X ↔ Is x) → ((P → ⊥) → Y ↔ Is y)
         → ((P × X) ⊎ ((P → ⊥) × Y)) ↔ Is (cond b x y)
     by_test true P X Y x y d f g =
@@ -156,7 +156,7 @@ module _ (precedes : (o p : List ℕ) → slice_cmp nat_cmp o p ≡ Less → Pre
     closing w rows = by_test (is_plain w.mode && (w.count + length rows == 0)) (GivesNothing w rows) (GoesOn w phase.Last [] given new)
         (EndsBy w rows (ending.Done (w.count + length rows)) given new) _ _ (nothing_decided w rows) (λ _. goes w phase.Last []) (λ _. same _)
 
-    -- what comes of rows
+    -- what comes of rows is what `reads_as` computes for some `after`
     follows_in : (w : Walker) (rows rest : List VarBind) → FollowsBy w rows rest given new
         → (after : After) × IsCut w.root (last_name w.asked rows) rest after × Is (reads_as after w rows)
     follows_in w rows [] h = (nothing, refl, (goes w phase.Rows rows).0 h)
@@ -189,7 +189,7 @@ module _ (precedes : (o p : List ℕ) → slice_cmp nat_cmp o p ≡ Less → Pre
     next w (b ∷ more) = by_test _ (AreMisplaced w (b ∷ more)) (EndsBy w [] ending.BadReply given new) (ReadsRows w (b ∷ more) given new) _ _
         (misplaced_decided w (b ∷ more)) (λ _. same _) (λ _. reading w (b ∷ more))
 
-    -- the reply to a Get, by what its binding means
+    -- what the bindings of a reply to a Get mean is what f computes of `got`, if it is so for each single binding
     got_so : (w : Walker) (bindings : List VarBind) (Binding : VarBind → Type 0) (f : Option VarBind → Step × Walker) → f None ≡ stops w [] ending.BadReply
         → ((b : VarBind) → Binding b ↔ Is (f (Some b))) → MeansGot w bindings Binding given new ↔ Is (f (got w.asked bindings))
     got_so w bindings Binding f bad each = elim (got_decides w.asked bindings) [
@@ -236,7 +236,7 @@ module _ (precedes : (o p : List ℕ) → slice_cmp nat_cmp o p ≡ Less → Pre
   pub found : (w : Walker) (m : Message) → Means w m (take_of w m).0 (take_of w m).1
   found w m = (means (take_of w m).0 (take_of w m).1 w m).1 (refl, refl)
 
-  -- what a datagram that encodes it means
+  -- what a datagram means is what `take_of` computes of the message that it encodes
   pub means_by : (w : Walker) (datagram : List ℕ) (m : Message) → Spells m datagram → (given : Step) (new : Walker) → given ≡ (take_of w m).0
       → new ≡ (take_of w m).1 → MeansBy w datagram given new
   means_by w datagram m spelt given new e f = inl (m, spelt, (means given new w m).1 (e, f))

@@ -1,4 +1,4 @@
--- What the lists of a walk hold, and what is left of them after a name.
+-- The rows that a walk returns are ordered, and those after a name are the rest of the walk (`rest_of_walk`, `resumable`).
 use Rattle.std.proofs.{lemmas.Grind.common_steps, lemmas.Bool.cond_both, lemmas.Bool.false≢true, lemmas.Bool.false_from_ne_true}
 use Rattle.std.proofs.Common.{◌≡◌, inl, inr, ℕ, ◌≤◌, Bool, true, false, cond, List, [], ◌∷◌, ◌++◌, length, refl, sym, ◌∙◌, ap, subst, arith}
 use Rattle.std.specs.{Prelude.filter, Ordering.nat_cmp, Ordering.is_lt, Cmp.Lexicographic.slice_cmp, declared.cmp.Ordering.TheVariants.Less}
@@ -13,7 +13,7 @@ use Rattle.snmp_walk.proofs.{TableLemmas.all_after, TableLemmas.rest_from_wire, 
 use Rattle.snmp_walk.proofs.NameLemmas.{less_from_after, after-trans, after-irrefl, less_precedes}
 use Rattle.snmp_walk.proofs.JoinLemmas.{one_after, kept, keeps, row_in, in_row, variables_rise, variables_are, get_row}
 
--- a filtered list rises as the whole one
+-- a filtered list is sorted if the whole one is
 after_kept : (test : VarBind → Bool) (x : List ℕ) (rows : List VarBind) → AreAfter x rows → AreAfter x (filter test rows)
 after_kept test x [] h = tt
 after_kept test x (q ∷ rows) h = grind (arith, common_steps, after_kept test x rows h.1, cond_both)
@@ -22,13 +22,13 @@ rising_kept : (test : VarBind → Bool) (rows : List VarBind) → AreRising rows
 rising_kept test [] h = tt
 rising_kept test (q ∷ rows) h = grind (arith, common_steps, rising_kept test rows h.1, cond_both, after_kept)
 
--- what rises is ordered
+-- sorted rows are ordered
 module _ (precedes : (o p : List ℕ) → comes_after o p ≡ true → Precedes o p) where
   pub ordered_from_rising : (rows : List VarBind) → AreRising rows → AreOrdered rows
   ordered_from_rising [] h = tt
   ordered_from_rising (p ∷ rows) h = ((λ q i. precedes p.name q.name (one_after p.name rows q h.0 i)), ordered_from_rising rows h.1)
 
--- after one of the names of a rising list the rest of it is left
+-- of a sorted list, the rows after one of its names are those that follow it
 not_before : (o p : List ℕ) → comes_after o p ≡ true → comes_after p o ≡ false
 not_before o p h = false_from_ne_true (comes_after p o) (λ k. false≢true (sym (after-irrefl o) ∙ after-trans o p o h k))
 
@@ -40,12 +40,12 @@ left_after p (q ∷ front) more h = rw (not_before q.name p.name (one_after q.na
 left_of : (rows : List VarBind) (p : VarBind) (front more : List VarBind) → AreRising rows → rows ≡ front ++ p ∷ more → more ≡ rows_after p.name rows
 left_of rows p front more h e = grind (arith, common_steps, left_after)
 
--- rows after a name, of those after an earlier one
+-- if p comes after o, then the rows after p are those after p among the rows after o
 later_rows : (o p : List ℕ) (rows : List VarBind) → comes_after o p ≡ true → rows_after p (rows_after o rows) ≡ rows_after p rows
 later_rows o p [] h = refl
 later_rows o p (q ∷ rows) h = grind (arith, common_steps, later_rows o p rows h, cond_both, false_from_ne_true, after-trans)
 
--- names as they are sent
+-- a name of at least three numbers is its own wire form
 pub wire_long : (name : List ℕ) → 3 ≤ length name → wire name ≡ name
 wire_long (x ∷ y ∷ name) h = refl
 wire_long _ h = absurd (omega (arith, h))
@@ -96,7 +96,7 @@ module _ (view : MibView) (good : IsMibView view) (root : List ℕ) where
     pub left_ordered : (o : List ℕ) → AreOrdered (rest_of root o (variables view))
     left_ordered o = ordered_from_rising precedes_after (rest_of root o (variables view)) (rest_rise o)
 
-  -- a walk is its beginning up to a name, and then the rest
+  -- what follows a row of the rest of a walk is the rest of the walk after its name
   pub rest_again : (o : List ℕ) (p : VarBind) (front more : List VarBind) → rest_of root o (variables view) ≡ front ++ p ∷ more
       → more ≡ rest_of root p.name (variables view)
   rest_again o p front more e =

@@ -1,5 +1,5 @@
--- What an agent sends in ways of its own is its reply, an error, or another Response that RFC 3416 allows; and so is all that comes of it
--- over a link.
+-- What an agent sends in other ways is its reply, an error, or another Response that RFC 3416 allows (`sent_loosely`); and so is all that arrives over a link
+-- to it (`come_loosely`).
 use Rattle.std.proofs.{lemmas.Grind.common_steps, lemmas.Int.ints, lemmas.List.Elements.All-append, lemmas.List.Elements.All-cons}
 use Rattle.std.proofs.{lemmas.List.length-drop, lemmas.List.take-append-le, lemmas.List.Elements.All-drop, lemmas.List.Elements.All-nil, lemmas.Slice.take-put_mid}
 use Rattle.std.proofs.Math.Seq.{drop-append_seam, take-append_seam, take-length}
@@ -30,7 +30,7 @@ use Rattle.snmp_walk.proofs.{BulkLemmas.chain_front, BulkLemmas.one_bulk, Honest
 
 -- ---- an element with its length in another form
 
--- lengths tell where the content begins
+-- lengths determine where the content begins
 by_lengths : (l k a b : List ℕ) → IsLength l (length a) → IsLength k (length b) → l ++ a ≡ k ++ b → a ≡ b
 by_lengths l k a b (inl s) (inl t) e =
     let both : length a ∷ a ≡ length b ∷ b = sym (ap (λ (x : List ℕ). x ++ a) s.one) ∙ e ∙ ap (λ (x : List ℕ). x ++ b) t.one in cc
@@ -82,7 +82,7 @@ respelt m reply longer h s =
           (All-append (λ o. o < 256) h.size h.content h.are_octets (content_octets sequence_tag h.content reply h.same s.are_octets)));
     }
 
--- a long length is of as many octets as its first says
+-- a long length has as many octets as its first octet says
 pub long_content : (tag long : ℕ) (content octets : List ℕ) → IsElement tag content octets → get_or octets 1 0 ≡ long → 128 ≤ long
     → take (length octets - (long - 126)) (drop (long - 126) octets) ≡ content
 long_content tag long content octets h first low = long_by h.length_octets content h.is_length h.parts
@@ -108,7 +108,7 @@ framed six rest ys n k long e =
     take-put_mid 6 k (six ++ rest) ys n e (omega (arith, length-append six rest, long))
     ∙ ap (λ (xs : List ℕ). xs ++ ys) (subst (λ (m : ℕ). take m (six ++ rest) ≡ six) long (take-append_seam six rest))
 
--- the tag, a length in five octets, and the content
+-- the tag, a length in five octets and the content are the element with its length in five octets
 pub lengthened : (reply content longer : List ℕ) (high low : ℕ) → IsElement sequence_tag content reply
     → longer ≡ (sequence_tag ∷ 132 ∷ 0 ∷ 0 ∷ high ∷ low ∷ []) ++ content → length content ≡ high * 256 + low → high < 256 → low < 256
     → IsLengthened reply longer
@@ -130,7 +130,7 @@ pub if_none : (r : Option ℕ) (P Q : Type 0) → (P → Q) → IfNone r P → I
 if_none None P Q by h = by h
 if_none (Some n) P Q by h = tt
 
--- what is sent in the way that is used is what the buffer begins with
+-- what is sent in the way that is used is at the start of the buffer
 pub sent_back : (r : Option ℕ) (out rest : List ℕ) (used : Way) (Uses : Way → Type 0) (Sent : Way → List ℕ → Type 0) → IfSome r (λ n. n ≤ 65507)
     → length out ≡ 65507 → Uses used → IfSome r (λ n. Sent used (take n out)) → IfSome r (λ n. (way : Way) × Uses way × Sent way (take n (out ++ rest)))
 sent_back None out rest used Uses Sent short long uses h = tt
@@ -138,7 +138,7 @@ sent_back (Some n) out rest used Uses Sent short long uses h = grind (arith, com
 
 -- ---- messages in range
 
--- a binding that asks for a name takes few octets
+-- a binding with a name and NULL has few octets
 pub asked_short : (bindings : List VarBind) (b : VarBind) → bindings ≡ b ∷ [] → b.value ≡ null_value → length b.name ≤ 128
     → length (canon_bindings bindings) ≤ 658
 asked_short bindings b e none short =
@@ -153,7 +153,7 @@ module _ (q : Message) (typed : IsMessageOfType q) (one : AsksForOne q) where
   few_octets =
       subst (λ (bs : List VarBind). length (canon_bindings bs) ≤ 658) (sym one.bindings) (name_short one.name name_of_type.name.1.short)
 
-  -- the same bindings in a PDU of another kind, with other numbers
+  -- the same bindings in a PDU of another kind, with other numbers, are in range
   asked_in_range : length q.community ≤ 65535 → (k : Kind) (a b : ℤ) → FitsSigned w32 a → FitsSigned w32 b
       → IsMessageInRange (record q { kind = k; a = a; b = b })
   asked_in_range short k a b fits_a fits_b = record {
@@ -166,7 +166,7 @@ module _ (q : Message) (typed : IsMessageOfType q) (one : AsksForOne q) where
     total = omega (arith, few_octets);
   }
 
--- no message is shorter than its community
+-- a message isn't shorter than its community
 community_short : Codec → (m : Message) → length m.community ≤ length (canon m)
 unfolding canon_value canon_content
 community_short codec m =
@@ -193,7 +193,7 @@ fewer_of : (n most : ℕ) (z : ℤ) → pos n ≤ℤ pos most → pos most <ℤ 
 fewer_of n most (pos k) h low = omega (arith, ints, h, low)
 fewer_of n most (negsuc k) h low = absurd (omega (arith, ints, low))
 
--- where no binding came, the first has no room
+-- if the longest prefix that fits is empty, the first binding has no room
 first_large : (view : MibView) (max_size : ℕ) (q : Message) (o : List ℕ) (all bindings : List VarBind) → bindings ≡ [] → IsChain (IsNext view) o all
     → all ≢ [] → IsLongestFront max_size q all bindings
     → (p : VarBind) × IsNext view o p × (Fits max_size (response q no_error (pos 0) (p ∷ [])) → ⊥)
@@ -206,7 +206,7 @@ first_large view max_size q o (p ∷ later) bindings none chain some longest = (
       absurd (omega (arith, short, ap length none)),
 )
 
--- what may be sent to a GetBulk for fewer repetitions may be sent to it
+-- what may be sent to a GetBulk for fewer repetitions may also be sent to q
 fewer_may : (view : MibView) (max_size n : ℕ) (q m : Message) → q.kind ≡ kind.GetBulkRequest → pos n <ℤ q.b
     → MayRespond view max_size (with_repetitions n q) m → MayRespond view max_size q m
 fewer_may view max_size n q m k more (sending.whole (got bindings other answers e)) = let never : ⊥ = cc in absurd never
@@ -218,7 +218,7 @@ fewer_may view max_size n q m k more (sending.shortened large (unwritten other e
 fewer_may view max_size n q m k more (sending.bulk asked bindings is_bulk singles names chain few none e) =
     sending.bulk asked bindings is_bulk singles names chain (fewer_of (length bindings) n q.b few more) none e
 
--- a Response is of its request's community
+-- a Response has the community of its request
 same_community : (view : MibView) (max_size : ℕ) (q r : Message) → IsResponse view max_size q r → r.community ≡ q.community
 same_community view max_size q r (whole (got bindings k answers e) fits) = ap (λ (m : Message). m.community) e
 same_community view max_size q r (whole (got_next bindings k answers e) fits) = ap (λ (m : Message). m.community) e
@@ -240,7 +240,7 @@ module _ (codec : Codec) (typed : SpeltIsOfType) (agent : Agent) (good : IsMibVi
       (few_of (length bindings) q.b repeats.1 few)
       (λ none. first_large agent.view agent.max_size q one.name all bindings none names.chain (names.some repeats.1) longest) e
 
-  -- what a reply to the request says
+  -- a message that a reply to q encodes is a Response that agents may send
   replied : (q m : Message) (datagram octets : List ℕ) → AsksForOne q → Spells q datagram → IsReply agent datagram octets → Spells m octets
       → MayRespond agent.view agent.max_size q m
   replied q m datagram octets one encoded reply spelt =
@@ -249,7 +249,7 @@ module _ (codec : Codec) (typed : SpeltIsOfType) (agent : Agent) (good : IsMibVi
       subst (MayRespond agent.view agent.max_size q) (sym same)
       (may_respond q reply.response one (subst (λ (x : Message). IsResponse agent.view agent.max_size x reply.response) request reply.is_response))
 
-  -- a request with a reply is of the agent's community, which has room in a message
+  -- a request with a reply has the agent's community, which fits into a message
   short_community : (q : Message) (datagram octets : List ℕ) → Spells q datagram → IsReply agent datagram octets → length q.community ≤ 65535
   short_community q datagram octets encoded reply =
       let same : reply.response.community ≡ q.community =
@@ -303,9 +303,9 @@ sent_loosely codec typed agents view how datagram octets m lawful one s spelt =
       | inr h ↦ inr (inl (view, one, subst (IsReply agent datagram) (sym h.0) s.is_reply))
     ]
 
--- ---- what comes over a link
+-- ---- what arrives over a link
 
--- a run up to one of its steps
+-- a run up to one of its steps, and that step
 up_to : {L X : Type 0} (step : L → X → L → Type 0) (xs ys : List X) (x : X) (old new : L) → InTurn step old (xs ++ x ∷ ys) new
     → (mid : L) × (next : L) × InTurn step old xs mid × step mid x next
 up_to step [] ys x old new h = (old, h.0, refl, h.1)
@@ -321,18 +321,17 @@ later receive_failed more q one = one
 no_message : (m : Message) (octets : List ℕ) → octets ≡ [] → Spells m octets → ⊥
 no_message m octets none s = let parts = s.element.parts in cc
 
--- the ways after the next are among those before it
+-- the ways after the next one are among those before it
 after_next : (ahead left : List Way) (next other : Way) → IsNextWay ahead next left → OneOf left other → OneOf ahead other
 after_next [] left next other h one = absurd (subst (λ (ways : List Way). OneOf ways other) h.1 one)
 after_next (first ∷ more) left next other h one = inr (subst (λ (ways : List Way). OneOf ways other) h.1 one)
 
--- and the next is one of them if it is genErr
+-- and so is the next one, if it is genErr
 error_next : (ahead left : List Way) (next : Way) → IsNextWay ahead next left → next ≡ way.GenErr → OneOf ahead way.GenErr
 error_next [] left next h error = let whole = h.0 in let never : ⊥ = cc in absurd never
 error_next (first ∷ more) left next h error = inl (sym error ∙ h.0)
 
--- These events may have led from one state of a link to the other: the agent stays the same, the datagram that was sent last was sent in them or before
--- them, and no way is added.
+-- Events can lead from `old` to `new` only so: the agent is unchanged, the datagram sent last was sent in them or before them, and no way is added.
 record IsLed (old : LooseLink) (events : List (Event (Unit {0}))) (new : LooseLink) : Type 0 where
   agent : agent_at new ≡ agent_at old
   last : OneOf (tried events) (last_sent new) ⊎ (last_sent new ≡ last_sent old)
@@ -389,7 +388,7 @@ module _ (facts : LinkFacts LooseLink)
       in_first silence more q one = absurd one
       in_first receive_failed more q one = absurd one
 
-  -- all that came of a sort that genErr isn't of, if it was a way, are replies or other Responses
+  -- if genErr isn't of this sort, or no way is genErr, then all messages of this sort that arrive are replies or other Responses
   pub come_loosely : Codec → SpeltIsOfType → (Sort : Message → Type 0) (events : List (Event (Unit {0}))) (old new : LooseLink)
       → ((m : Message) → Sort m → m.a ≡ general_error → OneOf (ways_left old) way.GenErr → ⊥) → IsMibView (agent_at old).view
       → last_sent old ≡ [] → InTurn (Happens facts) old events new → AreRepliesOf Sort (agents_at old) events

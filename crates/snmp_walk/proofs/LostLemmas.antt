@@ -1,4 +1,4 @@
--- What an honest link brings as a request is tried over it: its own reply, or others, which lose it.
+-- What an honest link delivers for a request: its reply (`reply_of`), or others until it counts as lost (`lost_of`).
 use Rattle.std.proofs.lemmas.Grind.{common_steps}
 use Rattle.std.proofs.Common.{◌≡◌, ◌≢◌, ◌⊎◌, inl, inr, ℕ, zero, suc, ◌+◌, ◌<◌, List, [], ◌∷◌, ◌++◌, length, replicate, refl, sym, ◌∙◌, ap, subst}
 use Rattle.std.proofs.Common.{arith, append-nil, Option, Some, None}
@@ -29,11 +29,12 @@ latest_is (d ∷ e ∷ sent) q = latest_is (e ∷ sent) q
 -- ---- one receive
 
 module _ (agents : Agents) (Other : List ℕ → Type 0) (q : List ℕ) where
-  -- a request that is sent again is no other
+  -- the request, sent again, isn't another one
   asked_on : (n : ℕ) (sent : List (List ℕ)) → IsAsked agents Other q sent → IsAsked agents Other q (sent ++ replicate n q)
   asked_on n sent a = grind (arith, common_steps, one_append, one_same)
 
-  -- how the deliveries lose so many tries of the request, the first of which has received `count` others
+  -- The deliveries between `ahead` and `left` lose `tries` tries of the request, the first of which has received `count` other replies; or one of the agents
+  -- has no reply to it.
   abbrev Loses : List (List ℕ) → List (Option ℕ) → (tries count : ℕ) → List (Option ℕ) → Type 0
   Loses sent ahead tries count left =
       (used : List (Option ℕ)) × (ahead ≡ used ++ left) × (IsUnanswered agents q ⊎ Lost agents sent q used tries count)
@@ -45,7 +46,7 @@ module _ (agents : Agents) (Other : List ℕ → Type 0) (q : List ℕ) where
       (e ∷ l.0, parts ∙ ap (λ (es : List (Option ℕ)). e ∷ es) l.1, elim l.2 [ inl u ↦ inl u | inr h ↦ inr (lost l.0 h) ])
 
   module _ (sent : List (List ℕ)) (last : latest sent ≡ Some q) (asked : IsAsked agents Other q sent) where
-    -- the reply that is waited for
+    -- a datagram that isn't another reply is the reply to the request
     own_reply : (d : List ℕ) → (Other d → ⊥) → (ahead left : List (Option ℕ)) → Receives agents sent ahead (Some d) left → IsReplyFrom agents q d
     own_reply d own [] left r = rw last at r.1
     own_reply d own (None ∷ next) left r = let e = r.1 in let no : ⊥ = cc in absurd no
@@ -59,7 +60,7 @@ module _ (agents : Agents) (Other : List ℕ → Type 0) (q : List ℕ) where
         ]
 
     module _ (t : ℕ) (final : List (Option ℕ)) where
-      -- nothing, which ends the try
+      -- a receive that returns nothing ends the try
       nothing_lost : (count : ℕ) (ahead left : List (Option ℕ)) → Receives agents sent ahead None left → Loses (resent sent q t) left t 0 final
           → Loses sent ahead (suc t) count final
       nothing_lost count [] left r l = let none : IsUnanswered agents q = rw last at r.1 in (l.0, sym r.0 ∙ l.1, inl none)
@@ -68,7 +69,7 @@ module _ (agents : Agents) (Other : List ℕ → Type 0) (q : List ℕ) where
       nothing_lost count (Some k ∷ next) left r l =
           loses_more (suc t) count t 0 left (Some k) (ap (λ (es : List (Option ℕ)). Some k ∷ es) (sym r.0)) (λ used h. inl (r.1, h)) l
 
-      -- another reply, with which the try ends or goes on
+      -- after another reply, the try ends or continues
       other_lost : (count : ℕ) (d : List ℕ) → Other d → (ahead left : List (Option ℕ)) → Receives agents sent ahead (Some d) left
           → ((count ≡ 63) × Loses (resent sent q t) left t 0 final) ⊎ ((count ≢ 63) × Loses sent left (suc t) (count + 1) final)
           → Loses sent ahead (suc t) count final
@@ -86,7 +87,7 @@ module _ (agents : Agents) (Other : List ℕ → Type 0) (q : List ℕ) where
           by_datagram None e given = let no : ⊥ = cc in absurd no
           by_datagram (Some x) e given = (x, d, e, (λ same. asked.own d (subst (λ (y : List ℕ). IsReplyFrom agents y d) same given) other), given)
 
--- where no try is left it doesn't matter what was sent
+-- if no tries are left, it doesn't matter what was sent
 resent_lost : (agents : Agents) (q : List ℕ) (sent : List (List ℕ)) (used : List (Option ℕ)) (t : ℕ) → Lost agents (sent ++ q ∷ []) q used t 0
     → Lost agents (resent sent q t) q used t 0
 resent_lost agents q sent [] zero lost = lost
@@ -100,7 +101,7 @@ module _ {L : Type 0} (facts : LinkFacts L) (keeping : (link : L) → facts.hone
   abbrev Ahead : L → List (Option ℕ)
   Ahead link = (facts.traffic link).ahead
 
-  -- an honest link of these agents, over which these were sent
+  -- the link is honest, has these agents, and these datagrams were sent over it
   pub record Serves (sent : List (List ℕ)) (link : L) : Type 0 where
     pub honest : facts.honest link
     pub agents_are : facts.agents link ≡ agents
@@ -116,7 +117,7 @@ module _ {L : Type 0} (facts : LinkFacts L) (keeping : (link : L) → facts.hone
     given_by : (old new : L) (given : Option (List ℕ)) → Serves sent old → Gets facts old given new → Receives agents sent (Ahead old) given (Ahead new)
     given_by old new given s h = rw (s.agents_are, s.sent_is) at (h.1 s.honest)
 
-    -- a try that has received `count` others receives these too, `all` together, and misses the reply
+    -- a try that has received `count` others, and then `strays`, `all` in total, misses the reply
     try_lost : (t : ℕ) (final : List (Option ℕ)) (strays : List (List ℕ)) (count all : ℕ) (old now new : L) → all ≡ count + length strays → Serves sent old
         → count < 64 → InTurn (Brings facts) old strays now → ((d : List ℕ) → OneOf strays d → Other d) → EndsTry facts all now outcome.missed new
         → Loses agents Other q (resent sent q t) (Ahead new) t 0 final → Loses agents Other q sent (Ahead old) (suc t) count final
@@ -144,7 +145,7 @@ module _ {L : Type 0} (facts : LinkFacts L) (keeping : (link : L) → facts.hone
               (omega (arith, is, few)) h.2 (λ x one. others x (inr one)) over l,
         ))
 
-  -- no try brings it
+  -- each of the tries misses the reply
   tries_lost : (received : List (List (List ℕ))) (old new : L) (sent : List (List ℕ)) → Serves sent old → IsAsked agents Other q sent
       → InTurn (IsTry facts Other q outcome.missed) old received new
       → Loses agents Other q (sent ++ q ∷ []) (Ahead old) (length received) 0 (Ahead new)
@@ -162,7 +163,7 @@ module _ {L : Type 0} (facts : LinkFacts L) (keeping : (link : L) → facts.hone
       ) in
       (lost.0, unused (t.sent.1.used s.honest) ∙ lost.1, lost.2)
 
--- what came of a request that was sent alone after these
+-- what came of the request q, which is the only one sent after these
 module _ {L : Type 0} (facts : LinkFacts L) (keeping : (link : L) → facts.honest link → facts.keeps link) (Other : List ℕ → Type 0) (q : List ℕ)
     (tries : ℕ) (old new : L) (honest : facts.honest old) (asked : IsAsked (facts.agents old) Other q (facts.traffic old).sent) where
   pub lost_of : AreTried facts Other q tries old outcome.missed new

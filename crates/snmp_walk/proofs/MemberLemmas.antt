@@ -1,4 +1,4 @@
--- Members of lists.
+-- Membership (`OneOf`) in appended and repeated lists.
 use Rattle.std.proofs.Common.{◌≡◌, ◌⊎◌, inl, inr, ℕ, zero, suc, List, [], ◌∷◌, ◌++◌, replicate, refl, sym, ap}
 use Rattle.snmp_walk.specs.Link.{OneOf}
 

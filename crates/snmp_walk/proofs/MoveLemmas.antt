@@ -1,4 +1,4 @@
--- Moves of a link, one after another.
+-- Moves of a link compose: of two calls (`moves_on`), and of the tries of a request (`moved_of`, `tries_as`).
 use Rattle.std.proofs.{lemmas.Grind.common_steps, lemmas.Grind.replicate_next, lemmas.List.nil_from_length, lemmas.List.length-replicate}
 use Rattle.std.proofs.Common.{◌≡◌, ℕ, zero, suc, ◌+◌, ◌*◌, ◌≤◌, List, [], ◌∷◌, ◌++◌, length, replicate, sym, ◌∙◌, ap, subst, arith, Option}
 use Rattle.std.proofs.Common.{append-nil, append_assoc, length-append, inl, inr, ◌-◌, ◌<◌, refl, ◌≢◌}
@@ -52,17 +52,17 @@ used_on {ahead} {between} {left} u v = (
 pub unused : {ahead left : List (Option ℕ)} → AreUsed ahead 0 left → ahead ≡ left
 unused {ahead} {left} u = u.1 ∙ ap (λ (es : List (Option ℕ)). es ++ left) (nil_from_length u.0 (omega (arith, u.2)))
 
--- ---- how the link moved
+-- ---- how sends and receives change the link
 
 pub by_equal : (R : ℕ → ℕ → Type 0) (s t o p : ℕ) → s ≡ t → o ≡ p → R s o → R t p
 by_equal R s t o p e f h = subst (λ (x : ℕ). R x p) e (subst (R s) f h)
 
 module _ {W : Type 0} (facts : LinkFacts W) where
-  -- a link that stays as it is
+  -- no call leaves the link unchanged
   pub moves_none : (link : W) → IsMoved facts link [] 0 ⊥ link
   moves_none link = grind (arith, common_steps, sent_nothing, by_equal)
 
-  -- one that moved twice, the first time without a fault
+  -- two moves, the first without a failure, are one
   pub moves_on : {old between new : W} {tried more : List (List ℕ)} {k l : ℕ} {failed : Type 0} → IsMoved facts old tried k ⊥ between
       → IsMoved facts between more l failed new → IsMoved facts old (tried ++ more) (k + l) failed new
   moves_on {old} {between} {new} {tried} {more} {k} {l} {failed} m n = record {
@@ -79,7 +79,7 @@ module _ {W : Type 0} (facts : LinkFacts W) where
         (o + octets_in more + octets_in tried) (omega (arith, length-append tried more)) (omega (arith, octets-append tried more)) r)).1;
   }
 
-  -- the same, with more receives, where its failure is said in other words
+  -- a move is also one with more receives, and with an equivalent statement that a call failed
   pub moves_as : {old new : W} {tried : List (List ℕ)} {m n : ℕ} {failed other : Type 0} → m ≤ n → (failed → other) → (other → failed)
       → IsMoved facts old tried m failed new → IsMoved facts old tried n other new
   moves_as few there back m = grind (arith, common_steps)
@@ -88,13 +88,13 @@ module _ {W : Type 0} (facts : LinkFacts W) where
       → IsMoved facts old tried n ⊥ new
   went few fine m = moves_as few fine (λ f. absurd f) m
 
-  -- a receive into a buffer that is long enough
+  -- a receive into a buffer that is long enough is a move
   pub received : {old new : W} {n : ℕ} {failed : Type 0} → 65507 ≤ n
       → Moves facts.keeps facts.honest facts.agents facts.traffic facts.fault_count (λ link s o. (65507 ≤ n) × facts.ready link s o) old [] 1 failed new
       → IsMoved facts old [] 1 failed new
   received long m = grind (arith, common_steps)
 
--- ---- how it moves as a request is tried over it
+-- ---- how the tries of a request change the link
 
 same_front : (q : List ℕ) (n : ℕ) (front left : List (List ℕ)) → replicate n q ≡ front ++ left → front ≡ replicate (length front) q
 same_front q n [] left e = refl
@@ -152,12 +152,12 @@ module _ {L : Type 0} (facts : LinkFacts L) (Other : List ℕ → Type 0) (q : L
   few_before tries old new h keeps =
       omega (arith, ap length (sent_before tries old new h keeps), length-append (facts.traffic old).sent (replicate tries q), length-replicate tries q)
 
-  -- once more, and what then stands in the list
+  -- a try of the request adds it to the list of datagrams sent
   sent_try : (what : Outcome) (old new : L) (strays : List (List ℕ)) → IsTry facts Other q what old strays new → facts.keeps old
       → (facts.traffic new).sent ≡ (facts.traffic old).sent ++ q ∷ []
   sent_try what old new strays t keeps = grind (arith, common_steps, sent_none, moves_on, moved_bringing, moved_ending, sent_all)
 
-  -- how that moved the link
+  -- the tries of a request change the link so
   pub moved_of : (tries : ℕ) → 0 < tries → (what : Outcome) (old new : L) → AreTried facts Other q tries old what new
       → IsMovedByTries facts old q tries (what ≡ outcome.cut_off) new
   moved_of tries some outcome.missed old new h = (
@@ -200,7 +200,7 @@ module _ {L : Type 0} (facts : LinkFacts L) (Other : List ℕ → Type 0) (q : L
             omega (arith, few_before h.0 old h.2 h.3 keeps, ap (λ (t : Traffic). length t.sent) f.1.1),
       )
 
-  -- how often it was sent: once at least, unless the link failed, and as many times as there are tries where none brought its reply
+  -- how many times the request was sent: at least once unless the link failed, and once for each try if none received its reply
   abbrev pub IsSent : (tries : ℕ) → Outcome → L → L → Type 0
   IsSent tries what old new = (times : ℕ) × (times ≤ tries) × ((facts.traffic new).sent ≡ (facts.traffic old).sent ++ replicate times q)
       × ((what ≡ outcome.cut_off → ⊥) → 0 < times) × (what ≡ outcome.missed → times ≡ tries)
@@ -218,12 +218,12 @@ module _ {L : Type 0} (facts : LinkFacts L) (Other : List ℕ → Type 0) (q : L
         λ is. cc,
       )
 
-  -- where its failure is said in other words
+  -- the same, with an equivalent statement that a call failed
   pub tries_as : {old new : L} {tries : ℕ} {failed other : Type 0} → (failed → other) → (other → failed) → IsMovedByTries facts old q tries failed new
       → IsMovedByTries facts old q tries other new
   tries_as there back h = (h.0, h.1, h.2, h.3, moves_as facts (omega arith) there back h.4, h.5)
 
--- ---- the ends that an outcome leads to
+-- ---- the ends that an outcome allows
 
 abbrev pub Suits : Outcome → WalkEnd → Type 0
 Suits (outcome.answered d) end = (end ≢ ending.Link) × (end ≢ ending.NoResponse)

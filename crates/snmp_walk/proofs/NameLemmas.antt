@@ -1,4 +1,5 @@
--- Names below a root and their order: the tests that walks are made of say what the relations say.
+-- What the tests of names and values decide (`below_decided`, `end_decided`, `inside_decided`); in their order, the names below a root are consecutive
+-- (`outside_after`).
 use Rattle.std.proofs.Common.{◌≡◌, ℕ, ◌<◌, true, List, [], ◌∷◌, ◌++◌, length, take, drop, refl, sym, ◌∙◌, ap, subst, arith, length-append}
 use Rattle.std.proofs.Common.{length-drop, append-nil, append_assoc, ◌⊎◌, inl, inr, zero, suc, ◌≤◌, false, ◌≢◌, Bool, cond}
 use Rattle.std.proofs.{lemmas.List.take-append-drop, Math.Seq.take-append_seam, lemmas.Grind.common_steps}
@@ -45,7 +46,7 @@ below_from_test root name test =
 pub below_decided : (root name : List ℕ) → Decides (is_below name root) (IsBelow name root)
 below_decided root name = (below_from_test root name, test_from_below root name)
 
--- ---- the order of names, and that those below a root lie together in it
+-- ---- the order of names, in which those below a root are consecutive
 
 less_from_lt : (r : Ordering) → is_lt r ≡ true → r ≡ Less
 less_from_lt Less e = refl
@@ -60,11 +61,11 @@ after-trans o p q a b = ap is_lt (nat_list_cmp_total.trans o p q (less_from_afte
 pub after-irrefl : (o : List ℕ) → comes_after o o ≡ false
 after-irrefl o = ap is_lt (tied_itself nat_list_cmp_total o)
 
--- a name is not after one that is after another which it is not after
+-- if p comes after o, and r doesn't, then r doesn't come after p
 pub not_after : (o p r : List ℕ) → comes_after o p ≡ true → comes_after o r ≡ false → comes_after p r ≡ false
 not_after o p r a b = false_from_ne_true (comes_after p r) (λ c. let both : comes_after o r ≡ true = after-trans o p r a c in cc)
 
--- equal first numbers
+-- if the first numbers are equal, the others decide the order
 pub same_first : (x : ℕ) (o p : List ℕ) → slice_cmp nat_cmp (x ∷ o) (x ∷ p) ≡ slice_cmp nat_cmp o p
 same_first x o p = grind (arith, common_steps)
 
@@ -88,14 +89,14 @@ not_less_none (x ∷ o) e = cc
 below_first : (x : ℕ) (o root : List ℕ) → IsBelow o root → IsBelow (x ∷ o) (x ∷ root)
 below_first x o root h = (h.0, h.1, ap (λ (s : List ℕ). x ∷ s) h.2)
 
--- numbers that differ decide
+-- if the first numbers differ, they decide the order
 gap_first : (x y : ℕ) (a c : Ordering) (r : Ordering) → r ≡ nat_cmp x y → ordering_then r a ≡ Less → ordering_then (nat_cmp y x) c ≡ Less
     → (x ≡ y) × (a ≡ Less) × (c ≡ Less)
 gap_first x y a c Less e h k = grind (arith, common_steps)
 gap_first x y a c Equal e h k = grind (arith, common_steps)
 gap_first x y a c Greater e h k = absurd cc
 
--- A name below the root stands behind no name that stands behind one of the subtree and isn't below the root.
+-- If p comes after a name of the subtree and isn't below the root, then no name below the root comes after p.
 behind_gap : (root s p rest : List ℕ) → slice_cmp nat_cmp (root ++ s) p ≡ Less → (IsBelow p root → ⊥) → slice_cmp nat_cmp p (root ++ rest) ≡ Less → ⊥
 behind_gap [] s [] rest h out k = not_less_none s h
 behind_gap [] s (y ∷ p) rest h out k = out (y ∷ p, (λ e. cc), refl)
@@ -104,7 +105,7 @@ behind_gap (x ∷ root) s (y ∷ p) rest h out k =
     let first = gap_first x y (slice_cmp nat_cmp (root ++ s) p) (slice_cmp nat_cmp p (root ++ rest)) (nat_cmp x y) refl h k in
     behind_gap root s p rest first.1 (λ below. out (subst (λ (n : ℕ). IsBelow (n ∷ p) (x ∷ root)) first.0 (below_first x p root below))) first.2
 
--- the same of the tests, o being the root or below it
+-- the same by the tests: if p comes after the root or a name below it, and isn't below the root, then neither is a name q after p
 pub outside_after : (root s p q : List ℕ) → comes_after (root ++ s) p ≡ true → is_below p root ≡ false → comes_after p q ≡ true → is_below q root ≡ false
 outside_after root s p q a out b = grind (arith, common_steps, false_from_ne_true, below_from_test, test_from_below, behind_gap, less_from_after)
 
@@ -112,7 +113,7 @@ zero_first : (x : ℕ) (o p : List ℕ) → slice_cmp nat_cmp o p ≡ Less → s
 zero_first zero o p h = same_first 0 o p ∙ h
 zero_first (suc x) o p h = grind (arith, common_steps)
 
--- an instance below the root comes after the root as it is sent
+-- a name below the root with at least three numbers comes after the root's wire form
 less_than_below : (root name : List ℕ) → 3 ≤ length name → IsBelow name root → slice_cmp nat_cmp (wire root) name ≡ Less
 less_than_below [] (a ∷ b ∷ c ∷ name) long h = zero_first a (0 ∷ []) (b ∷ c ∷ name) (zero_first b [] (c ∷ name) refl)
 less_than_below (x ∷ []) (a ∷ b ∷ c ∷ name) long h = grind (arith, common_steps, same_first, zero_first)
@@ -122,18 +123,18 @@ less_than_below _ _ long h = absurd (omega (arith, long))
 pub below_after_wire : (root name : List ℕ) → 3 ≤ length name → is_below name root ≡ true → comes_after (wire root) name ≡ true
 below_after_wire root name long below = ap is_lt (less_than_below root name long (below_from_test root name below))
 
--- as it is sent, the root begins with itself
+-- the root's wire form begins with the root
 pub wire_begins : (root : List ℕ) → (s : List ℕ) × (wire root ≡ root ++ s)
 wire_begins [] = (0 ∷ 0 ∷ [], refl)
 wire_begins (x ∷ []) = (0 ∷ [], refl)
 wire_begins (x ∷ y ∷ root) = ([], sym (append-nil (x ∷ y ∷ root)))
 
--- and so does each name behind it
+-- and so does the wire form of each name that begins with the root
 pub wire_begins_below : (root rest : List ℕ) → (s : List ℕ) × (wire (root ++ rest) ≡ root ++ s)
 wire_begins_below root rest =
     let h = wire_begins (root ++ rest) in (rest ++ h.0, h.1 ∙ append_assoc root rest h.0)
 
--- a name that is the root or below it
+-- if the name is the root or below it, then its wire form begins with the root
 pub wire_begins_at : (root name : List ℕ) → (name ≡ root) ⊎ IsBelow name root → (s : List ℕ) × (wire name ≡ root ++ s)
 wire_begins_at root name (inl e) = let h = wire_begins root in (h.0, ap wire e ∙ h.1)
 wire_begins_at root name (inr b) = let h = wire_begins_below root b.0 in (h.0, ap wire b.2 ∙ h.1)
@@ -159,7 +160,7 @@ missing_decided b = (missing_tells b.value, missing_from b.value)
 pub inside_decided : (root : List ℕ) (b : VarBind) → Decides (is_inside root b) (IsInside root b)
 inside_decided root b = grind (arith, common_steps, Decides-and, Decides-not, end_decided, below_decided)
 
--- the same, each way
+-- the same, each way by itself
 pub no_end : (v : Datum) → is_end v ≡ false → v ≢ end_of_mib_view
 no_end v e is = false≢true (sym e ∙ (end_decided v).1 is)
 
@@ -175,7 +176,7 @@ miss_test b h = false_from_ne_true (is_missing b.value) (λ e. h ((missing_decid
 pub outside : (root : List ℕ) (b : VarBind) → is_inside root b ≡ false → IsInside root b → ⊥
 outside root b e is = false≢true (sym e ∙ (inside_decided root b).1 is)
 
--- an instance has no endOfMibView
+-- the value of an instance isn't endOfMibView
 pub inside_value : (root : List ℕ) (b : VarBind) → is_inside root b ≡ true → is_end b.value ≡ false
 inside_value root b i = not-true (is_end b.value) (and_parts (not (is_end b.value)) (is_below b.name root) i).0
 
@@ -185,7 +186,7 @@ outside_test root b h = false_from_ne_true (is_inside root b) (λ e. h ((inside_
 pub after_test : (o p : List ℕ) → Precedes o p → comes_after o p ≡ true
 after_test o p h = ap is_lt (less_precedes o p h)
 
--- the binding, where it has a value
+-- the binding, if it has a value (`IsGivenIfPresent`, computed)
 pub present_is : (b : VarBind) (front : List VarBind) → IsGivenIfPresent b front → front ≡ if_present b
 present_is b front (inl h) = h.1 ∙ sym (ap (λ (t : Bool). cond t [] (b ∷ [])) ((missing_decided b).1 h.0))
 present_is b front (inr h) = h.1 ∙ sym (ap (λ (t : Bool). cond t [] (b ∷ [])) (miss_test b h.0))

@@ -1,4 +1,4 @@
--- What comes to a walk over a faithful network.
+-- Over a faithful network, what arrives at the walk are replies of its agents (`replies_over`).
 use Rattle.std.proofs.Common.{◌≡◌, inl, inr, ℕ, List, [], ◌∷◌, ◌++◌, refl, sym, ◌∙◌, ap, subst, append_assoc, append-nil, flat_map, arith, length}
 use Rattle.std.proofs.Common.{map, Option, Some, None, Ok, Err, take}
 use Rattle.std.specs.Prelude.{Result}
@@ -49,7 +49,7 @@ tried-append (receive_failed ∷ a) b = tried-append a b
 -- ---- what agents send
 
 module _ {Peer : Type 0} (agents : Agents) where
-  -- a datagram that came from the peer has this reply
+  -- an agent replied r to a datagram that came from the peer
   abbrev IsReplied : List (Event Peer) → Peer → List ℕ → Type 0
   IsReplied before peer r = (d : List ℕ) × OneOf before (came peer d) × IsReplyFrom agents d r
 
@@ -105,7 +105,7 @@ module _ {Peer : Type 0} (agents : Agents) where
       subst (λ (b : List (Event Peer)). IsAnswer b e) (append_assoc before (x ∷ []) f ∙ ap (λ z. before ++ z ∷ f) same)
       (answer_at (before ++ x ∷ []) es f g e h.1 rest)
 
-  -- each datagram that came to the walk is the reply to one that it had sent
+  -- each datagram that arrived at the walk is the reply to one that it had sent before
   carried : (walker : Peer) (run : List (Happening Peer)) → IsFaithful walker run → AreServed agents run
       → (before after : List (Happening Peer)) (peer : Unit {0}) (r : List ℕ) → run ≡ before ++ at_walk (came peer r) ∷ after
       → (m : Message) → Spells m r → (d : List ℕ) × OneOf (tried (of_walk before)) d × IsReplyFrom agents d r
@@ -138,7 +138,7 @@ module _ {Peer : Type 0} (agents : Agents) where
             replied.2,
           )
 
--- ---- an event at the walk's end stands somewhere in the run
+-- ---- each event at the walk's end is somewhere in the run
 
 walk_place : {Peer : Type 0} (run : List (Happening Peer)) (xs ys : List (Event (Unit {0}))) (e : Event (Unit {0})) → of_walk run ≡ xs ++ e ∷ ys
     → (before after : List (Happening Peer)) × (run ≡ before ++ at_walk e ∷ after) × (of_walk before ≡ xs)
@@ -160,7 +160,7 @@ replies_over agents walker run faithful served before after peer r is m spelt _ 
     let c = carried agents walker run faithful served w.0 w.1 peer r w.2 m spelt in
     (c.0, subst (λ (es : List (Event (Unit {0}))). OneOf (tried es) c.0) w.3 c.1, inl c.2)
 
--- ---- what happens at a link as a request is tried over it
+-- ---- what happens at a link while a request is tried over it
 
 pub in_turn-append : {L X : Type 0} (step : L → X → L → Type 0) (xs ys : List X) (old between new : L) → InTurn step old xs between
     → InTurn step between ys new → InTurn step old (xs ++ ys) new
@@ -207,7 +207,7 @@ send_after (silence ∷ events) more h k = h
 send_after (receive_failed ∷ events) more h k = h
 
 module _ {L : Type 0} (facts : LinkFacts L) (q : List ℕ) where
-  -- this happened, and no other datagram than this one was sent in it
+  -- events led from `old` to `new`, and no datagram but q was sent in them
   abbrev pub Grows : L → L → Type 0
   Grows old new = (events : List (Event (Unit {0}))) × InTurn (Happens facts) old events new × ((d : List ℕ) → OneOf (tried events) d → d ≡ q)
 
@@ -254,7 +254,7 @@ module _ {L : Type 0} (facts : LinkFacts L) (q : List ℕ) where
     missed_tries (strays ∷ more) old new h =
         grows_on old h.0 new (one_try old h.0 strays outcome.missed h.1) (missed_tries more h.0 new h.2)
 
-    -- the tries whose last was answered: this happened before the answer
+    -- if the last of the tries was answered, the events before the answer are such
     pub answered_tries : (tries : ℕ) (old new : L) (r : List ℕ) → AreTried facts Other q tries old (outcome.answered r) new
         → (last : L) × Grows old last × facts.brings last r new
     answered_tries tries old new r (earlier, few, before, missed, inl (strays, t)) = (
@@ -276,7 +276,7 @@ module _ {L : Type 0} (facts : LinkFacts L) (q : List ℕ) where
         let g = missed_tries missed.received old before missed.are_missed in
         (g.0 ++ send_failed tt q ∷ [], in_turn-append (Happens facts) g.0 (send_failed tt q ∷ []) old before new g.1 (new, fails.0, refl))
 
-    -- they begin with a send
+    -- the events of tries begin with a send
     begins_missed : (received : List (List (List ℕ))) (old new : L) (h : InTurn (IsTry facts Other q outcome.missed) old received new)
         → BeginWithSend (missed_tries received old new h).0
     unfolding missed_tries grows_on one_try up_to sent_once
@@ -331,14 +331,14 @@ module _ {Peer : Type 0} where
 no_turns : {Peer : Type 0} (agent : Agent) → AreTurns {Peer = Peer} agent 0 (record { replies = 0; dropped = 0; idle = 0; faults = 0 }) []
 no_turns {Peer} agent = record { done = []; each = All-nil (λ (u : TurnDone Peer). IsTurn agent u.turn u.events); count = refl; by_kind = refl; in_order = refl }
 
--- the agent had so many turns, and then this happened at the walk's end
+-- the agent had `turns` turns, and then e happened at the walk's end
 abbrev pub IsServedThen : {N Peer : Type 0} → (carries : N → Happening Peer → N → Type 0) → Agent → (turns : ℕ) → N → Event (Unit {0}) → N → Type 0
 IsServedThen {N} {Peer} carries agent turns old e new =
     (served : Served) × (events : List (Event Peer)) × AreTurns agent turns served events
     × InTurn carries old (map at_agents events ++ at_walk e ∷ []) new
 
 module _ {W N Peer : Type 0} (net : W → N) (agent_at : W → Agent) (carries : N → Happening Peer → N → Type 0) (turn_count : N → ℕ) where
-  -- what one event at the link is on the network
+  -- the events on the network for one event at the link
   record Part (old new : W) (e : Event (Unit {0})) : Type 0 where
     same : agent_at new ≡ agent_at old
     run : List (Happening Peer)
@@ -348,7 +348,7 @@ module _ {W N Peer : Type 0} (net : W → N) (agent_at : W → Agent) (carries :
     served : Served
     are_turns : AreTurns (agent_at old) turns served (of_agents run)
 
-  -- what all of them are
+  -- the events on the network for all events at the link
   pub record Whole (agents : Agents) (old new : W) (events : List (Event (Unit {0}))) : Type 0 where
     pub run : List (Happening Peer)
     pub chain : InTurn carries (net old) run (net new)
@@ -413,7 +413,7 @@ module _ {W N Peer : Type 0} (facts : LinkFacts W) (net : W → N) (agent_at : W
         };
       }
 
--- all that happened at a link in a walk
+-- all that happened at a link in a walk, as events on the network
 pub all_of : {W N Peer : Type 0} {facts : LinkFacts W} {link after : W} {tries : ℕ} {first : Walker} {given refused : List VarBind} {end : WalkEnd}
     → (w : IsWalkedOver facts link after tries first given refused end) (net : W → N) (agent_at : W → Agent) (carries : N → Happening Peer → N → Type 0)
     (turn_count : N → ℕ) → ((old new : W) (d : List ℕ) → facts.sends old d new → (agent_at new ≡ agent_at old) × carries (net old) (at_walk (sent tt d)) (net new))
@@ -430,7 +430,7 @@ all_of {W} {N} {Peer} {facts} {link} {after} w net agent_at carries turn_count s
 
 -- ---- what a network stores
 
--- nothing is sent by the agent's turns, nor by a receive of the walk
+-- neither the agent's turns nor a receive of the walk sends anything
 pub got_none : (Peer : Type 0) (result : Result (Option ℕ) LinkFault) (buffer : List ℕ)
     → requests_by {Peer = Peer} (at_walk (event_of_got result buffer)) ≡ []
 got_none Peer (Ok (Some n)) buffer = refl
@@ -450,14 +450,14 @@ module _ {N Peer : Type 0} (carries : N → Happening Peer → N → Type 0) (se
       all_sent run h.0 new h.2 ∙ ap (λ (ds : List (List ℕ)). ds ++ flat_map requests_by run) (sending old h.0 e h.1)
       ∙ append_assoc (sent_of old) (requests_by e) (flat_map requests_by run)
 
-  -- a receive leaves it as it was
+  -- a receive leaves what the walk sent unchanged
   pub same_sent : (events : List (Event Peer)) (e : Event (Unit {0})) (old new : N) → requests_by {Peer = Peer} (at_walk e) ≡ []
       → InTurn carries old (map at_agents events ++ at_walk e ∷ []) new → sent_of new ≡ sent_of old
   same_sent events e old new none h =
       all_sent (map at_agents events ++ at_walk e ∷ []) old new h ∙ ap (λ (ds : List (List ℕ)). sent_of old ++ ds) (sent_by_agents {Peer = Peer} events e none)
       ∙ append-nil (sent_of old)
 
--- what holds of a network still holds after all that happens on it
+-- if each event preserves what holds of a network, it still holds after all events
 pub still_so : {N Peer : Type 0} (carries : N → Happening Peer → N → Type 0) (Holds : N → Type 0)
     → ((old new : N) (e : Happening Peer) → Holds old → carries old e new → Holds new)
     → (run : List (Happening Peer)) (old new : N) → Holds old → InTurn carries old run new → Holds new

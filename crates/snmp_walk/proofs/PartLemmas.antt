@@ -1,4 +1,4 @@
--- What is given of a walk rises, and a front of it is a beginning of the walk too.
+-- What a walk has returned increases (`part_rises`), and a prefix of it is progress too (`part_front`).
 use Rattle.std.proofs.{lemmas.Grind.common_steps}
 use Rattle.std.proofs.Common.{◌≡◌, ◌⊎◌, inl, inr, ℕ, true, false, List, [], ◌∷◌, ◌++◌, refl, sym, ◌∙◌, ap, subst, arith, append-nil}
 use Rattle.snmp_wire.specs.Message.{VarBind}
@@ -9,7 +9,7 @@ use Rattle.snmp_walk.proofs.{MoveLemmas.nil_front, TableLemmas.after_more, NameL
 use Rattle.snmp_walk.proofs.RowLemmas.{AreAfter, AreRising, AreLawfulReplies}
 
 module _ (Next Got : List ℕ → VarBind → Type 0) (laws : AreLawfulReplies Next Got) (root : List ℕ) where
-  -- a trail rises from the name before it
+  -- the names of a trail increase, from the name before it on
   pub trail_rises : (o : List ℕ) (trail : List VarBind) → IsTrail Next root o trail → AreAfter o trail × AreRising trail
   trail_rises o [] h = (tt, tt)
   trail_rises o (p ∷ trail) h =
@@ -30,13 +30,13 @@ part_rises Next Got laws first given (inl none) = rw none tt
 part_rises Next Got laws first given (inr (inl (o, g))) = grind (arith, common_steps, opening_rises, trail_rises)
 part_rises Next Got laws first given (inr (inr h)) = rw h.only (tt, tt)
 
--- a list of one has itself and nothing as fronts
+-- the prefixes of a list of one element are the empty list and itself
 one_front : (p : VarBind) (xs ys : List VarBind) → p ∷ [] ≡ xs ++ ys → (xs ≡ []) ⊎ (xs ≡ p ∷ [])
 one_front p [] ys e = inl refl
 one_front p (x ∷ []) ys e = let same : x ≡ p = cc in inr (ap (λ (q : VarBind). q ∷ []) same)
 one_front p (x ∷ y ∷ xs) ys e = absurd cc
 
--- two ways to cut a list
+-- if a list is cut in two ways, one of the first parts is a prefix of the other
 two_cuts : (xs ys front trail : List VarBind) → xs ++ ys ≡ front ++ trail
     → ((rest : List VarBind) × (front ≡ xs ++ rest)) ⊎ ((more : List VarBind) × (xs ≡ front ++ more) × (trail ≡ more ++ ys))
 two_cuts [] ys front trail e = inl (front, refl)
@@ -56,7 +56,7 @@ module _ (Next Got : List ℕ → VarBind → Type 0) (first : Walker) where
   opening_front mode.Include xs rest front (p, got, inr some) e = grind (arith, common_steps, one_front)
   opening_front _ xs rest front none e = inl (nil_front xs rest (sym none ∙ e))
 
-  -- a front of what was given is a beginning too
+  -- a prefix of what was given is a first part of the walk too
   given_front : (xs ys : List VarBind) (o : List ℕ) (g : IsGiven Next Got first (xs ++ ys) o)
       → ((rest : List VarBind) × (g.front ≡ xs ++ rest)) ⊎ ((more : List VarBind) × (xs ≡ g.front ++ more) × (g.trail ≡ more ++ ys))
       → IsPartOfWalk Next Got first xs

@@ -1,4 +1,4 @@
--- A walk's requests can be encoded, and fit a datagram.
+-- The greatest lengths of messages and their parts; a request of a walk has at most 1,000 octets (`request_short`).
 use Rattle.std.proofs.{lemmas.Grind.common_steps, lemmas.List.length-map}
 use Rattle.std.proofs.Common.{◌≡◌, ℕ, zero, suc, ◌+◌, ◌*◌, ◌≤◌, List, [], ◌∷◌, length, arith, refl, ◌∙◌, length-append, ℤ, pos, negsuc}
 use Rattle.std.specs.{List.flat_map}
@@ -64,13 +64,13 @@ text_bound : (text : List ℕ) → length (canon_value (octet_string text)) ≤ 
 unfolding canon_content
 text_bound text = value_bound (octet_string text)
 
--- a binding takes at most 18 octets besides its name's numbers and its value's content
+-- a binding has at most 18 octets besides the numbers of its name and the content of its value
 pub binding_bound : (name : List ℕ) (value : Datum)
     → length (canon_binding (record { name = name; value = value })) ≤ 18 + 5 * length name + length (canon_content value)
 unfolding canon_binding
 binding_bound name value = omega (arith, element_bound, length-append {A = ℕ}, name_bound name, value_bound value)
 
--- one binding alone
+-- so does a list of one binding
 pub one_bound : (name : List ℕ) (value : Datum)
     → length (canon_bindings (record { name = name; value = value } ∷ [])) ≤ 18 + 5 * length name + length (canon_content value)
 unfolding canon_bindings
@@ -83,11 +83,11 @@ no_content = omega arith
 pub name_short : (name : List ℕ) → length name ≤ 128 → length (canon_bindings (record { name = name; value = null_value } ∷ [])) ≤ 658
 name_short name h = omega (arith, h, one_bound name null_value, no_content)
 
--- a message takes at most 84 octets besides its community and its bindings
+-- a message has at most 84 octets besides its community and its bindings
 pub message_bound : (m : Message) → length (canon m) ≤ 84 + length m.community + length (canon_bindings m.bindings)
 unfolding canon canon_opening canon_fields
 message_bound m = omega (arith, element_bound, integer_bound, text_bound, length-append {A = ℕ})
 
--- no request of a walk is longer than 1,000 octets
+-- a request of a walk has at most 1,000 octets
 pub request_short : (w : Walker) → length w.community ≤ 255 → length w.asked ≤ 128 → length (canon (request_of w)) ≤ 1000
 request_short w h k = omega (arith, h, message_bound (request_of w), name_short w.asked k)

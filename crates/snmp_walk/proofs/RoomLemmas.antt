@@ -1,4 +1,4 @@
--- How long a response of one binding is: no longer with an exception in place of the value, nor with a lesser id.
+-- The length of a Response with one binding: it isn't longer with an exception in place of the value, nor with a smaller id (`room_fits`, `room_exception`).
 use Rattle.std.proofs.lemmas.Grind.{common_steps}
 use Rattle.std.proofs.Common.{◌≡◌, ℕ, ◌^◌, ◌<◌, ◌≤◌, List, [], ◌∷◌, length, arith, length-append, pos}
 use Rattle.snmp_wire.specs.Message.{Datum, VarBind, Message, integer_value, no_such_object, no_such_instance, end_of_mib_view}
@@ -9,7 +9,7 @@ use Rattle.snmp_walk.specs.{Link.Agents, Link.full_response, Link.IsTooLarge, pr
 use Rattle.snmp_walk.specs.Room.{HasRoom, IsException}
 
 module _ (codec : Codec) where
-  -- an element with more content is no shorter, whatever the tags
+  -- an element with longer content isn't shorter, whatever the tags
   longer_element : (s t : ℕ) (a b : List ℕ) → length a ≤ length b → length (canon_element s a) ≤ length (canon_element t b)
   longer_element s t a b h = omega (arith, h, codec.elements.element s a, codec.elements.element t b, codec.elements.lengths_rise (length a) (length b) h)
 
@@ -33,7 +33,7 @@ module _ (codec : Codec) where
   unfolding number_size
   longer_number n k h = codec.elements.digits_rise 256 128 8 n k h
 
-  -- an integer from 0 that isn't less is no shorter
+  -- if 0 ≤ n ≤ k, the encoding of k isn't shorter than that of n
   longer_integer : (n k : ℕ) → n ≤ k → length (canon_value (integer_value (pos n))) ≤ length (canon_value (integer_value (pos k)))
   unfolding canon_value canon_content
   longer_integer n k h = grind (arith, common_steps, longer_element, longer_number)
@@ -42,7 +42,7 @@ module _ (codec : Codec) where
   unfolding canon_bindings
   one_binding p = omega (arith, length-append (canon_binding p) [])
 
-  -- messages whose parts are no shorter are no shorter
+  -- if no part of n is shorter than that of m, then n isn't shorter than m
   longer_message : (m n : Message) → length (canon_opening m) ≤ length (canon_opening n) → length (canon_fields m) ≤ length (canon_fields n)
       → length (canon_bindings m.bindings) ≤ length (canon_bindings n.bindings) → length (canon m) ≤ length (canon n)
   unfolding canon
@@ -56,7 +56,7 @@ module _ (codec : Codec) where
       longer_message m n (omega (arith, codec.sizes.opening m, codec.sizes.opening n))
       (omega (arith, codec.sizes.fields m, codec.sizes.fields n, longer_integer id last h)) (omega (arith, k, one_binding p, one_binding q))
 
-  -- with a lesser id all bindings are no longer
+  -- with a smaller id, the Response with all bindings isn't longer
   pub longer_full : (community : List ℕ) (id last : ℕ) (bindings : List VarBind) → id ≤ last
       → length (canon (full_response community id bindings)) ≤ length (canon (full_response community last bindings))
   longer_full community id last bindings h =
@@ -65,7 +65,7 @@ module _ (codec : Codec) where
       longer_message m n (omega (arith, codec.sizes.opening m, codec.sizes.opening n))
       (omega (arith, codec.sizes.fields m, codec.sizes.fields n, longer_integer id last h)) (omega arith)
 
-  -- what there is room for fits with each id
+  -- if a binding has room, it fits into a message with each id
   pub room_fits : (agents : Agents) (p : VarBind) (id : ℕ) → id < 2 ^ 31 → HasRoom agents p
       → length (canon (full_response agents.community id (p ∷ []))) ≤ agents.max_size
   room_fits agents p id low room = grind (arith, common_steps, longer_response)
@@ -73,7 +73,7 @@ module _ (codec : Codec) where
   pub room_small : (agents : Agents) (id : ℕ) (p : VarBind) → HasRoom agents p → IsTooLarge agents id p → ⊥
   room_small agents id p room large = grind (arith, common_steps, room_fits)
 
-  -- where a name has room with a value, it has room with an exception
+  -- if a name has room with a value, it has room with an exception
   pub room_exception : (agents : Agents) (name : List ℕ) (v u : Datum) → IsException v → HasRoom agents (record { name = name; value = u })
       → HasRoom agents (record { name = name; value = v })
   room_exception agents name v u is room = grind (arith, common_steps, exception_content, longer_binding, longer_response)

@@ -1,4 +1,4 @@
--- Rows of a table, and what agents give, as proofs calculate with them: by the tests of names.
+-- Sorted rows of a table, and what agents return, by the tests of names; honest answers are such rows (`views_answer`).
 use Rattle.std.proofs.Common.{◌≡◌, ℕ, ◌≤◌, true, false, List, [], ◌∷◌, length, arith, inl, inr, refl, sym, ap, subst}
 use Rattle.snmp_wire.specs.Message.{VarBind, end_of_mib_view, Datum, no_such_object, no_such_instance}
 use Rattle.snmp_walk.specs.{Names.is_end, Names.is_missing, Names.comes_after, private.Taken.if_present, Walk.rows_after, Walk.rows_named}
@@ -14,31 +14,31 @@ abbrev pub AreAfter : List ℕ → List VarBind → Type 0
 AreAfter o [] = Unit {0}
 AreAfter o (row ∷ rows) = (comes_after o row.name ≡ true) × AreAfter o rows
 
--- each name comes after those before it
+-- the names increase
 abbrev pub AreRising : List VarBind → Type 0
 AreRising [] = Unit {0}
 AreRising (row ∷ rows) = AreAfter row.name rows × AreRising rows
 
--- each is an instance that an agent may have: a name of three numbers at least, and a value
+-- each is an instance that an agent may have: its name has at least three numbers, and it has a value
 abbrev pub AreInstances : List VarBind → Type 0
 AreInstances [] = Unit {0}
 AreInstances (row ∷ rows) =
     (3 ≤ length row.name) × (is_end row.value ≡ false) × (is_missing row.value ≡ false) × AreInstances rows
 
--- the first of the bindings, else the name with endOfMibView
+-- the first of the bindings, or o with endOfMibView if there is none
 abbrev pub or_end : List ℕ → List VarBind → VarBind
 or_end o [] = record { name = o; value = end_of_mib_view }
 or_end o (p ∷ more) = p
 
--- what agents give, whatever their tables hold (RFC 3416, sections 4.2.1 and 4.2.2)
+-- what agents return satisfies this whatever their tables hold (RFC 3416, sections 4.2.1 and 4.2.2)
 pub record AreLawfulReplies (Next Got : List ℕ → VarBind → Type 0) : Type 0 where
   pub rises : (o : List ℕ) (p : VarBind) → Next o p → is_end p.value ≡ false → comes_after o p.name ≡ true
   pub is_value : (o : List ℕ) (p : VarBind) → Next o p → is_missing p.value ≡ false
   pub same_name : (o : List ℕ) (p : VarBind) → Got o p → p.name ≡ o
   pub is_answer : (o : List ℕ) (p : VarBind) → Got o p → is_end p.value ≡ false
 
--- The agents are one table: its rows by rising names, what it gives for a GetNext, and `got` for a
--- Get of the name that the walk begins from.
+-- The agents serve one table. Its rows are sorted by name, its answer to a GetNext is the first row after the name, and `got` is its answer to a Get of the
+-- name that the walk begins from.
 pub record IsOneTable (rows : List VarBind) (got : VarBind)
     (Next Got : List ℕ → VarBind → Type 0) (first : Walker) : Type 0 where
   pub rising : AreRising rows
@@ -47,7 +47,7 @@ pub record IsOneTable (rows : List VarBind) (got : VarBind)
   pub answer : (p : VarBind) → Got first.asked p → p ≡ got
   pub row : if_present got ≡ rows_named first.asked rows
 
--- ---- what tables answer rises, and is what agents answer
+-- ---- what tables answer is sorted, and is what agents return
 
 pub value_no_end : (v : Datum) → IsInstanceValue v → is_end v ≡ false
 value_no_end end_of_mib_view h = absurd h
@@ -89,6 +89,6 @@ views_answer agents h = record {
   is_answer = λ o p n. get_value n.0 (view_of agents.tables h n.0 n.1) o p n.2;
 }
 
--- with one table each answer is that table's
+-- with one table, each answer is from it
 pub only_one : (view v : MibView) (tables : List MibView) → tables ≡ view ∷ [] → OneOf tables v → v ≡ view
 only_one view v tables e one = elim (subst (λ (t : List MibView). OneOf t v) e one) [ inl same ↦ same | inr never ↦ absurd never ]

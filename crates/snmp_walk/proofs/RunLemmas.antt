@@ -1,4 +1,5 @@
--- A run, turn by turn.
+-- The loop of `run_walk`: its invariant `Runs` holds at the start (`runs_first`), and each request keeps it or ends the run with what the contract says
+-- (`turn_of`).
 use Rattle.std.proofs.{lemmas.Grind.common_steps, lemmas.List.flat_map_more, lemmas.Bool.and_from, lemmas.Bool.false≢true}
 use Rattle.std.proofs.Common.{◌≡◌, inl, inr, ℕ, ◌+◌, ◌^◌, ◌<◌, List, [], ◌∷◌, ◌++◌, refl, sym, ◌∙◌, ap, true, false, subst, arith, append-nil}
 use Rattle.std.proofs.Common.{append_assoc, Option, Some, None, replicate}
@@ -33,14 +34,14 @@ use Rattle.snmp_walk.proofs.FactLemmas.{counted_few, facts as facts_of, send_fac
 use Rattle.snmp_walk.proofs.SendLemmas.{Sends, sends_more, HasMoved, moved_first, moved_more, moved_fine}
 use Rattle.snmp_walk.proofs.{HonestLemmas.all_lower_after, HonestLemmas.earlier_first, HonestLemmas.earlier_more, SwiftLemmas.few_asked}
 
--- what replies end with leaves the sink as it was given
+-- if a reply ends a walk and the sink took all rows, no row was refused
 took_reply : {S : Type 0} (takes : S → VarBind → Result (Unit {0}) SinkFault → S → Type 0) (before after : S) (rows : List VarBind) (why : WalkEnd)
     → IsReplyEnd why
     → Given takes before rows after → Took takes before rows [] why after
 took_reply takes before after rows (ending.Sink fault) own h = absurd own
 took_reply takes before after rows _ own h = (h, refl)
 
--- an end that replies lead to is read so
+-- if a reply was read as an end, that is the reason of the end
 read_end : (Asked : Outcome → Walker → List VarBind → Type 0) (refused : List VarBind) (end : WalkEnd) → IsReplyEnd end
     → IsReadSo Asked end → IsEndOfRun Asked refused end
 read_end Asked refused ending.RequestTooLong own h = absurd own
@@ -49,7 +50,7 @@ read_end Asked refused ending.Link own h = absurd own
 read_end Asked refused (ending.Sink fault) own h = absurd own
 read_end Asked refused _ own h = h
 
--- one datagram more was read
+-- a walk that read one datagram more has read it after the others
 are_more : {L : Type 0} (Tried : Walker → L → Outcome → L → Type 0) (v w x : Walker) (old now new : L) (readings : List Reading) (r : Reading)
     → AreRead Tried v old readings w now → IsWalker w → Tried w now (outcome.answered r.datagram) new → MeansBy w r.datagram (step.Rows r.rows) x
     → AreRead Tried v old (readings ++ r ∷ []) x new
@@ -71,7 +72,7 @@ read_more Tried first w x old now new given rows datagram h good tried taken =
 
 module _ {S L : Type 0} (facts : LinkFacts L) (takes : S → VarBind → Result (Unit {0}) SinkFault → S → Type 0) (tries : ℕ) (first : Walker) (link : L)
     (before : S) where
-  -- where a run stands between two turns
+  -- the state of a run between two requests: `given` are the rows that it passed on, `here` is the state of the link, and w waits for a reply
   pub record Runs (here : L) (w : Walker) (s : S) : Type 0 where
     pub given : List VarBind
     pub sunk : Given takes before given s
@@ -99,7 +100,7 @@ module _ {S L : Type 0} (facts : LinkFacts L) (takes : S → VarBind → Result 
   abbrev pub Returns : L → WalkEnd → S → Type 0
   Returns after end t = IsRun takes before end t (λ given refused. IsWalkedOver facts link after tries first given refused end)
 
-  -- what a turn of the walk w comes to, by what the exchange returned
+  -- what a request of the walk w comes to, by what `exchange` returned: the run continues, or it ends
   abbrev pub IsTurn : Walker → L → Walker → S → WalkEnd → Result (Option Course) LinkFault → Type 0
   IsTurn w after v t end (Ok (Some course.GoesOn)) = Runs after v t × (v.id ≡ w.id + 1) × (v.id < 2 ^ 31)
   IsTurn w after v t end (Ok (Some course.Ends)) = Returns after end t
@@ -133,12 +134,12 @@ module _ {S L : Type 0} {facts : LinkFacts L} {takes : S → VarBind → Result 
   pub still_waits : w.phase ≢ phase.Over
   still_waits over = false≢true (sym waits ∙ ap is_over over)
 
-  -- what came of the octets of the request
+  -- what came of the octets of the request came of the walk's request
   pub tried_by : {q : List ℕ} {what other : Outcome} → q ≡ canon (request_of w) → what ≡ other
       → AreTried facts (IsNotAwaited w.community w.id) q tries here what after → Tried other
   tried_by {q} {what} {other} is same h = grind (arith, common_steps)
 
-  -- the link is honest still, and what was sent was so by this walk
+  -- the link is still honest, and what was sent over it are requests of this walk, or with lower ids
   asked : IsHonestFrom facts first.id link → facts.honest here × IsEarlier (facts.traffic here).sent w
   asked h = (r.has_moved.by.moved.honest h.0, r.earlier (keeping link h.0) h.1)
 
@@ -154,7 +155,7 @@ module _ {S L : Type 0} {facts : LinkFacts L} {takes : S → VarBind → Result 
   sent_on : (what : Outcome) → Tried what → facts.keeps link → IsSent facts (IsNotAwaited w.community w.id) (canon (request_of w)) tries what here after
   sent_on what tried keeps = sent_of facts _ (canon (request_of w)) tries some what here after tried (r.has_moved.by.moved.keeps keeps)
 
-  -- a reply that came
+  -- a reply m, encoded by d, answered the request
   module _ (m : Message) (d : List ℕ) (tried : Tried (outcome.answered d)) (spelt : Spells m d) (awaited : awaits w.community w.id m ≡ true) where
     any : AdvancesAnyhow first w r.given (take_of w m).0 (take_of w m).1
     any = taken_any first w r.given (after_precedes codec) m
@@ -168,7 +169,7 @@ module _ {S L : Type 0} {facts : LinkFacts L} {takes : S → VarBind → Result 
     honest_step : IsHonestFrom facts first.id link → Advances Next Got (IsTooLarge agents) first w r.given (take_of w m).0 (take_of w m).1
     honest_step h = taken Next Got (IsTooLarge agents) (laws h) first r.given w m (r.honestly h) (honest_reply h).0
 
-    -- one more turn
+    -- if it is read as `step.Rows`, the run continues
     pub runs_on : (rows : List VarBind) (v : Walker) (t : S) → (take_of w m).0 ≡ step.Rows rows → v ≡ (take_of w m).1 → Given takes s rows t
         → Runs facts takes tries first link before after v t × (v.id ≡ w.id + 1) × (v.id < 2 ^ 31)
     runs_on rows v t e f sink =
@@ -202,7 +203,7 @@ module _ {S L : Type 0} {facts : LinkFacts L} {takes : S → VarBind → Result 
           stood.1,
         )
 
-  -- how the last request was sent, over a link that keeps that
+  -- how the last request was sent, over a link that lists what is sent
   abbrev IsSentLast : WalkEnd → Walker → Type 0
   IsSentLast end u = facts.keeps link → IsLastSent tries end (facts.traffic after) u
 
@@ -212,7 +213,7 @@ module _ {S L : Type 0} {facts : LinkFacts L} {takes : S → VarBind → Result 
   last_sent : (what : Outcome) (end : WalkEnd) → Suits what end → Tried what → IsSentLast end w
   last_sent what end suits tried keeps = grind (arith, common_steps, sent_on, agrees)
 
-  -- what is known where no reply came
+  -- if no reply arrived, one of the agents has none or the deliveries lost it
   no_reply : Tried outcome.missed → IsHonestFrom facts first.id link → IsUnreplied w
   no_reply tried h =
       let q : List ℕ = canon (request_of w) in
@@ -227,7 +228,7 @@ module _ {S L : Type 0} {facts : LinkFacts L} {takes : S → VarBind → Result 
         lost = elim l.2 [ inl none ↦ inl none | inr gone ↦ inr (u.0, l.0, u.1 ∙ ap (λ (es : List (Option ℕ)). u.0 ++ es) l.1, gone) ];
       })
 
-  -- the end of the run
+  -- the end of the run, from which the facts of the whole run follow
   record IsOver (all : List VarBind) (end : WalkEnd) (t : S) : Type 0 where
     refused : List VarBind
     sink : Took takes before all refused end t
@@ -326,7 +327,7 @@ module _ {S L : Type 0} {facts : LinkFacts L} {takes : S → VarBind → Result 
   reply_suits : (d : List ℕ) (why : WalkEnd) → IsReplyEnd why → Suits (outcome.answered d) why
   reply_suits d why own = ((λ e. subst IsReplyEnd e own), λ e. subst IsReplyEnd e own)
 
-  -- the last turn, by a reply
+  -- the reply m, encoded by d, ended the run
   module _ (m : Message) (d : List ℕ) (tried : Tried (outcome.answered d)) (spelt : Spells m d) (awaited : awaits w.community w.id m ≡ true)
       (fresh : IsFresh first) (rows : List VarBind) (t : S) where
     pub ran_reply : (why : WalkEnd) → (take_of w m).0 ≡ step.Last rows why → Given takes s rows t
@@ -389,7 +390,7 @@ module _ {S L : Type 0} {facts : LinkFacts L} {takes : S → VarBind → Result 
         any_part (step.Rows more) u k = part_of_stage Rises Named Small rising_answers first (r.given ++ more) u.asked u.phase k.2.stage
         any_part (step.Last more why) u k = k.1
 
-  -- and without one
+  -- the run ended without a reply
   ran_none : (what : Outcome) (why : WalkEnd) (suits : Suits what why) (tried : Tried what) → IsFresh first → (IsReplyEnd why → ⊥) → CountsAll why r.given
       → IsEndOfRun (IsAskedLast (IsTried facts tries) (IsSentLast why) first link r.given after) [] why → Took takes before r.given [] why s
       → BringsNone why [] → (IsHonestFrom facts first.id link → why ≡ ending.NoResponse → IsUnreplied w)
@@ -422,7 +423,7 @@ module _ {S L : Type 0} {facts : LinkFacts L} {takes : S → VarBind → Result 
       ran_none outcome.cut_off ending.Link refl tried fresh (λ own. own) tt
       (w, asked_last outcome.cut_off ending.Link refl tried [] r.given (sym (append-nil r.given))) (r.sunk, refl) refl (λ h is. absurd cc) (λ h. tt)
 
-  -- ---- by what was read and delivered
+  -- ---- the turn, by what was read and given to the sink
 
   abbrev IsReadSoBy : List ℕ → Walker → S → Heard → Type 0
   IsReadSoBy d v t what = IsReadAs d w.community w.id (λ m given new. (given, new) ≡ take_of w m) takes s v t what
@@ -454,7 +455,7 @@ module _ {S L : Type 0} {facts : LinkFacts L} {takes : S → VarBind → Result 
           let same : ending.Sink fault ≡ end = cc in
           rw (← same) (ran_refused h.message d tried h.spelt h.awaited fresh rows t fault p left between (ap rows_in e ∙ parts) sink refused)
 
-  -- ---- by what the exchange returned
+  -- ---- the turn, by what `exchange` returned
 
   abbrev Turn : Walker → S → WalkEnd → Result (Option Course) LinkFault → Type 0
   Turn = IsTurn facts takes tries first link before w after

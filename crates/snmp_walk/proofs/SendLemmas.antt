@@ -1,4 +1,4 @@
--- What a run sends, request by request.
+-- The requests of a run, their ids and their number (`tries_push`, `moved_more`).
 use Rattle.std.proofs.{lemmas.Grind.common_steps, Math.Nat.mul-le-mul_left, Math.Nat.mul-le-mul_right, lemmas.List.length-replicate}
 use Rattle.std.proofs.Common.{◌≡◌, ◌⊎◌, inl, inr, ℕ, ◌+◌, ◌^◌, ◌<◌, ◌≤◌, List, [], ◌∷◌, ◌++◌, length, replicate, refl, sym, ◌∙◌, ap, subst}
 use Rattle.std.proofs.Common.{arith, append-nil, append_assoc, length-append, ◌-◌, ◌*◌}
@@ -23,7 +23,7 @@ pub named_after : (front rows : List VarBind) (name : List ℕ) → IsNameIn row
 named_after [] rows name h = h
 named_after (p ∷ front) rows name h = inr (named_after front rows name h)
 
--- the last name is the one before all, or one of theirs
+-- the last name is o or the name of one of the rows
 last_named : (o : List ℕ) (rows : List VarBind) → (last_name o rows ≡ o) ⊎ IsNameIn rows (last_name o rows)
 last_named o [] = inl refl
 last_named o (p ∷ rows) = inr (last_named p.name rows)
@@ -40,7 +40,7 @@ asks_stage first given phase.Last by h paced = (h.1, h.2)
 asks_stage first given phase.Over by h paced = absurd h
 asks_stage first given phase.Rows by h paced = grind (arith, common_steps, last_named, named_after)
 
--- what the waiting walk asks
+-- the waiting request is one of the walk
 pub asks_now : (first w : Walker) (given rows : List VarBind) → Reaches Rises Named first w given → Asks first (given ++ rows) w
 asks_now first w given rows h = record { same = h.same; name = asks_more first given rows w.phase w (asks_stage first given w.phase w h.stage h.paced) }
 
@@ -64,14 +64,14 @@ sent_push (u ∷ requests) t = grind (arith, common_steps, sent_push requests t,
 pub each_push : (requests : List Try) (t : Try) → IsEachSent requests → 0 < t.times → IsEachSent (requests ++ t ∷ [])
 each_push requests t each some u one = grind (arith, common_steps, one_append)
 
--- the requests before the waiting one
+-- the requests before the one with the id `next`
 pub record Sends (tries : ℕ) (first : Walker) (given : List VarBind) (old : Traffic) (next : ℕ) (now : Traffic) : Type 0 where
   pub requests : List Try
   pub sent : now.sent ≡ old.sent ++ sent_by requests
   pub are_tries : AreTries tries first given first.id requests
   pub ids : next ≡ first.id + length requests
 
--- and with it
+-- once the waiting request was sent too, at most `tries` times, `Sends` holds for the next id
 abbrev pub sends_more : (tries times : ℕ) (first w : Walker) (given rows : List VarBind) (old now later : Traffic) → IsWalker w
     → Reaches Rises Named first w given → Sends tries first given old w.id now → times ≤ tries
     → later.sent ≡ now.sent ++ replicate times (canon (request_of w)) → Sends tries first (given ++ rows) old (w.id + 1) later
@@ -87,16 +87,16 @@ sends_more tries times first w given rows old now later good stands h few sent =
       ids = omega (arith, h.ids, length-append h.requests (t ∷ []));
     }
 
--- ---- what a run tries to send over any link, request by request
+-- ---- the sends of a run over any link, request by request
 
--- each request is among the datagrams `tries` times at most
+-- each request is at most `tries` times among the datagrams
 few_sent : (tries : ℕ) (first : Walker) (rows : List VarBind) (id : ℕ) (requests : List Try) → AreTries tries first rows id requests
     → length (sent_by requests) ≤ length requests * tries
 few_sent tries first rows id [] h = omega arith
 few_sent tries first rows id (t ∷ more) h = grind (arith, common_steps, few_sent tries first rows (id + 1) more h.4, length-append, length-replicate)
 
 module _ {W : Type 0} (facts : LinkFacts W) where
-  -- Requests of at most 1,000 octets moved the link: `to` is the id of the next.
+  -- Requests of at most 1,000 octets took the link from `old` to `now`, and `to` is the id of the next one.
   pub record HasMoved (old : W) (tries : ℕ) (first : Walker) (given : List VarBind) (to : ℕ) (failed : Type 0) (now : W) : Type 0 where
     pub by : IsMovedByRequests facts tries first given old failed now
     pub ids : to ≡ first.id + length by.requests
@@ -145,7 +145,7 @@ module _ {W : Type 0} (facts : LinkFacts W) where
             (omega (arith, own, t.1, h.short, sum));
       }
 
-  -- where it was ready for as many requests and one more, it didn't fail
+  -- if the link was ready for one more request than these, none of its calls failed
   pub moved_fine : {old new : W} {failed : Type 0} (tries : ℕ) (first : Walker) (given : List VarBind) (to : ℕ) → HasMoved old tries first given to failed new
       → (k : ℕ) → to ≤ first.id + k + 2 → facts.ready old ((k + 3) * tries) ((k + 3) * tries * 1000) → failed → ⊥
   moved_fine {old} {new} tries first given to h k few_ids ready =

@@ -1,4 +1,4 @@
--- An honest reply to the waiting request takes a walk a step further, or ends it lawfully.
+-- An honest reply to the waiting request makes progress or ends the walk lawfully (`taken`); what holds of any reply is `taken_any`.
 use Rattle.std.proofs.{lemmas.Grind.common_steps, lemmas.List.Elements.All-nil, lemmas.List.Elements.All-push}
 use Rattle.std.proofs.Common.{◌≡◌, inl, inr, ℕ, ◌+◌, ◌≤◌, true, false, cond, List, [], ◌∷◌, ◌++◌, ◌≢◌, length, refl, sym, ◌∙◌, ap, subst, arith}
 use Rattle.std.proofs.Common.{append_assoc, append-nil, length-append, pos, Some, None}
@@ -28,7 +28,7 @@ use Rattle.snmp_walk.specs.declared.end.WalkEnd.TheVariants as ending
 use Rattle.snmp_oid.specs.Identifier.{Precedes}
 
 module _ (Next Got : List ℕ → VarBind → Type 0) (Large : ℕ → VarBind → Type 0) (laws : AreLawfulReplies Next Got) (first : Walker) where
-  -- a step as a pair
+  -- `Advances`, of a step and a state as a pair
   abbrev pub Goes : Walker → List VarBind → Step × Walker → Type 0
   Goes old given s = Advances Next Got Large first old given s.0 s.1
 
@@ -44,13 +44,13 @@ module _ (Next Got : List ℕ → VarBind → Type 0) (Large : ℕ → VarBind �
   part_of_step old given (step.Rows more) w h = part_of_stage (given ++ more) w.asked w.phase h.stage
   part_of_step old given (step.Last more why) w h = h.0
 
-  -- what a walk gives before the instances has the name that it begins from
+  -- what a walk returns before the instances has the name that it begins from, so that the last name is that of the trail
   pub opening_last : (m : Mode) (o : List ℕ) (front trail : List VarBind) → IsOpening Got m o front → last_name o (front ++ trail) ≡ last_name o trail
   opening_last mode.Include o front trail (p, h, inl is) = rw is.1
   opening_last mode.Include o front trail (p, h, inr is) = rw (is.1, laws.same_name o p h)
   opening_last _ o front trail none = rw none
 
-  -- the walk goes on, or has no id left
+  -- if the next stage is reached, `goes_on` advances the walk: it continues, or has no id left
   pub goes : (given more : List VarBind) (w : Walker) (next : Phase) → Reaches Next Got first w given
       → IsStage Next Got first (given ++ more) (last_name w.asked more) next → IsPaced Next Got first (given ++ more) (w.id + 1) next
       → Goes w given (goes_on w next more)
@@ -66,17 +66,17 @@ module _ (Next Got : List ℕ → VarBind → Type 0) (Large : ℕ → VarBind �
   pub root_is : (w : Walker) (given : List VarBind) → Reaches Next Got first w given → w.root ≡ first.root
   root_is w given h = ap (λ (v : Walker). v.root) h.same
 
-  -- a plain walk that gave nothing has made no request before
+  -- a plain walk that returned nothing has made no request before the waiting one
   plain_pace : (given : List VarBind) (w : Walker) → w.phase ≡ phase.Rows → Reaches Next Got first w given → length given ≡ 0 → first.mode ≡ mode.Plain
       → w.id ≡ first.id
   plain_pace given w waits h none plain = grind (arith, common_steps, length-append, few_replies)
 
-  -- the name asked from is the last of those given below the root
+  -- the name that the walk asks from is the last one returned below the root
   pub asked_last : (given : List VarBind) (o : List ℕ) (front trail : List VarBind) → IsGiven Next Got first given o → given ≡ front ++ trail
       → IsOpening Got first.mode first.asked front → o ≡ last_name first.asked trail
   asked_last given o front trail g parts opening = grind (arith, common_steps, opening_last)
 
-  -- a reply with a row at least takes the walk to the next id
+  -- a reply with at least one row takes the walk to the next id
   pub more_pace : (given rows : List VarBind) (w : Walker) → w.phase ≡ phase.Rows → Reaches Next Got first w given → IsGiven Next Got first given w.asked
       → IsTrail Next first.root w.asked rows → 1 ≤ length rows → IsPaced Next Got first (given ++ rows) (w.id + 1) phase.Rows
   more_pace given rows w waits h g trail some =
@@ -95,7 +95,7 @@ module _ (Next Got : List ℕ → VarBind → Type 0) (Large : ℕ → VarBind �
         ids = omega (arith, p.ids, length_push p.replies rows);
       }
 
-  -- nothing more stands below the root
+  -- if no more instances are below the root, `closes` advances the walk
   pub closed : (given more : List VarBind) (w : Walker) (o : List ℕ) → w.phase ≡ phase.Rows → Reaches Next Got first w given
       → IsGiven Next Got first given w.asked → IsGiven Next Got first (given ++ more) o → IsAtEnd Next first.root o → Goes w given (closes w more)
   closed given more w o waits h before after end =
@@ -124,12 +124,12 @@ module _ (Next Got : List ℕ → VarBind → Type 0) (Large : ℕ → VarBind �
         ),
       ))
 
-  -- more of the trail
+  -- what a walk has returned can be continued by a trail
   pub given_more : (given rows : List VarBind) (o : List ℕ) → IsGiven Next Got first given o → IsTrail Next first.root o rows
       → IsGiven Next Got first (given ++ rows) (last_name o rows)
   given_more given rows o h more = grind (arith, common_steps, append_assoc, trail-append, last_name-append)
 
-  -- the rows at the front of a reply, by what follows them
+  -- the rows at the start of an honest reply advance the walk, by what follows them
   reads_front : (given rows : List VarBind) (w : Walker) (after : After) → w.phase ≡ phase.Rows → Reaches Next Got first w given
       → IsGiven Next Got first given w.asked → IsTrail Next first.root w.asked rows → EndsChain Next first.root (last_name w.asked rows) after
       → (after ≡ nothing → 1 ≤ length rows) → Goes w given (reads_as after w rows)
@@ -139,7 +139,7 @@ module _ (Next Got : List ℕ → VarBind → Type 0) (Large : ℕ → VarBind �
       closed given rows w (last_name w.asked rows) waits h before (given_more given rows w.asked before trail) end
   reads_front given rows w (falling name) waits h before trail end some = absurd end
 
-  -- a reply with the next instances
+  -- an honest reply with the next instances advances the walk
   reads_instances : (given bindings : List VarBind) (w : Walker) → w.phase ≡ phase.Rows → Reaches Next Got first w given → IsGiven Next Got first given w.asked
       → IsChain Next w.asked bindings → length bindings ≤ asked_for w.method → (bindings ≡ [] → IsLarge Next (Large w.id) w.asked)
       → Goes w given (reads_next w bindings)
@@ -153,7 +153,7 @@ module _ (Next Got : List ℕ → VarBind → Type 0) (Large : ℕ → VarBind �
       rw fine (reads_front given front.rows w front.after waits h before is.is_trail is.ends
       (λ all. omega (arith, ap length ((front_taken w.root w.asked bindings).1 all))))
 
-  -- the binding of a Get's reply
+  -- the binding that agents return for a Get is the one that `got` finds
   got_is : (o : List ℕ) (p : VarBind) → Got o p → got o (p ∷ []) ≡ Some p
   got_is o p h =
       let name : pointwise nat_eq p.name o ≡ true = ap (λ (n : List ℕ). pointwise nat_eq n o) (laws.same_name o p h) ∙ nat_list_eq_equiv.refl o in
@@ -162,7 +162,7 @@ module _ (Next Got : List ℕ → VarBind → Type 0) (Large : ℕ → VarBind �
   present_name : (o : List ℕ) (p : VarBind) → p.name ≡ o → last_name o (if_present p) ≡ o
   present_name o p e = cond_both (is_missing p.value) [] (p ∷ []) (λ s. last_name o s ≡ o) (λ _. refl) (λ _. e)
 
-  -- the reply to the Get with which a walk begins
+  -- the honest reply to the Get that begins a walk advances it
   pub reads_root : (given : List VarBind) (w : Walker) (p : VarBind) → w.phase ≡ phase.First → Reaches Next Got first w given
       → IsStage Next Got first given w.asked phase.First
       → Got w.asked p → Goes w given (reads_first w (Some p))
@@ -185,12 +185,12 @@ module _ (Next Got : List ℕ → VarBind → Type 0) (Large : ℕ → VarBind �
         ids = omega (arith, pace, gets);
       })
 
-  -- the reply to the Get with which a walk ends that gave nothing
+  -- the honest reply to the Get that ends a walk advances it
   pub reads_alone : (given : List VarBind) (w : Walker) (p : VarBind) → Reaches Next Got first w given → IsStage Next Got first given w.asked phase.Last
       → Got w.asked p → Goes w given (reads_last w (Some p))
   reads_alone given w p h stage answer = grind (arith, common_steps, length-append)
 
-  -- an honest reply, which has what was asked for or tooBig
+  -- a reply with honest content, which has what was asked for or tooBig, advances the walk
   reads_content : (given : List VarBind) (w : Walker) (m : Message) (p : Phase) → w.phase ≡ p → Reaches Next Got first w given
       → IsStage Next Got first given w.asked p
       → IsReplyContent Next Got Large p w m → Goes w given (cond (int_eq m.a (pos 0)) (reads_for p w m.bindings) (stops w [] (ending.Fault m.a m.b)))
@@ -204,27 +204,27 @@ module _ (Next Got : List ℕ → VarBind → Type 0) (Large : ℕ → VarBind �
   waiting given o phase.Over h = absurd h
   waiting given o _ h = refl
 
-  -- an honest reply to the waiting request
+  -- an honest reply to the waiting request advances the walk
   pub taken : (given : List VarBind) (w : Walker) (m : Message) → Reaches Next Got first w given → IsReplyTo Next Got Large w m
       → Advances Next Got Large first w given (take_of w m).0 (take_of w m).1
   taken given w m h r = grind (arith, common_steps, and_from, waiting, response_to_decided, reads_content)
 
--- ---- what holds of a step whatever the message is
+-- ---- what holds of a step whatever the reply is
 
--- no binding is said to be large here
+-- no statement about the room of bindings
 abbrev pub Small : ℕ → VarBind → Type 0
 Small id p = Unit {0}
 
 pub rising_answers : AreLawfulReplies Rises Named
 rising_answers = grind (arith, common_steps, after_test, no_end, miss_test, end_test)
 
--- any name is at the end of what might be answered
+-- any name can be at the end, since any reply can have endOfMibView
 anywhere : (root o : List ℕ) → IsAtEnd Rises root o
 anywhere root o =
     let last : VarBind = record { name = o; value = end_of_mib_view } in
     (last, ((λ value. absurd (value refl)), no_miss last refl), (λ inside. inside.value refl))
 
--- the binding of a Get's reply is the one asked for
+-- the binding that `got` finds has the requested name
 got_named : (o : List ℕ) (bindings : List VarBind) (p : VarBind) → got o bindings ≡ Some p → Named o p
 got_named o [] p h = absurd cc
 got_named o (b ∷ []) p h = cond_both (pointwise nat_eq b.name o && not (is_end b.value)) (Some b) None (λ g. g ≡ Some p → Named o p) (λ both e.
@@ -233,7 +233,7 @@ got_named o (b ∷ []) p h = cond_both (pointwise nat_eq b.name o && not (is_end
     subst (Named o) same (same_text b.name o (sym parts.0), no_end b.value (not-true _ parts.1))) (λ _ e. absurd cc) h
 got_named o (b ∷ c ∷ more) p h = absurd cc
 
--- the rows of any reply are a trail of rising names
+-- the rows of any reply are a trail of increasing names
 rising_trail : ((o p : List ℕ) → comes_after o p ≡ true → Precedes o p) → (root o : List ℕ) (bindings : List VarBind)
     → list_any (λ p. is_missing p.value) bindings ≡ false → IsTrail Rises root o (front_of root o bindings).rows
 rising_trail precedes root = fronts_by root (λ o all front. list_any (λ p. is_missing p.value) all ≡ false → IsTrail Rises root o front.rows)
@@ -246,7 +246,7 @@ module _ (first old : Walker) (given : List VarBind) where
   abbrev IsAny : Step × Walker → Type 0
   IsAny s = AdvancesAnyhow first old given s.0 s.1
 
-  -- an honest step is one of any kind
+  -- a step that is honest among any replies
   abbrev IsHonest : Step × Walker → Type 0
   IsHonest s = Advances Rises Named Small first old given s.0 s.1
 

@@ -1,4 +1,5 @@
--- Where each single binding has room and ids are enough, a walk over one table ends for no other reason than its own, the link's or the sink's.
+-- If each binding of each table fits into a message and there are enough ids, a walk ends with `Done`, by the link or by the sink (`swift_end`), or, if
+-- replies can be lost, with `NoResponse` (`left_end`).
 use Rattle.std.proofs.lemmas.Grind.{common_steps}
 use Rattle.std.proofs.Common.{◌≡◌, ◌≢◌, ◌⊎◌, ◌≤ℤ◌, inl, inr, ℕ, ◌+◌, ◌≤◌, false, List, [], ◌∷◌, ◌++◌, length, refl, sym, ◌∙◌, ap, subst, arith, pos}
 use Rattle.std.proofs.Common.{length-append}
@@ -30,7 +31,7 @@ pub opening_is_get : (m : Mode) → opening_gets m ≤ gets m
 opening_is_get mode.Plain = omega arith
 opening_is_get _ = omega arith
 
--- each request of a walk is served
+-- agents serve each request of a walk
 served : (p : Phase) (m : Method) → IsServed (request_kind p m)
 served phase.Rows method.Next = tt
 served _ _ = tt
@@ -39,17 +40,17 @@ served _ _ = tt
 abbrev pub HasFew : (List ℕ → VarBind → Type 0) → Walker → ℕ → Type 0
 HasFew Next first k = (trail : List VarBind) → IsTrail Next first.root first.asked trail → length trail ≤ k
 
--- then the ids are few
+-- then a walk has sent at most k requests before the waiting one, and a Get
 pub few_in : (Next Got : List ℕ → VarBind → Type 0) (first : Walker) (k : ℕ) → HasFew Next first k → (w : Walker) (given : List VarBind)
     → Reaches Next Got first w given → w.id ≤ first.id + k + gets first.mode
 few_in Next Got first k bound w given h = grind (arith, common_steps, opening_is_get, few_replies)
 
--- there is one for each row given at most, and a Get
+-- before the waiting request, a walk has sent at most one for each row returned, and a Get
 pub few_asked : (Next Got : List ℕ → VarBind → Type 0) (first w : Walker) (given : List VarBind) → Reaches Next Got first w given
     → w.id ≤ first.id + length given + gets first.mode
 few_asked Next Got first w given h = grind (arith, common_steps, opening_is_get, few_replies)
 
--- over one table a trail is a beginning of the rest
+-- over one table, a trail has at most as many rows as the rest of the walk
 pub trail_in_rest : (agents : Agents) (first : Walker) (view : MibView) (answer : VarBind) → IsOneTable (variables view) answer (IsNextFrom agents)
     (IsGotFrom agents) first
     → (s : List ℕ) → first.asked ≡ first.root ++ s → HasFew (IsNextFrom agents) first (length (rest_of first.root first.asked (variables view)))
@@ -65,7 +66,7 @@ module _ (codec : Codec) (agents : Agents) (first : Walker) (good_views : AreVie
   abbrev Got : List ℕ → VarBind → Type 0
   Got = IsGotFrom agents
 
-  -- there is room for the name with endOfMibView
+  -- the name has room with endOfMibView
   abbrev EndRoom : List ℕ → Type 0
   EndRoom o = HasRoom agents (record { name = o; value = end_of_mib_view })
 
@@ -84,7 +85,7 @@ module _ (codec : Codec) (agents : Agents) (first : Walker) (good_views : AreVie
       trail_room p.name trail (room_exception codec agents p.name end_of_mib_view p.value tt
       ((rooms h.0.0 h.0.1).rows p (row_of_next h.0.0 o p h.0.2 (end_test p.value h.1.value)))) h.2
 
-  -- the name that is asked
+  -- the name in the waiting request has room with endOfMibView
   stage_room : (given : List VarBind) (o : List ℕ) (p : Phase) → EndRoom first.asked → IsStage Next Got first given o p → EndRoom o
   stage_room given o phase.First own h = subst EndRoom (sym h.1) own
   stage_room given o phase.Rows own h = subst EndRoom (sym h.last) (trail_room first.asked h.trail own h.is_trail)
@@ -119,7 +120,7 @@ module _ (codec : Codec) (agents : Agents) (first : Walker) (good_views : AreVie
     community : w.community ≡ agents.community
     community = ap (λ (v : Walker). v.community) h.same ∙ (rooms view one).community
 
-    -- the response of one binding fits
+    -- the Response with one binding fits if the binding has room
     fits : (p : VarBind) → HasRoom agents p → Fits agents.max_size (response (request_of w) no_error (pos 0) (p ∷ []))
     fits p room = rw (← community) at (room_fits codec agents p w.id good.id room)
 
@@ -128,7 +129,7 @@ module _ (codec : Codec) (agents : Agents) (first : Walker) (good_views : AreVie
     asked_at_get p (inl e) s = (subst (IsStage Next Got first given w.asked) e s).1
     asked_at_get p (inr e) s = (subst (IsStage Next Got first given w.asked) e s).1
 
-    -- the whole response fits
+    -- the Response with all that was asked for fits
     whole_fits : (r : Message) → IsWhole view (request_of w) r → Fits agents.max_size r
     whole_fits r (got bindings k answers e) =
         let p = one_answer (λ asked given. IsGet view asked.name given) w.asked bindings answers in
@@ -141,7 +142,7 @@ module _ (codec : Codec) (agents : Agents) (first : Walker) (good_views : AreVie
         rw (e, p.1) (fits p.0 room)
     whole_fits r (unwritten k e) = absurd (set_phase w.phase w.method k)
 
-    -- a GetBulk is answered by a binding at least
+    -- the reply to a GetBulk has at least one binding, and fits
     bulk_fits : (all bindings : List VarBind) → IsChain (IsNext view) w.asked all → all ≢ [] → IsLongestFront agents.max_size (request_of w) all bindings
         → Fits agents.max_size (response (request_of w) no_error (pos 0) bindings)
     bulk_fits all (p ∷ more) chain some longest = longest.fits (λ e. let never : ⊥ = cc in never)
@@ -161,13 +162,13 @@ module _ (codec : Codec) (agents : Agents) (first : Walker) (good_views : AreVie
         (request_of w) w.asked all refl refl asked in
         subst (Fits agents.max_size) (sym e) (bulk_fits all bindings one_name.chain (one_name.some positive) longest)
 
-    -- each agent answers
+    -- no agent drops the waiting request
     no_drop : (cause : Why) → IsDropped (agent_in agents view) (canon (request_of w)) cause → ⊥
     no_drop = served_by codec (request_of w) (spelt_own codec (request_of w) (request_in_range w good) (set_phase w.phase w.method)) refl
         (agent_in agents view) community (served w.phase w.method) response_fits
 
   module _ (k : ℕ) (bound : HasFew Next first k) (ids : first.id + k + 2 ≤ 2147483647) where
-    -- the ends that are left
+    -- the lawful ends are those by which a walk is done or cut off
     pub left_end : (Silent : Walker → Type 0) (rows : List VarBind) (end : WalkEnd) → IsLawfulEnd agents Silent first rows end → IsDoneOrCutOff end
     left_end Silent rows (ending.Fault status index) h = no_refusal h.0.id rows h.0.asked h.0.phase h.1.stage h.2.2
     left_end Silent rows (ending.NoProgress o) h =
@@ -181,7 +182,7 @@ module _ (codec : Codec) (agents : Agents) (first : Walker) (good_views : AreVie
     left_end Silent rows (ending.Sink fault) h = tt
     left_end Silent rows _ h = h.5
 
-    -- where no reply was lost
+    -- if no reply was lost, they are those by which it is done or stopped
     pub swift_end : (rows : List VarBind) (end : WalkEnd) → IsLawfulEnd agents (HasNone agents) first rows end → IsDoneOrStopped end
     swift_end rows ending.NoResponse h = no_drop h.0 rows h.1 h.2 h.3.view h.3.one h.3.why h.3.dropped
     swift_end rows why h = left_end (HasNone agents) rows why h

@@ -1,4 +1,4 @@
--- With one table that doesn't change, a trail is a beginning of the rows below the root, and one that is at its end is all of them.
+-- With one unchanging table, a trail is a prefix of the rows below the root (`part_is`), and at its end all of them (`whole_is`).
 use Rattle.std.proofs.Common.{arith, ◌≡◌, inl, inr, ℕ, Bool, true, false, List, [], ◌∷◌, ◌++◌, refl, sym, ◌∙◌, ap, subst, append-nil, append_assoc}
 use Rattle.std.proofs.{lemmas.Grind.common_steps, lemmas.Bool.and_parts, lemmas.Bool.cond_both, lemmas.Bool.false≢true}
 use Rattle.std.specs.Prelude.{not, filter}
@@ -13,7 +13,7 @@ use Rattle.snmp_walk.proofs.NameLemmas.{after-irrefl, not_after, after-trans, ou
 use Rattle.snmp_walk.proofs.{TrailLemmas.trail_begins, NameLemmas.inside_decided, NameLemmas.outside_test, NameLemmas.present_is}
 use Rattle.snmp_walk.proofs.RowLemmas.{AreAfter, AreRising, AreInstances, or_end, IsOneTable}
 
--- two filters in either order
+-- two filters can be swapped
 pub filter-commute : (p q : VarBind → Bool) (xs : List VarBind) → filter p (filter q xs) ≡ filter q (filter p xs)
 filter-commute p q [] = refl
 filter-commute p q (x ∷ xs) = grind (arith, common_steps, filter-commute p q xs, cond_both)
@@ -26,7 +26,7 @@ pub after_more : (o : List ℕ) (r : VarBind) (rows : List VarBind) → comes_af
 after_more o r [] e h = tt
 after_more o r (q ∷ rows) e h = (after-trans o r.name q.name e h.0, after_more o r rows e h.1)
 
--- the rows behind a name are those behind the first of them, and that first
+-- of the rows after o, p is the first, and `more` are those after it
 pub record IsFirst (rows : List VarBind) (o : List ℕ) (p : VarBind) (more : List VarBind) : Type 0 where
   pub behind : rows_after p.name rows ≡ more
   pub after : AreAfter p.name more
@@ -48,7 +48,7 @@ first_of_rows (r ∷ rows) o p more h i e =
     let f = first_of_rows rows o p more h.1 i.3 same in
     record { behind = rw (not_after o p.name r.name f.comes later) f.behind; after = f.after; comes = f.comes; value = f.value }) e
 
--- none of these is below the root
+-- if p comes after the root or a name below it, and isn't below the root, then no row after p is below the root
 none_below : (root s : List ℕ) (p : VarBind) (more : List VarBind) → comes_after (root ++ s) p.name ≡ true → is_below p.name root ≡ false
     → AreAfter p.name more → rows_below root more ≡ []
 none_below root s p [] c out h = refl
@@ -58,7 +58,7 @@ module _ (rows : List VarBind) (rising : AreRising rows) (instances : AreInstanc
   behind_below : (o : List ℕ) → rest_of root o rows ≡ rows_below root (rows_after o rows)
   behind_below o = filter-commute (λ row. comes_after o row.name) (λ row. is_below row.name root) rows
 
-  -- an answer below the root is the next row of the rest
+  -- if the answer is below the root, it is the next row of the rest of the walk
   pub rest_next : (o : List ℕ) (p : VarBind) (behind : List VarBind) → behind ≡ rows_after o rows → p ≡ or_end o behind → is_inside root p ≡ true
       → rest_of root o rows ≡ p ∷ rest_of root p.name rows
   rest_next o p [] e is inside = let out : is_inside root p ≡ false = ap (is_inside root) is in absurd (false≢true (sym out ∙ inside))
@@ -69,7 +69,7 @@ module _ (rows : List VarBind) (rising : AreRising rows) (instances : AreInstanc
       behind_below o ∙ ap (rows_below root) (sym e ∙ ap (λ (r : VarBind). r ∷ more) (sym is))
       ∙ rw below (ap (λ (s : List VarBind). p ∷ s) (ap (rows_below root) (sym here) ∙ sym (behind_below p.name)))
 
-  -- an answer that isn't below the root has no row below it behind it
+  -- if the answer isn't below the root, no row is left
   pub rest_ends : (o s : List ℕ) (p : VarBind) (behind : List VarBind) → o ≡ root ++ s → behind ≡ rows_after o rows → p ≡ or_end o behind
       → is_inside root p ≡ false
       → rest_of root o rows ≡ []
@@ -80,7 +80,7 @@ module _ (rows : List VarBind) (rising : AreRising rows) (instances : AreInstanc
       let comes : comes_after (root ++ s) q.name ≡ true = ap (λ (n : List ℕ). comes_after n q.name) (sym at) ∙ first.comes in
       behind_below o ∙ ap (rows_below root) (sym e) ∙ rw out_q (none_below root s q more comes out_q first.after)
 
--- a front of the rows is a front of what a plain walk gives
+-- a prefix of the rows is a prefix of what a plain walk returns
 or_only_front : (got : VarBind) (xs ys : List VarBind) → (more : List VarBind) × (or_only got (xs ++ ys) ≡ xs ++ more)
 or_only_front got [] ys = (or_only got ys, refl)
 or_only_front got (x ∷ xs) ys = (ys, refl)
@@ -91,7 +91,7 @@ or_only_some got (x ∷ xs) some = refl
 
 module _ (rows : List VarBind) (got : VarBind) (Next Got : List ℕ → VarBind → Type 0) (first : Walker) (table : IsOneTable rows got Next Got first)
     (s : List ℕ) (begins : first.asked ≡ first.root ++ s) where
-  -- a trail is a front of the rest
+  -- a trail is a prefix of the rest of the walk
   pub trail_rest : (o : List ℕ) (trail : List VarBind) → IsTrail Next first.root o trail
       → rest_of first.root o rows ≡ trail ++ rest_of first.root (last_name o trail) rows
   trail_rest o [] h = refl
@@ -100,7 +100,7 @@ module _ (rows : List VarBind) (got : VarBind) (Next Got : List ℕ → VarBind 
       ((inside_decided first.root p).1 h.1)
       ∙ ap (λ (t : List VarBind). p ∷ t) (trail_rest p.name trail h.2)
 
-  -- a trail that is at its end is the rest
+  -- a trail that is at its end is the rest of the walk
   trail_ends : (trail : List VarBind) → IsTrail Next first.root first.asked trail → IsAtEnd Next first.root (last_name first.asked trail)
       → rest_of first.root first.asked rows ≡ trail
   trail_ends trail h end =
@@ -144,24 +144,24 @@ module _ (rows : List VarBind) (got : VarBind) (Next Got : List ℕ → VarBind 
   whole_given mode.Include front trail opening h end some = grind (arith, common_steps, row_of, present_is, trail_ends)
   whole_given mode.NoLast front trail opening h end some = grind (arith, common_steps, trail_ends)
 
-  -- what was given is a beginning of the walk
+  -- what was given is a prefix of the walk
   pub part_is : (given : List VarBind) → IsPartOfWalk Next Got first given
       → (more : List VarBind) × (walk_from first.mode first.root first.asked got rows ≡ given ++ more)
   part_is given (inl none) = (All, ap (λ (g : List VarBind). g ++ All) (sym none))
   part_is given (inr (inl h)) = grind (arith, common_steps, part_given)
   part_is given (inr (inr h)) = ([], alone_whole given h ∙ sym (append-nil given))
 
-  -- at its end it is the walk
+  -- at its end it is the whole walk
   pub whole_is : (given : List VarBind) → IsWholeWalk Next Got first given → given ≡ walk_from first.mode first.root first.asked got rows
   whole_is given (inl h) = grind (arith, common_steps, whole_given)
   whole_is given (inr h) = sym (alone_whole given h)
 
--- behind the root as it is sent stand all instances below it
+-- the rows below the root that come after its wire form are all rows below it
 pub rest_from_wire : (root : List ℕ) (rows : List VarBind) → AreInstances rows → rest_of root (wire root) rows ≡ rows_below root rows
 rest_from_wire root [] h = refl
 rest_from_wire root (r ∷ rows) h = grind (arith, common_steps, rest_from_wire root rows h.3, cond_both, below_after_wire)
 
--- a walk that isn't resumed
+-- a walk from the root's wire form is the walk of the root
 pub walk_from_wire : (m : Mode) (root : List ℕ) (got : VarBind) (rows : List VarBind) → AreInstances rows
     → walk_from m root (wire root) got rows ≡ walk_of m root got rows
 walk_from_wire mode.Plain root got rows h = ap (or_only got) (rest_from_wire root rows h)

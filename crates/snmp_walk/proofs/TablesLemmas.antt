@@ -1,4 +1,4 @@
--- Where each reply is that of one of several tables: what is given is theirs, and no name that all of them have is passed over.
+-- With several tables, each row given is from one of them, and no name that all have is skipped.
 use Rattle.std.proofs.{lemmas.Grind.common_steps, lemmas.Bool.false≢true, lemmas.Bool.false_from_ne_true}
 use Rattle.std.proofs.Common.{◌≡◌, ◌⊎◌, inl, inr, ℕ, ◌≤◌, Bool, true, false, List, [], ◌∷◌, ◌++◌, length, refl, sym, ◌∙◌, ap, subst, arith}
 use Rattle.std.proofs.Common.{length-append}
@@ -28,7 +28,7 @@ name_after o [] name h i = absurd i
 name_after o (q ∷ rows) name h (inl e) = ap (comes_after o) e ∙ h.0
 name_after o (q ∷ rows) name h (inr i) = name_after o rows name h.1 i
 
--- names that rise have each other once
+-- in sorted rows, each name occurs at most once
 pub once : (rows : List VarBind) (name : List ℕ) → AreRising rows → IsNameIn rows name → IsGivenOnce rows name
 once [] name h i = absurd i
 once (p ∷ rows) name h (inl e) = record {
@@ -52,14 +52,14 @@ once (p ∷ rows) name h (inr i) =
       not_behind = r.not_behind;
     }
 
--- a list with one name less
+-- if y is in a list and isn't x, it is in the list without x
 without : (front back : List (List ℕ)) (x y : List ℕ) → OneOf (front ++ x ∷ back) y → (y ≡ x → ⊥) → OneOf (front ++ back) y
 without [] back x y (inl e) other = absurd (other e)
 without [] back x y (inr one) other = one
 without (z ∷ front) back x y (inl e) other = inl e
 without (z ∷ front) back x y (inr one) other = inr (without front back x y one other)
 
--- names that rise are no more than those of any list that holds them
+-- there are at most as many sorted rows as names in any list that has each of theirs
 pub few_names : (rows : List VarBind) (names : List (List ℕ)) → AreRising rows → ((p : VarBind) → OneOf rows p → OneOf names p.name)
     → length rows ≤ length names
 few_names [] names h each = omega arith
@@ -81,19 +81,19 @@ row_of_get view o p (variable e row) v = row
 row_of_get view o p (unknown_object none unknown is) v = absurd (false≢true (sym v ∙ ap (λ (b : VarBind). is_missing b.value) is))
 row_of_get view o p (unknown_instance none has is) v = absurd (false≢true (sym v ∙ ap (λ (b : VarBind). is_missing b.value) is))
 
--- what a Get of a name gives that the table has
+-- if the table has the name, a Get of it returns a value
 present_of_get : (view : MibView) → IsMibView view → (o : List ℕ) (p : VarBind) → IsGet view o p → HasName view o → is_missing p.value ≡ false
 present_of_get view good o p (variable e row) h = value_no_miss p.value (good.values p row)
 present_of_get view good o p (unknown_object none unknown is) h = absurd (row_none view good o h.0 h.2 h.1 none)
 present_of_get view good o p (unknown_instance none has is) h = absurd (row_none view good o h.0 h.2 h.1 none)
 
--- where a row stands behind the name, the answer is the first such row
+-- if the table has a row after o, the answer to a GetNext of o is the first such row
 successor_of : Codec → (view : MibView) (o n : List ℕ) (p : VarBind) → IsNext view o p → HasName view n → comes_after o n ≡ true → IsSuccessor view o p
 successor_of codec view o n p (successor s) h a = s
 successor_of codec view o n p (end_of_view none is) h a =
     absurd (none h.0 h.1 (subst (Precedes o) (sym h.2) (after_precedes codec o n a)))
 
--- it is no further than any such row
+-- and no row after o comes before this answer
 up_to : Codec → (view : MibView) (o n : List ℕ) (p : VarBind) → IsNext view o p → HasName view n → comes_after o n ≡ true
     → (n ≡ p.name) ⊎ (comes_after p.name n ≡ true)
 up_to codec view o n p next h a = by_order (slice_cmp nat_cmp p.name n) refl
@@ -117,7 +117,7 @@ module _ (codec : Codec) (agents : Agents) (views : AreViews agents.tables) (fir
   laws : AreLawfulReplies Next Got
   laws = views_answer agents views
 
-  -- ---- what is given is a table's
+  -- ---- each row given is from a table
 
   trail_rows : (o : List ℕ) (trail : List VarBind) → IsTrail Next first.root o trail → (p : VarBind) → OneOf trail p
       → (view : MibView) × OneOf agents.tables view × IsRow view p × IsBelow p.name first.root
@@ -150,14 +150,14 @@ module _ (codec : Codec) (agents : Agents) (views : AreViews agents.tables) (fir
   ])
   part_from given (inr (inr a)) = inr (a.plain, a.answer, a.only, a.is_answer)
 
-  -- a trail has no more rows than the tables have names
+  -- a trail has at most as many rows as the tables have names
   pub few_rows : (names : List (List ℕ)) → HoldsNames agents first names → (trail : List VarBind) → IsTrail Next first.root first.asked trail
       → length trail ≤ length names
   few_rows names all trail h =
       let rises = trail_rises Next Got laws first.root first.asked trail h in
       few_names trail names rises.1 (λ p one. let row = trail_from trail h p one in all row.0 row.1 p row.2 row.3)
 
-  -- ---- no name that all have is passed over
+  -- ---- no name that all have is skipped
 
   trail_has : (o n : List ℕ) (trail : List VarBind) → IsTrail Next first.root o trail → comes_after o n ≡ true
       → comes_after (last_name o trail) n ≡ false → IsInEach agents n → IsNameIn trail n
@@ -165,7 +165,7 @@ module _ (codec : Codec) (agents : Agents) (views : AreViews agents.tables) (fir
   trail_has o n (p ∷ trail) h a b each =
       elim (up_to codec h.0.0 o n p h.0.2 (each h.0.0 h.0.1) a) [ inl e ↦ inl e | inr c ↦ inr (trail_has p.name n trail h.2 c b each) ]
 
-  -- nothing below the root that all have stands behind the end
+  -- if a walk is at its end, no name below the root that all have comes after the last name
   end_before : (o u : List ℕ) → o ≡ first.root ++ u → IsAtEnd Next first.root o → (n : List ℕ) → IsBelow n first.root
       → IsInEach agents n → comes_after o n ≡ false
   end_before o u at end n below each =
@@ -184,7 +184,7 @@ module _ (codec : Codec) (agents : Agents) (views : AreViews agents.tables) (fir
       ] in
       false≢true (sym outside ∙ test_from_below first.root n below))
 
-  -- a walk that includes its root gives it where all have it
+  -- a walk that includes its root returns it if all tables have it
   opening_has : (m : Mode) (front : List VarBind) → m ≡ mode.Include → IsOpening Got m first.asked front → IsInEach agents first.asked
       → IsNameIn front first.asked
   opening_has mode.Include front is (q, got, inl missing) each = grind (arith, common_steps, present_of_get, view_of, no_miss)

@@ -1,4 +1,4 @@
--- A chain of answers is a trail up to the first that leaves the subtree.
+-- A chain of GetNext answers is a trail up to the first answer outside the subtree.
 use Rattle.std.proofs.Common.{◌≡◌, ◌≢◌, ℕ, ◌+◌, ◌≤◌, false, List, [], ◌∷◌, ◌++◌, length, length-append, refl, sym, ◌∙◌, arith}
 use Rattle.std.proofs.{lemmas.List.Elements.All-head, lemmas.List.Elements.All-tail, lemmas.Bool.or_from, lemmas.Bool.false≢true}
 use Rattle.std.specs.{Prelude.All, Prelude.flat_map, List.list_any}
@@ -17,7 +17,7 @@ longer : (rows : List VarBind) (more : List (List VarBind)) → rows ≢ [] → 
 longer [] more some few = absurd (some refl)
 longer (p ∷ rows) more some few = omega (arith, few, length-append rows (flat_map (λ r. r) more))
 
--- there are as many rows at least as replies that each have one
+-- if each reply has a row, there are at least as many rows as replies
 pub few_replies : (replies : List (List VarBind)) → All (λ rows. rows ≢ []) replies → length replies ≤ length (flat_map (λ rows. rows) replies)
 few_replies [] some = omega arith
 few_replies (rows ∷ more) some =
@@ -34,13 +34,13 @@ module _ (Next : List ℕ → VarBind → Type 0) (root : List ℕ) where
   trail_begins o s [] at h = (s, at)
   trail_begins o s (p ∷ trail) at h = trail_begins p.name h.1.below.0 trail h.1.below.2 h.2
 
--- what follows the rows at the front of a chain
+-- what can follow the rows at the start of a chain: nothing, or an answer that ends the walk
 abbrev pub EndsChain : (Next : List ℕ → VarBind → Type 0) (root last : List ℕ) → After → Type 0
 EndsChain Next root last nothing = Unit {0}
 EndsChain Next root last leaving = IsAtEnd Next root last
 EndsChain Next root last (falling name) = ⊥
 
--- what is known of the front of a chain
+-- the rows at the start of a chain are a trail, and what follows them ends it
 pub record IsFront (Next : List ℕ → VarBind → Type 0) (root o : List ℕ) (front : ReadFront) : Type 0 where
   pub is_trail : IsTrail Next root o front.rows
   pub ends : EndsChain Next root (last_name o front.rows) front.after

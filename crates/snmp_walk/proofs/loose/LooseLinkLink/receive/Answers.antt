@@ -7,11 +7,11 @@ use Rattle.snmp_walk.proofs.{LooseLemmas.if_none, LooseLemmas.sent_back, MemoryL
 use Rattle.snmp_walk.proofs.loose.LooseLinkLink.receive.Goals.{After-answer}
 use Rattle.snmp_walk.proofs.loose.LooseLinkLink.receive.Goals as goal
 
--- the way that is used
+-- the receive uses this way
 uses : (c : After-answer) → UsesWay c.args.self.now c.next_way-way.result c.next_way-way.new.self
 uses c = record { agent = c.next_way-way.ensures.agent; last = c.next_way-way.ensures.last; next = c.next_way-way.ensures.next }
 
--- what the agent is asked is what was sent last
+-- the agent replies to the datagram that was sent last
 asked : (c : After-answer) → c.as_slice.result.now ≡ last_sent c.args.self.now
 asked c = c.as_slice.ensures.value ∙ c.next_way-way.ensures.last
 

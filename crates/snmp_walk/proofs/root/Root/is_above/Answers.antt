@@ -4,7 +4,7 @@ use Rattle.snmp_oid.specs.Identifier.{IsBelow, wire}
 use Rattle.snmp_walk.proofs.NameLemmas.{below_decided}
 use Rattle.snmp_walk.proofs.root.Root.is_above.Goals as goal
 
--- a root of two numbers or more is sent as it is
+-- a root of at least two numbers is its own wire form
 sent_as_it_is : (o : List ℕ) → 2 ≤ length o → wire o ≡ o
 sent_as_it_is [] long = absurd (omega (arith, long))
 sent_as_it_is (x ∷ []) long = absurd (omega (arith, long))

@@ -6,7 +6,7 @@ use Rattle.snmp_walk.proofs.AskingLemmas.{asking_short, request_made, request_si
 use Rattle.snmp_walk.proofs.{RequestLemmas.request_short, walker.WalkCore.request_in.Goals.After-repetitions}
 use Rattle.snmp_walk.proofs.walker.WalkCore.request_in.Goals as goal
 
--- the message of no bindings whose head is written
+-- the message without bindings whose head is written
 abbrev bare : After-repetitions → Message
 bare c = record {
   version = pos 1;
