@@ -134,7 +134,8 @@ module _ (codec : Codec) (agents : Agents) (tries : ℕ) (old new : Traffic) (fi
 pub send_facts : Codec → (agents : Agents) (honest Roomy : Type 0) (tries : ℕ) (old new : Traffic) (first w : Walker) (rows given : List VarBind)
     (end : WalkEnd) → IsFresh first → IsWalker w
     → (h : Sends tries first rows old (w.id + 1) new)
-    → (honest → ((used : List (Option ℕ)) × (old.ahead ≡ used ++ new.ahead) × (length used + 64 * length old.sent ≤ 64 * length new.sent)) × AreViews agents.tables × Reaches (IsNextFrom agents) (IsGotFrom agents) first w given
+    → (honest → ((used : List (Option ℕ)) × (old.ahead ≡ used ++ new.ahead) × (length used + 64 * length old.sent ≤ 64 * length new.sent))
+    × AreViews agents.tables × Reaches (IsNextFrom agents) (IsGotFrom agents) first w given
     × IsFast (IsNextFrom agents) (IsGotFrom agents) Roomy first given w.id w.phase)
     → (AreRoomy agents h.requests → Roomy)
     → (before : List Try) × (last : Try) × (h.requests ≡ before ++ last ∷ []) × IsEachSent before × (end ≢ ending.Link → 0 < last.times)

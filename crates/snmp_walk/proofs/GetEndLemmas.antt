@@ -194,7 +194,8 @@ module _ (codec : Codec) (community : List ℕ) (id : ℕ) (names : List (List �
       let same = (codec.one a.message m d d [] [] a.spelt spelt refl).0 in
       (a.view, a.one, a.named, subst (IsResponse a.view agents.max_size Asked) same a.is_response)
 
-  asked_alone : (agents : Agents) → AreLawful agents → (sent : List (List ℕ)) → AreOfLowerIds sent id → IsAsked agents (IsNotAwaited community id) (canon Asked) sent
+  asked_alone : (agents : Agents) → AreLawful agents → (sent : List (List ℕ)) → AreOfLowerIds sent id
+      → IsAsked agents (IsNotAwaited community id) (canon Asked) sent
   asked_alone agents lawful sent low = record {
     own = λ octets reply other. let a = answered agents lawful octets reply in
         other a.message a.spelt (subst (IsResponseTo community id) (sym a.is) (record { version = refl; community_is = refl; kind = refl; id_is = refl }));
@@ -204,7 +205,8 @@ module _ (codec : Codec) (community : List ℕ) (id : ℕ) (names : List (List �
   module _ {L : Type 0} (facts : LinkFacts L) (keeping : (link : L) → facts.honest link → facts.keeps link) (link after : L) (tries : ℕ)
       (lawful : facts.honest link → AreLawful (facts.agents link)) where
     -- the message that arrived is a reply to the Get's request
-    pub brought : (m : Message) (d : List ℕ) → IsGetTried facts link after tries community id names (outcome.answered d) → Spells m d → awaits community id m ≡ true
+    pub brought : (m : Message) (d : List ℕ) → IsGetTried facts link after tries community id names (outcome.answered d) → Spells m d
+        → awaits community id m ≡ true
         → IsBrought (IsGetTried facts link after tries community id names) (facts.agents link) (IsHonestFrom facts id link) community id names m
     brought m d tried spelt awaited = (
       (response_to_decided community id m).0 awaited,

@@ -143,7 +143,8 @@ module _ (agents : Agents) (lawful : AreLawful agents) (community : List ℕ) (i
         )
 
     -- with one table, what was given is a prefix of the results
-    given_front : IsFrontOfReply names Tried Brought rows refused end → (view : MibView) (all : List VarBind) → agents.tables ≡ view ∷ [] → AreGot view names all
+    given_front : IsFrontOfReply names Tried Brought rows refused end → (view : MibView) (all : List VarBind) → agents.tables ≡ view ∷ []
+        → AreGot view names all
         → ((more : List VarBind) × (all ≡ (rows ++ refused) ++ more)) × (IsDone end → rows ≡ all)
     given_front (inl h) view all one_view are =
         let from = h.2.1 is_honest in
@@ -269,7 +270,8 @@ module _ {W : Type 0} (codec : Codec) (facts : LinkFacts W) (link after : W) (tr
         got_but agents end g = g
 
     module _ (other : Agents) (honest : Type 0) where
-      pub happened_by : (end : WalkEnd) → IsReasonOfGet Was (IsBrought Was other honest community id names) names rows refused end → MayEnd (get_request community id names) names end
+      pub happened_by : (end : WalkEnd) → IsReasonOfGet Was (IsBrought Was other honest community id names) names rows refused end
+          → MayEnd (get_request community id names) names end
           → (end ≡ ending.RequestTooLong → ⊥) → Known end
       happened_by (ending.Sink fault) r may short =
           let from = r.3 in
@@ -347,7 +349,7 @@ module _ {W S : Type 0} (facts : LinkFacts W) (link : W) (tries : ℕ) (communit
   moved_none end fine unsent =
       (0, omega arith, (λ named fits. absurd (unsent named fits)), 0, moves_as facts (omega arith) (λ f. absurd f) fine (moves_none facts link))
 
-  -- without names
+  -- without names, a Get is done and returns nothing
   nothing_got : (agents : Agents) → names ≡ [] → GotFacts agents Asked names [] [] (ending.Done 0)
   nothing_got agents none = grind (arith, common_steps, none_got)
 
@@ -423,10 +425,11 @@ module _ {W S : Type 0} (facts : LinkFacts W) (link : W) (tries : ℕ) (communit
         too_long : (agents : Agents) → AreLawful agents → GotFacts agents Asked names [] [] ending.RequestTooLong
         too_long agents good = got_facts agents good community id names (Unit {0}) tt (Tried link) [] [] ending.RequestTooLong refl long
 
-    -- by an exchange of the request that was written
+    -- an exchange of the request that was written ends the Get
     module _ (keeping : (l : W) → facts.honest l → facts.keeps l) (ranged : IsMessageInRange Asked) (n : ℕ) (octets : List ℕ) (few : n ≤ 65507)
         (is : take n octets ≡ canon Asked) (after : W) where
-      got_asked : (what : Outcome) → Tried after what → (sunk : S) (end : WalkEnd) → Suits what end → (end ≡ ending.RequestTooLong → ⊥) → IsGotSo after sunk end
+      got_asked : (what : Outcome) → Tried after what → (sunk : S) (end : WalkEnd) → Suits what end → (end ≡ ending.RequestTooLong → ⊥)
+          → IsGotSo after sunk end
           → IsOver after sunk end
       got_asked what tried sunk end suits short g =
           let a = agrees what end suits in
@@ -449,7 +452,7 @@ module _ {W S : Type 0} (facts : LinkFacts W) (link : W) (tries : ℕ) (communit
           all_lower_sent Asked ranged no_set id (id + 1) refl (omega arith) (facts.traffic link).sent (facts.traffic after).sent y.0 y.2
           (all_lower_more (facts.traffic link).sent id (id + 1) (omega arith) low))
 
-      -- by what the exchange returned
+      -- the reply was read, and its bindings were given to the sink
       abbrev IsReadSo : {V : Type 0} → V → S → List ℕ → Heard → Type 0
       IsReadSo {V} new sunk d what = IsReadAs d community id (λ m given (_ : V). given ≡ got_step names m) takes before new sunk what
 
@@ -462,12 +465,18 @@ module _ {W S : Type 0} (facts : LinkFacts W) (link : W) (tries : ℕ) (communit
           came : (o : Outcome) → what ≡ o → Tried after o
           came o e = subst (Tried after) e (subst (λ (x : List ℕ). AreTried facts (IsNotAwaited community id) x tries link what after) is h)
 
-          read_so : (d : List ℕ) (how : Heard) → what ≡ outcome.answered d → IsReadSo new sunk d how → (why : WalkEnd) × (how ≡ heard.ends why) × IsOver after sunk why
+          read_so : (d : List ℕ) (how : Heard) → what ≡ outcome.answered d → IsReadSo new sunk d how → (why : WalkEnd) × (how ≡ heard.ends why)
+              × IsOver after sunk why
           read_so d how e r =
               let tried = came (outcome.answered d) e in
               let b = by_reply takes Asked names (Tried after) (From after) before sunk r.message
-              (brought codec community id names ranged facts keeping link after tries lawful r.message d tried r.spelt r.awaited) r.given how r.read r.delivered in
-              (b.0, b.1, got_asked (outcome.answered d) tried sunk b.0 ((λ x. subst IsByReply x b.2), λ x. subst IsByReply x b.2) (λ x. subst IsByReply x b.2) b.3)
+              (brought codec community id names ranged facts keeping link after tries lawful r.message d tried r.spelt r.awaited) r.given how r.read
+              r.delivered in (
+                b.0,
+                b.1,
+                got_asked (outcome.answered d) tried sunk b.0 ((λ x. subst IsByReply x b.2), λ x. subst IsByReply x b.2)
+                    (λ x. subst IsByReply x b.2) b.3,
+              )
 
           by_result : (x : Result (Option Course) LinkFault) → Tells (λ d course. IsReadSo new sunk d (heard_of course end)) (same × (sunk ≡ before)) x what
               → IsGetTurn after sunk end x

@@ -44,7 +44,8 @@ module _ {L : Type 0} (codec : Codec) (facts : LinkFacts L) (tries : ℕ) (first
   abbrev Asked : (Walker → Type 0) → List VarBind → Outcome → Walker → List VarBind → Type 0
   Asked Sent rows o w more = IsAskedLast Tried Sent first link rows after o w more
 
-  abbrev asked_events : (Sent : Walker → Type 0) (rows : List VarBind) (o : Outcome) (w : Walker) (more : List VarBind) → Asked Sent rows o w more → Events link after
+  abbrev asked_events : (Sent : Walker → Type 0) (rows : List VarBind) (o : Outcome) (w : Walker) (more : List VarBind) → Asked Sent rows o w more
+      → Events link after
   asked_events Sent rows o w more a =
       let b = read_events a.read.readings first w link a.now a.read.are_read in
       let c = tried_events w a.now after o a.tried in
@@ -101,7 +102,8 @@ module _ {L : Type 0} (codec : Codec) (facts : LinkFacts L) (tries : ℕ) (first
     read_is w l new given s walker r m spelt sorted response h rest is =
         let a = answered_tries facts (canon (request_of w)) (IsNotAwaited w.community w.id) tries l new r h in
         let cut : all ≡ (s.events ++ a.1.0) ++ came tt r ∷ rest =
-        is ∙ ap (λ (es : List (Event (Unit {0}))). s.events ++ es) (append_assoc a.1.0 (came tt r ∷ []) rest) ∙ sym (append_assoc s.events a.1.0 (came tt r ∷ rest)) in
+        is ∙ ap (λ (es : List (Event (Unit {0}))). s.events ++ es) (append_assoc a.1.0 (came tt r ∷ []) rest)
+        ∙ sym (append_assoc s.events a.1.0 (came tt r ∷ rest)) in
         let sent_it = replies (s.events ++ a.1.0) rest tt r cut m spelt sorted in
         let sooner : IsEarlier (tried (s.events ++ a.1.0)) w =
         λ d one. elim (one_append (tried s.events) (tried a.1.0) d (subst (λ (ds : List (List ℕ)). OneOf ds d) (tried-append s.events a.1.0) one)) [
@@ -211,8 +213,11 @@ module _ {L : Type 0} (codec : Codec) (facts : LinkFacts L) (tries : ℕ) (first
     stands_last Sent rows o w more a is =
         let late = (tried_events w a.now after o a.tried).0 in
         subst (λ (g : List VarBind). StandsBefore w g (late ++ [])) (sym a.read.rows)
-        (stands_all a.read.readings first w link a.now [] (late ++ []) a.read.are_read
-        (stands_first, is ∙ ap (λ (es : List (Event (Unit {0}))). (read_events a.read.readings first w link a.now a.read.are_read).0 ++ es) (sym (append-nil late))))
+        (stands_all a.read.readings first w link a.now [] (late ++ []) a.read.are_read (
+          stands_first,
+          is ∙ ap (λ (es : List (Event (Unit {0}))). (read_events a.read.readings first w link a.now a.read.are_read).0 ++ es)
+              (sym (append-nil late)),
+        ))
 
     -- what was passed on is a part of a walk
     part_at : (w : Walker) (rows given more : List VarBind) → rows ≡ given ++ more → more ≡ [] → Reaches Next Got first w given
@@ -239,18 +244,21 @@ module _ {L : Type 0} (codec : Codec) (facts : LinkFacts L) (tries : ℕ) (first
               inr (f.0, (part_at w rows a.given more a.parts none s.0.honestly, tt), (f.1.0, f.1.1, by))
         ]
 
-    end_refused : (Sent : Walker → Type 0) (rows refused : List VarBind) (fault : SinkFault) → refused ≢ [] → (datagram : List ℕ) (w : Walker) (more : List VarBind)
+    end_refused : (Sent : Walker → Type 0) (rows refused : List VarBind) (fault : SinkFault) → refused ≢ []
+        → (datagram : List ℕ) (w : Walker) (more : List VarBind)
         → (a : Asked Sent rows (outcome.answered datagram) w more) → (st : Step) (over : Walker) (left : List VarBind) → MeansBy w datagram st over
         → rows_in st ≡ more ++ (refused ++ left) → all ≡ (asked_events Sent rows (outcome.answered datagram) w more a).0
         → IsHonestEnd agents rows refused (ending.Sink fault)
     end_refused Sent rows refused fault some datagram w more a st over left means cut is =
         let s = stands_last Sent rows (outcome.answered datagram) w more a is in
-        let h : Steps w a.given st over = elim (reads w a.now after a.given s.0 a.walker datagram st over (λ e. some (no_rows (ap rows_in e))) means a.tried [] s.1) [
+        let h : Steps w a.given st over = elim (reads w a.now after a.given s.0 a.walker datagram st over
+        (λ e. some (no_rows (ap rows_in e))) means a.tried [] s.1) [
           | inl steps ↦ steps
           | inr f ↦ absurd (some (no_rows (ap rows_in f.1.2)))
         ] in
         let whole_rows : a.given ++ rows_in st ≡ (rows ++ refused) ++ left =
-        ap (λ (g : List VarBind). a.given ++ g) cut ∙ sym (append_assoc a.given more (refused ++ left)) ∙ ap (λ (g : List VarBind). g ++ (refused ++ left)) (sym a.parts)
+        ap (λ (g : List VarBind). a.given ++ g) cut ∙ sym (append_assoc a.given more (refused ++ left))
+        ∙ ap (λ (g : List VarBind). g ++ (refused ++ left)) (sym a.parts)
         ∙ sym (append_assoc rows refused left) in (
           part_front Next Got first (rows ++ refused) left (subst (IsPartOfWalk Next Got first) whole_rows (part_of_step Next Got (IsTooLarge agents)
               (views_answer agents good.views) first w a.given st over h.honestly)),
@@ -266,7 +274,8 @@ module _ {L : Type 0} (codec : Codec) (facts : LinkFacts L) (tries : ℕ) (first
             nil_middle (x ∷ a) b c e = let no : ⊥ = cc in absurd no
 
     end_none : (Sent : Walker → Type 0) (rows : List VarBind) (o : Outcome) (w : Walker) (end : WalkEnd) → (a : Asked Sent rows o w [])
-        → all ≡ (asked_events Sent rows o w [] a).0 → (Reaches Next Got first w rows → IsLawfulEnd agents (λ w. Unit {0}) first rows end) → IsHonestEnd agents rows [] end
+        → all ≡ (asked_events Sent rows o w [] a).0 → (Reaches Next Got first w rows → IsLawfulEnd agents (λ w. Unit {0}) first rows end)
+        → IsHonestEnd agents rows [] end
     end_none Sent rows o w end a is lawful =
         let reaches = (stands_last Sent rows o w [] a is).0.honestly in
         let all_given : a.given ≡ rows = sym (append-nil a.given) ∙ sym a.parts in
@@ -316,12 +325,14 @@ module _ {L : Type 0} (codec : Codec) (facts : LinkFacts L) (tries : ℕ) (first
       (λ agents good Sort Errors sort replies. end_read agents good _ Sort Errors sort replies Sent rows end datagram w more a over means refl)
 
   known_none : (Sent : Walker → Type 0) (rows : List VarBind) (o : Outcome) (w : Walker) (end : WalkEnd) → (a : Asked Sent rows o w [])
-      → ((agents : Agents) → Reaches (IsNextFrom agents) (IsGotFrom agents) first w rows → IsLawfulEnd agents (λ w. Unit {0}) first rows end) → Known rows [] end
+      → ((agents : Agents) → Reaches (IsNextFrom agents) (IsGotFrom agents) first w rows → IsLawfulEnd agents (λ w. Unit {0}) first rows end)
+      → Known rows [] end
   known_none Sent rows o w end a lawful =
       known_by Sent rows [] end o w [] a
       (λ agents good Sort Errors sort replies. inl (end_none agents good _ Sort Errors sort replies Sent rows o w end a refl (lawful agents)))
 
-  pub given_by : (Sent : Walker → Type 0) (rows refused : List VarBind) (end : WalkEnd) → {S : Type 0} (takes : S → VarBind → Result (Unit {0}) SinkFault → S → Type 0)
+  pub given_by : (Sent : Walker → Type 0) (rows refused : List VarBind) (end : WalkEnd)
+      → {S : Type 0} (takes : S → VarBind → Result (Unit {0}) SinkFault → S → Type 0)
       (before now : S) → Took takes before rows refused end now → IsEndOfRun (Asked Sent rows) refused end → Known rows refused end
   given_by Sent rows refused ending.RequestTooLong takes before now took h = absurd h
   given_by Sent rows refused ending.NoResponse takes before now took h =

@@ -392,7 +392,7 @@ lower_reply codec agents lawful id d r m low spelt (inr h) =
     let is = form codec low.request low.in_range low.no_set agents m from (may_be codec low.request low.in_range low.no_set agents m from) in
     (low.number, ap (λ (x : Message). x.id) is.3 ∙ low.id_is, low.lower)
 
--- so it isn't awaited
+-- a reply to a request with a lower id isn't awaited
 pub lower_not_awaited : Codec → (agents : Agents) → AreLawful agents → (community : List ℕ) (id : ℕ) (d r : List ℕ) → IsOfLowerId id d
     → IsReplyFrom agents d r → IsNotAwaited community id r
 lower_not_awaited codec agents lawful community id d r low reply m spelt response =

@@ -211,8 +211,10 @@ module _ (precedes : (o p : List ℕ) → slice_cmp nat_cmp o p ≡ Less → Pre
     ]
 
     root_by : (w : Walker) (b : VarBind) (t : Bool) → Decides t (IsMissing b) → MeansRoot w given new b ↔ Is (goes_on w phase.Rows (cond t [] (b ∷ [])))
-    root_by w b true d = by_test true _ _ _ (goes_on w phase.Rows []) (goes_on w phase.Rows (b ∷ [])) d (λ _. goes w phase.Rows []) (λ _. goes w phase.Rows (b ∷ []))
-    root_by w b false d = by_test false _ _ _ (goes_on w phase.Rows []) (goes_on w phase.Rows (b ∷ [])) d (λ _. goes w phase.Rows []) (λ _. goes w phase.Rows (b ∷ []))
+    root_by w b true d = by_test true _ _ _ (goes_on w phase.Rows []) (goes_on w phase.Rows (b ∷ [])) d (λ _. goes w phase.Rows [])
+        (λ _. goes w phase.Rows (b ∷ []))
+    root_by w b false d = by_test false _ _ _ (goes_on w phase.Rows []) (goes_on w phase.Rows (b ∷ [])) d (λ _. goes w phase.Rows [])
+        (λ _. goes w phase.Rows (b ∷ []))
 
     for_phase : (p : Phase) (w : Walker) (bindings : List VarBind) → (p ≡ phase.Over → ⊥) → MeansFor p w bindings given new ↔ Is (reads_for p w bindings)
     for_phase phase.First w bindings waits =

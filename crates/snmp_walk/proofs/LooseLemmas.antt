@@ -1,7 +1,8 @@
 -- What an agent sends in other ways is its reply, an error, or another Response that RFC 3416 allows (`sent_loosely`); and so is all that arrives over a link
 -- to it (`come_loosely`).
 use Rattle.std.proofs.{lemmas.Grind.common_steps, lemmas.Int.ints, lemmas.List.Elements.All-append, lemmas.List.Elements.All-cons}
-use Rattle.std.proofs.{lemmas.List.length-drop, lemmas.List.take-append-le, lemmas.List.Elements.All-drop, lemmas.List.Elements.All-nil, lemmas.Slice.take-put_mid}
+use Rattle.std.proofs.{lemmas.Slice.take-put_mid}
+use Rattle.std.proofs.{lemmas.List.length-drop, lemmas.List.take-append-le, lemmas.List.Elements.All-drop, lemmas.List.Elements.All-nil}
 use Rattle.std.proofs.Math.Seq.{drop-append_seam, take-append_seam, take-length}
 use Rattle.std.proofs.Common.{◌≡◌, ◌≢◌, ◌⊎◌, inl, inr, ℕ, ◌+◌, ◌-◌, ◌*◌, ◌<◌, ◌≤◌, ℤ, pos, negsuc, ◌≤ℤ◌, ◌<ℤ◌, List, [], ◌∷◌, ◌++◌, length, drop, take, max}
 use Rattle.std.proofs.Common.{get_or, Option, Some, None, refl, sym, ◌∙◌, ap, subst, arith, length-append}
@@ -270,7 +271,8 @@ module _ (codec : Codec) (typed : SpeltIsOfType) (agent : Agent) (good : IsMibVi
   allowed (way.Fewer n) q m datagram reply octets encoded is (one, k, more, h) spelt =
       let less = with_repetitions (max n 1) q in
       let type = typed q datagram encoded in
-      let range = asked_in_range q type one (short_community q datagram reply encoded is) q.kind q.a (pos (max n 1)) type.a (below_fits (max n 1) q.b more type.b) in
+      let range = asked_in_range q type one (short_community q datagram reply encoded is) q.kind q.a (pos (max n 1)) type.a
+      (below_fits (max n 1) q.b more type.b) in
       let own : Spells less (canon less) = codec.read less (canon less) (codec.strict less range) in
       let still : AsksForOne less =
       record { name = one.name; bindings = one.bindings; repeats = λ _. ((one.repeats k).0, omega (arith, ints)) } in
@@ -326,7 +328,7 @@ after_next : (ahead left : List Way) (next other : Way) → IsNextWay ahead next
 after_next [] left next other h one = absurd (subst (λ (ways : List Way). OneOf ways other) h.1 one)
 after_next (first ∷ more) left next other h one = inr (subst (λ (ways : List Way). OneOf ways other) h.1 one)
 
--- and so is the next one, if it is genErr
+-- if the next way is genErr, it is among the ways
 error_next : (ahead left : List Way) (next : Way) → IsNextWay ahead next left → next ≡ way.GenErr → OneOf ahead way.GenErr
 error_next [] left next h error = let whole = h.0 in let never : ⊥ = cc in absurd never
 error_next (first ∷ more) left next h error = inl (sym error ∙ h.0)

@@ -39,7 +39,8 @@ module _ (agents : Agents) (Other : List ℕ → Type 0) (q : List ℕ) where
   Loses sent ahead tries count left =
       (used : List (Option ℕ)) × (ahead ≡ used ++ left) × (IsUnanswered agents q ⊎ Lost agents sent q used tries count)
 
-  loses_more : {sent other : List (List ℕ)} {ahead left : List (Option ℕ)} (tries count fewer more : ℕ) (next : List (Option ℕ)) (e : Option ℕ) → ahead ≡ e ∷ next
+  loses_more : {sent other : List (List ℕ)} {ahead left : List (Option ℕ)} (tries count fewer more : ℕ) (next : List (Option ℕ)) (e : Option ℕ)
+      → ahead ≡ e ∷ next
       → ((used : List (Option ℕ)) → Lost agents other q used fewer more → Lost agents sent q (e ∷ used) tries count) → Loses other next fewer more left
       → Loses sent ahead tries count left
   loses_more tries count fewer more next e parts lost l =

@@ -205,7 +205,8 @@ module _ {L : Type 0} (facts : LinkFacts L) (Other : List ℕ → Type 0) (q : L
   IsSent tries what old new = (times : ℕ) × (times ≤ tries) × ((facts.traffic new).sent ≡ (facts.traffic old).sent ++ replicate times q)
       × ((what ≡ outcome.cut_off → ⊥) → 0 < times) × (what ≡ outcome.missed → times ≡ tries)
 
-  pub sent_of : (tries : ℕ) → 0 < tries → (what : Outcome) (old new : L) → AreTried facts Other q tries old what new → facts.keeps old → IsSent tries what old new
+  pub sent_of : (tries : ℕ) → 0 < tries → (what : Outcome) (old new : L) → AreTried facts Other q tries old what new → facts.keeps old
+      → IsSent tries what old new
   sent_of tries some outcome.missed old new h keeps = (tries, omega arith, sent_before tries old new h keeps, (λ fine. some), λ is. refl)
   sent_of tries some what old new h keeps =
       let m = moved_of tries some what old new h in

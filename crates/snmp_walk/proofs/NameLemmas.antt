@@ -129,7 +129,7 @@ wire_begins [] = (0 ∷ 0 ∷ [], refl)
 wire_begins (x ∷ []) = (0 ∷ [], refl)
 wire_begins (x ∷ y ∷ root) = ([], sym (append-nil (x ∷ y ∷ root)))
 
--- and so does the wire form of each name that begins with the root
+-- the wire form of each name that begins with the root does so too
 pub wire_begins_below : (root rest : List ℕ) → (s : List ℕ) × (wire (root ++ rest) ≡ root ++ s)
 wire_begins_below root rest =
     let h = wire_begins (root ++ rest) in (rest ++ h.0, h.1 ∙ append_assoc root rest h.0)

@@ -311,7 +311,8 @@ module _ {N Peer : Type 0} (happens : N → Event Peer → N → Type 0) (carrie
       → carries between (at_walk e) new → InTurn carries old (map at_agents events ++ at_walk e ∷ []) new
   chain_of events e old between new first last = grind (arith, common_steps, in_turn-append, turns_carried)
 
-pub by_some : (got : Option ℕ) (buffer : List ℕ) (P : Event (Unit {0}) → Type 0) → P (event_of_got (Ok got) buffer) → IfSome got (λ n. P (came tt (take n buffer)))
+pub by_some : (got : Option ℕ) (buffer : List ℕ) (P : Event (Unit {0}) → Type 0) → P (event_of_got (Ok got) buffer)
+    → IfSome got (λ n. P (came tt (take n buffer)))
 by_some None buffer P h = tt
 by_some (Some n) buffer P h = h
 
@@ -329,7 +330,13 @@ module _ {Peer : Type 0} where
   agents_of_agents (e ∷ events) = ap (λ es. e ∷ es) (agents_of_agents events)
 
 no_turns : {Peer : Type 0} (agent : Agent) → AreTurns {Peer = Peer} agent 0 (record { replies = 0; dropped = 0; idle = 0; faults = 0 }) []
-no_turns {Peer} agent = record { done = []; each = All-nil (λ (u : TurnDone Peer). IsTurn agent u.turn u.events); count = refl; by_kind = refl; in_order = refl }
+no_turns {Peer} agent = record {
+  done = [];
+  each = All-nil (λ (u : TurnDone Peer). IsTurn agent u.turn u.events);
+  count = refl;
+  by_kind = refl;
+  in_order = refl;
+}
 
 -- the agent had `turns` turns, and then e happened at the walk's end
 abbrev pub IsServedThen : {N Peer : Type 0} → (carries : N → Happening Peer → N → Type 0) → Agent → (turns : ℕ) → N → Event (Unit {0}) → N → Type 0
@@ -382,10 +389,12 @@ module _ {W N Peer : Type 0} (net : W → N) (agent_at : W → Agent) (carries :
 module _ {W N Peer : Type 0} (facts : LinkFacts W) (net : W → N) (agent_at : W → Agent) (carries : N → Happening Peer → N → Type 0)
     (turn_count : N → ℕ)
     (sends : (old new : W) (d : List ℕ) → facts.sends old d new → (agent_at new ≡ agent_at old) × carries (net old) (at_walk (sent tt d)) (net new))
-    (fails : (old new : W) (d : List ℕ) → facts.send_fails old d new → (agent_at new ≡ agent_at old) × carries (net old) (at_walk (send_failed tt d)) (net new))
+    (fails : (old new : W) (d : List ℕ) → facts.send_fails old d new → (agent_at new ≡ agent_at old)
+    × carries (net old) (at_walk (send_failed tt d)) (net new))
     (brings : (old new : W) (d : List ℕ) → facts.brings old d new
     → (agent_at new ≡ agent_at old) × IsServedThen carries (agent_at old) (turn_count (net old)) (net old) (came tt d) (net new))
-    (silent : (old new : W) → facts.is_silent old new → (agent_at new ≡ agent_at old) × IsServedThen carries (agent_at old) (turn_count (net old)) (net old) silence (net new))
+    (silent : (old new : W) → facts.is_silent old new → (agent_at new ≡ agent_at old)
+    × IsServedThen carries (agent_at old) (turn_count (net old)) (net old) silence (net new))
     (receives : (old new : W) → facts.receive_fails old new
     → (agent_at new ≡ agent_at old) × IsServedThen carries (agent_at old) (turn_count (net old)) (net old) receive_failed (net new)) where
   part : (old new : W) (e : Event (Unit {0})) → Happens facts old e new → Part net agent_at carries turn_count old new e
@@ -416,11 +425,13 @@ module _ {W N Peer : Type 0} (facts : LinkFacts W) (net : W → N) (agent_at : W
 -- all that happened at a link in a walk, as events on the network
 pub all_of : {W N Peer : Type 0} {facts : LinkFacts W} {link after : W} {tries : ℕ} {first : Walker} {given refused : List VarBind} {end : WalkEnd}
     → (w : IsWalkedOver facts link after tries first given refused end) (net : W → N) (agent_at : W → Agent) (carries : N → Happening Peer → N → Type 0)
-    (turn_count : N → ℕ) → ((old new : W) (d : List ℕ) → facts.sends old d new → (agent_at new ≡ agent_at old) × carries (net old) (at_walk (sent tt d)) (net new))
+    (turn_count : N → ℕ) → ((old new : W) (d : List ℕ) → facts.sends old d new → (agent_at new ≡ agent_at old)
+    × carries (net old) (at_walk (sent tt d)) (net new))
     → ((old new : W) (d : List ℕ) → facts.send_fails old d new → (agent_at new ≡ agent_at old) × carries (net old) (at_walk (send_failed tt d)) (net new))
     → ((old new : W) (d : List ℕ) → facts.brings old d new
     → (agent_at new ≡ agent_at old) × IsServedThen carries (agent_at old) (turn_count (net old)) (net old) (came tt d) (net new))
-    → ((old new : W) → facts.is_silent old new → (agent_at new ≡ agent_at old) × IsServedThen carries (agent_at old) (turn_count (net old)) (net old) silence (net new))
+    → ((old new : W) → facts.is_silent old new → (agent_at new ≡ agent_at old)
+    × IsServedThen carries (agent_at old) (turn_count (net old)) (net old) silence (net new))
     → ((old new : W) → facts.receive_fails old new
     → (agent_at new ≡ agent_at old) × IsServedThen carries (agent_at old) (turn_count (net old)) (net old) receive_failed (net new))
     → (agents : Agents) (view : MibView) → OneOf agents.tables view

@@ -55,7 +55,8 @@ are_more : {L : Type 0} (Tried : Walker → L → Outcome → L → Type 0) (v w
     → AreRead Tried v old readings w now → IsWalker w → Tried w now (outcome.answered r.datagram) new → MeansBy w r.datagram (step.Rows r.rows) x
     → AreRead Tried v old (readings ++ r ∷ []) x new
 are_more Tried v w x old now new [] r h good tried taken = (subst IsWalker h.0 good, x, new, rw (← h.0, ← h.1) tried, rw (← h.0) taken, (refl, refl))
-are_more Tried v w x old now new (s ∷ readings) r h good tried taken = grind (arith, common_steps, are_more Tried h.1 w x h.2 now new readings r h.5 good tried taken, taken)
+are_more Tried v w x old now new (s ∷ readings) r h good tried taken = grind
+    (arith, common_steps, are_more Tried h.1 w x h.2 now new readings r h.5 good tried taken, taken)
 
 read_more : {L : Type 0} (Tried : Walker → L → Outcome → L → Type 0) (first w x : Walker) (old now new : L) (given rows : List VarBind) (datagram : List ℕ)
     → HasRead Tried first old w now given → IsWalker w → Tried w now (outcome.answered datagram) new → MeansBy w datagram (step.Rows rows) x
@@ -164,7 +165,8 @@ module _ {S L : Type 0} {facts : LinkFacts L} {takes : S → VarBind → Result 
     honest_reply : IsHonestFrom facts first.id link → IsReplyTo Next Got (IsTooLarge agents) w m × IsFullReply agents w m
     honest_reply h =
         subst (λ (a : Agents). IsReplyTo (IsNextFrom a) (IsGotFrom a) (IsTooLarge a) w m × IsFullReply a w m) r.has_moved.by.moved.agents
-        (from_of facts keeping codec tries w here after (lawful here) good waits m d tried spelt ((response_to_decided w.community w.id m).0 awaited) (asked h).0 (asked h).1)
+        (from_of facts keeping codec tries w here after (lawful here) good waits m d tried spelt ((response_to_decided w.community w.id m).0 awaited)
+        (asked h).0 (asked h).1)
 
     honest_step : IsHonestFrom facts first.id link → Advances Next Got (IsTooLarge agents) first w r.given (take_of w m).0 (take_of w m).1
     honest_step h = taken Next Got (IsTooLarge agents) (laws h) first r.given w m (r.honestly h) (honest_reply h).0
@@ -301,9 +303,11 @@ module _ {S L : Type 0} {facts : LinkFacts L} {takes : S → VarBind → Result 
                   are_tries = r.has_moved.by.are_tries;
                   ids = r.has_moved.ids;
                 } in
-                send_facts codec agents (IsHonestFrom facts first.id link) (AreRoomy agents requests) tries (facts.traffic link) (facts.traffic after) first w all
+                send_facts codec agents (IsHonestFrom facts first.id link) (AreRoomy agents requests) tries (facts.traffic link)
+                (facts.traffic after) first w all
                 r.given end fresh good
-                (sends_more tries (x k).0 first w r.given rows (facts.traffic link) (facts.traffic here) (facts.traffic after) good r.stands sends (x k).1 (x k).2)
+                (sends_more tries (x k).0 first w r.given rows (facts.traffic link) (facts.traffic here) (facts.traffic after) good r.stands sends (x k).1
+                (x k).2)
                 (λ h.
                 let u = moved.by.moved.used h.0 in
                 ((u.0, u.1, omega (arith, u.2, moved.by.few k)), (lawful link h.0).views, r.honestly h, r.fast h))
@@ -341,8 +345,14 @@ module _ {S L : Type 0} {facts : LinkFacts L} {takes : S → VarBind → Result 
           sink = took_reply takes before t (r.given ++ rows) why over.0 (given-append S takes r.given rows before s t r.sunk sink);
           part = rw append-nil over.1;
           counted = over.2;
-          reason = read_end (IsAskedLast (IsTried facts tries) (IsSentLast why) first link (r.given ++ rows) after) [] why over.0
-              (d, w, rows, asked_last (outcome.answered d) why suits tried rows (r.given ++ rows) refl, (take_of w m).1, means_by codec.less w d m spelt _ _ (sym e) refl);
+          reason = read_end (IsAskedLast (IsTried facts tries) (IsSentLast why) first link (r.given ++ rows) after) [] why over.0 (
+            d,
+            w,
+            rows,
+            asked_last (outcome.answered d) why suits tried rows (r.given ++ rows) refl,
+            (take_of w m).1,
+            means_by codec.less w d m spelt _ _ (sym e) refl,
+          );
           honestly = λ h.
               let last = subst (λ (st : Step). Advances Next Got (IsTooLarge agents) first w r.given st (take_of w m).1) e
               (honest_step m d tried spelt awaited h) in (

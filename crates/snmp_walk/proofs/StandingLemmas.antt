@@ -108,7 +108,8 @@ module _ (Next Got : List ℕ → VarBind → Type 0) (Large : ℕ → VarBind �
       let at : o ≡ first.asked = none_asked (given ++ more) o (omega (arith, none, h.count, length-append given more)) after in
       let plain : first.mode ≡ mode.Plain = sym (ap (λ (v : Walker). v.mode) h.same) ∙ plain_from w.mode parts.0 in
       let pace : w.id ≡ first.id = plain_pace given w waits h no_given plain in
-      goes given [] w phase.Last h (append-nil given ∙ nil_from_length given no_given, asked, plain, subst (IsAtEnd Next first.root) at end) (omega (arith, pace)))
+      goes given [] w phase.Last h (append-nil given ∙ nil_from_length given no_given, asked, plain, subst (IsAtEnd Next first.root) at end)
+      (omega (arith, pace)))
       (λ other. (
         inr (inl (o, after)),
         (
@@ -196,7 +197,8 @@ module _ (Next Got : List ℕ → VarBind → Type 0) (Large : ℕ → VarBind �
       → IsReplyContent Next Got Large p w m → Goes w given (cond (int_eq m.a (pos 0)) (reads_for p w m.bindings) (stops w [] (ending.Fault m.a m.b)))
   reads_content given w m phase.First waits h stage (inl (fine, (p, answer, only))) = grind (arith, common_steps, got_is, reads_root)
   reads_content given w m phase.Rows waits h stage (inl c) = rw c.0 (reads_instances given m.bindings w waits h stage c.1 c.2 c.3)
-  reads_content given w m phase.Last waits h stage (inl (fine, (p, answer, only))) = rw (fine, only, got_is w.asked p answer) (reads_alone given w p h stage answer)
+  reads_content given w m phase.Last waits h stage (inl (fine, (p, answer, only))) = rw (fine, only, got_is w.asked p answer)
+      (reads_alone given w p h stage answer)
   reads_content given w m phase.Over waits h stage c = absurd c
   reads_content given w m p waits h stage (inr c) = rw c.0 (rw append-nil (part_of_stage given w.asked p stage), (refl, c.1, rw waits c.2))
 
@@ -211,7 +213,7 @@ module _ (Next Got : List ℕ → VarBind → Type 0) (Large : ℕ → VarBind �
 
 -- ---- what holds of a step whatever the reply is
 
--- no statement about the room of bindings
+-- nothing is said of which bindings have room
 abbrev pub Small : ℕ → VarBind → Type 0
 Small id p = Unit {0}
 

@@ -40,7 +40,7 @@ served _ _ = tt
 abbrev pub HasFew : (List ℕ → VarBind → Type 0) → Walker → ℕ → Type 0
 HasFew Next first k = (trail : List VarBind) → IsTrail Next first.root first.asked trail → length trail ≤ k
 
--- then a walk has sent at most k requests before the waiting one, and a Get
+-- if a trail has at most k rows, a walk has sent at most k requests before the waiting one, and a Get
 pub few_in : (Next Got : List ℕ → VarBind → Type 0) (first : Walker) (k : ℕ) → HasFew Next first k → (w : Walker) (given : List VarBind)
     → Reaches Next Got first w given → w.id ≤ first.id + k + gets first.mode
 few_in Next Got first k bound w given h = grind (arith, common_steps, opening_is_get, few_replies)

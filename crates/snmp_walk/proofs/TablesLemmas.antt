@@ -93,7 +93,7 @@ successor_of codec view o n p (successor s) h a = s
 successor_of codec view o n p (end_of_view none is) h a =
     absurd (none h.0 h.1 (subst (Precedes o) (sym h.2) (after_precedes codec o n a)))
 
--- and no row after o comes before this answer
+-- the answer to a GetNext of o is the row n after o, or comes before it
 up_to : Codec → (view : MibView) (o n : List ℕ) (p : VarBind) → IsNext view o p → HasName view n → comes_after o n ≡ true
     → (n ≡ p.name) ⊎ (comes_after p.name n ≡ true)
 up_to codec view o n p next h a = by_order (slice_cmp nat_cmp p.name n) refl

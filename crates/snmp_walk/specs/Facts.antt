@@ -212,11 +212,11 @@ pub record GivenFacts (agents : Agents) (Silent : Walker → Type 0) (first : Wa
   pub part : IsPartOfWalk (IsNextFrom agents) (IsGotFrom agents) first (rows ++ refused)
   -- the link and the sink may stop it at any time; each other end has its reason
   pub lawful : IsLawfulEnd agents Silent first rows end
-  -- with one table, what was given and refused is a prefix of the walk,
+  -- with one table, what was given and refused is a prefix of the walk
   pub beginning : (view : MibView) (got : VarBind) → agents.tables ≡ view ∷ []
       → IsGet view first.asked got
       → (more : List VarBind) × (walk_at first view got ≡ (rows ++ refused) ++ more)
-  -- and all of it was given if the walk is done
+  -- with one table, a walk that is done gave all of it
   pub all_at_done : (view : MibView) (got : VarBind) → agents.tables ≡ view ∷ []
       → IsGet view first.asked got → IsDone end
       → rows ≡ walk_at first view got
@@ -230,11 +230,11 @@ pub record GivenFacts (agents : Agents) (Silent : Walker → Type 0) (first : Wa
   -- with several tables, each row is from one of them
   pub from_tables : AreFromTables agents first (rows ++ refused)
   -- each name of the walk that all tables have, and that doesn't come after the last name given,
-  -- was given once,
+  -- was given once
   pub common_names : (name : List ℕ) → IsOfWalk first name → IsInEach agents name
       → (front : List VarBind) (last : VarBind) → rows ≡ front ++ last ∷ []
       → (Precedes last.name name → ⊥) → IsGivenOnce rows name
-  -- and so was each of them if the walk is done
+  -- a walk that is done gave each name of the walk that all tables have, once
   pub common_at_done : IsDone end → (name : List ℕ) → IsOfWalk first name → IsInEach agents name
       → IsGivenOnce rows name
   -- a plain walk that is done gave at least one row
@@ -257,8 +257,9 @@ pub record WalkFacts (agents : Agents) (tries : ℕ) (old : Traffic) (first : Wa
   -- if each receive returns the reply to the latest datagram, no reply arrives only if one of the
   -- agents has none
   pub replied : old.ahead ≡ [] → IsLawfulEnd agents (HasNone agents) first rows end
-  -- and if there is room for each single binding of each table, and there are enough ids for the
-  -- names below the root, the walk is done unless the link or the sink stops it
+  -- If each receive returns the reply to the latest datagram, there is room for each single binding
+  -- of each table, and there are enough ids for the names below the root, then the walk is done
+  -- unless the link or the sink stops it.
   pub done_unless_stopped : (k : ℕ) → CountsNames agents first k → HasRoomInEach agents first
       → HasIdsFor first k → old.ahead ≡ [] → IsDoneOrStopped end
 
@@ -277,20 +278,21 @@ pub record SendFacts (agents : Agents) (honest : Type 0) (tries : ℕ) (old : Tr
   pub are_tries : AreTries tries first rows first.id requests
   -- the last id is at most 2147483647
   pub few : first.id + length requests ≤ 2147483648
-  -- each was sent at least once, unless the link failed at the first send of the last one,
+  -- each was sent at least once, unless the link failed at the first send of the last one
   pub each_sent : (before : List Try) × (last : Try) × (requests ≡ before ++ last ∷ [])
       × IsEachSent before × (end ≢ ending.Link → 0 < last.times)
-  -- and if no reply arrived, the last one was sent exactly `tries` times
+  -- if no reply arrived, the last one was sent exactly `tries` times
   pub all_tries : end ≡ ending.NoResponse → (before : List Try) × (last : Try)
       × (requests ≡ before ++ last ∷ []) × (last.times ≡ tries)
-  -- at most 64 deliveries are used for each datagram sent
+  -- if `honest` holds, at most 64 deliveries are used for each datagram sent
   pub used : honest → (used : List (Option ℕ)) × (old.ahead ≡ used ++ new.ahead)
       × (length used ≤ 64 * length (sent_by requests))
-  -- there is at most one request for each of k names below the root, one more, and a Get
+  -- if `honest` holds, there is at most one request for each of k names below the root, one more,
+  -- and a Get
   pub few_of_names : honest → (k : ℕ) → CountsNames agents first k
       → length requests ≤ k + 1 + gets first.mode
-  -- if there is room for all bindings that each request for the next instances asks for, a walk by
-  -- GetBulk with r repetitions sends at most k / r + 1 of them
+  -- if `honest` holds, and there is room for all bindings that each request for the next instances
+  -- asks for, a walk by GetBulk with r repetitions sends at most k / r + 1 of them
   pub few_where_all_fit : honest
       → ((t : Try) → OneOf requests t → t.by.phase ≡ phase.Rows → HasRoomForAll agents t.by)
       → (k : ℕ) → CountsNames agents first k

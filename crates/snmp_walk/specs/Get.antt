@@ -144,10 +144,10 @@ IsReasonOfGet Tried From names given refused end =
 -- to its request. It gave `rows` to the sink, and then the one that was refused, if any was.
 pub record GotFacts (agents : Agents) (request : Message) (names : List (List ℕ))
     (rows refused : List VarBind) (end : WalkEnd) : Type 0 where
-  -- with one table, what was given and refused is a prefix of the results of Gets of the names,
+  -- with one table, what was given and refused is a prefix of the results of Gets of the names
   pub beginning : (view : MibView) (all : List VarBind) → agents.tables ≡ view ∷ []
       → AreGot view names all → (more : List VarBind) × (all ≡ (rows ++ refused) ++ more)
-  -- and all of it was given if the Get is done
+  -- with one table, a Get that is done gave all of them
   pub all_at_done : (view : MibView) (all : List VarBind) → agents.tables ≡ view ∷ []
       → AreGot view names all → IsDone end → rows ≡ all
   -- it ends with an error status only if the agents' messages have no room, and never because the

@@ -74,11 +74,11 @@ IsTriedTo peer run d = OneOf run (at_agents (sent peer d))
 -- the agents, and these. It may lose, repeat, delay and reorder them, as UDP may (RFC 768). Other
 -- peers may send the agents what they like, but no message of theirs arrives at the walk.
 pub record IsFaithful {Peer : Type 0} (walker : Peer) (run : List (Happening Peer)) : Type 0 where
-  -- a message that arrived at the walk was sent to it by the agents before,
+  -- a message that arrived at the walk was sent to it by the agents before
   pub replies : (before after : List (Happening Peer)) (peer : Unit {0}) (d : List ℕ)
       → run ≡ before ++ at_walk (came peer d) ∷ after → (m : Message) → Spells m d
       → IsTriedTo walker before d
-  -- and a datagram that arrived at the agents from the walk was sent by the walk before
+  -- a datagram that arrived at the agents from the walk was sent by the walk before
   pub requests : (before after : List (Happening Peer)) (d : List ℕ)
       → run ≡ before ++ at_agents (came walker d) ∷ after → OneOf (tried (of_walk before)) d
 

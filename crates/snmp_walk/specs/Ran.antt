@@ -60,26 +60,27 @@ pub record IsWalkedOver {W : Type 0} (facts : LinkFacts W) (link after : W) (tri
     (first : Walker) (given refused : List VarBind) (end : WalkEnd) : Type 0 where
   -- the names passed on are the root's own and those of instances below it
   pub part : IsPartOfWalk Rises Named first (given ++ refused)
-  -- they increase, a walk that is done has counted them, and each end has its reason in what came
-  -- of the requests, each sent in the state in which the one before it left the link
+  -- the names increase, a walk that is done has counted them, and each end has its reason in what
+  -- came of the requests, each sent in the state in which the one before it left the link
   pub ends : EndFacts (IsTried facts tries)
       (λ w. facts.keeps link → IsLastSent tries end (facts.traffic after) w) first link given
       refused end after
   -- over a link that lists what is sent: which requests were sent, and how many times
   pub sent : facts.keeps link → SendFacts (facts.agents link) (IsHonestFrom facts first.id link)
       tries (facts.traffic link) first given end (facts.traffic after)
-  -- over an honest link, over which earlier runs had lower ids: what its agents returned,
+  -- over an honest link, over which earlier runs had lower ids: what its agents returned
   pub judged : IsHonestFrom facts first.id link
       → WalkFacts (facts.agents link) tries (facts.traffic link) first given refused end
       (facts.traffic after)
-  -- and that the link doesn't fail if it is ready for all that is sent for k names below the root
+  -- over such a link: it doesn't fail if it is ready for all that is sent for k names below the
+  -- root
   pub ready : IsHonestFrom facts first.id link → (k : ℕ) → CountsNames (facts.agents link) first k
       → IsReadyForAll (facts.ready link) tries k → end ≢ ending.Link
   -- its requests changed the link, which failed if the walk ended with `Link`
   pub moved : IsMovedByRequests facts tries first given link (end ≡ ending.Link) after
   -- There is at most one request for each row passed on, one more, and a Get.
   pub few_of_rows : length moved.requests ≤ length given + 1 + gets first.mode
-  -- So a later run over the link may begin with the id after theirs.
+  -- A later run over the link may begin with the id after those of the requests.
   pub later : facts.keeps link → AreOfLowerIds (facts.traffic link).sent first.id
       → AreOfLowerIds (facts.traffic after).sent (first.id + length moved.requests)
   -- what happened over any link, and what was passed on if only replies of agents arrived

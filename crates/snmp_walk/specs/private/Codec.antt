@@ -15,7 +15,7 @@ pub record Codec : Type 0 where
   pub read : StrictIsRead
   -- what is written is a strict encoding
   pub strict : EncodingIsStrict
-  -- it is the head and then the bindings
+  -- what is written is the head and then the bindings
   pub pieces : HasPieces
   -- the length of an encoding, and of its elements
   pub sizes : MessageSizes

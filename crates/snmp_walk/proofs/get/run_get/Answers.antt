@@ -12,7 +12,8 @@ returns-then-is_empty g c =
 pub returns-in_default : goal.returns-in_default
 returns-in_default g c =
     record {
-      ran = got_too_long g.L.Link c.args.link.now (c.args.retries + 1) c.args.community.now c.args.id c.args.names.now g.S.Sink.takes c.args.sink.now c.codec.ensures
+      ran = got_too_long g.L.Link c.args.link.now (c.args.retries + 1) c.args.community.now c.args.id c.args.names.now g.S.Sink.takes c.args.sink.now
+          c.codec.ensures
           (g.met.L.Link.lawful c.args.link.now) (omega arith) (some_names c.args.names.now c.is_empty.result c.is_empty.ensures c.if-is_empty.false)
           c.in_default.ensures.none;
     }

@@ -24,8 +24,10 @@ is_request c = grind (arith, common_steps, to_z, to_z_pos, of_z, to_z-of_z)
 named : (c : After-repetitions) → c.name-name.result ≡ c.args.self.now.asked
 named c = c.name-name.ensures ∙ ap (λ (w : Walker). w.asked) c.self.view_is
 
-whole : (c : After-repetitions) → length (canon_head (bare c) c.asking_size-total.result) + c.asking_size-total.result ≡ length (canon (request_of c.args.self.now))
-whole c = request_size c.pieces.ensures c.args.self.now (bare c) (is_request c) c.name-name.result (named c) c.asking_size-total.result c.asking_size-total.ensures
+whole : (c : After-repetitions) → length (canon_head (bare c) c.asking_size-total.result) + c.asking_size-total.result
+    ≡ length (canon (request_of c.args.self.now))
+whole c = request_size c.pieces.ensures c.args.self.now (bare c) (is_request c) c.name-name.result
+    (named c) c.asking_size-total.result c.asking_size-total.ensures
 
 fits : (c : After-repetitions) → length (canon (request_of c.args.self.now)) ≤ 1000
 fits c = grind (arith, common_steps, request_short)
