@@ -49,9 +49,9 @@ abbrev pub replies_by : Happening (Unit {0}) → List (List ℕ)
 replies_by (at_agents (sent peer d)) = d ∷ []
 replies_by _ = []
 
--- A receive uses the next delivery, and `left` are those after it. It returns the datagram with
--- that number whole, or nothing if there is none, or fails. The agent's receive fails only if the
--- datagram is longer than any over UDP. A send uses no delivery.
+-- A receive uses the next delivery if it is for its end, and leaves the deliveries `left`. It
+-- returns the datagram with that number whole, or nothing if there is none, or fails. The agent's
+-- receive fails only if the datagram is longer than any over UDP. A send uses no delivery.
 abbrev pub Uses : MemoryNetwork → Happening (Unit {0}) → (left : List Delivery) → Type 0
 Uses old (at_walk (came peer d)) left =
     (number : ℕ) × IsNextReply old.answer (ahead_of old) (Some number) left

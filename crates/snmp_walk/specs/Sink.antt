@@ -18,7 +18,7 @@ abbrev pub Refused : {S : Type 0} → (S → VarBind → Result (Unit {0}) SinkF
 Refused {S} takes old refused fault new = (p : VarBind) × (refused ≡ p ∷ [])
     × takes old p (Err fault) new
 
--- the sink took `rows`; if the walk ended because of it, it then refused the one binding in
+-- the sink took `rows`; if the run ended because of it, it then refused the one binding in
 -- `refused`, which is otherwise empty
 abbrev pub Took : {S : Type 0} → (S → VarBind → Result (Unit {0}) SinkFault → S → Type 0) → S
     → (rows refused : List VarBind) → WalkEnd → S → Type 0

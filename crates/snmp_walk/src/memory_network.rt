@@ -71,7 +71,7 @@ impl<'a> MemoryNetwork<'a> {
     }
 
     /// Returns the number of the datagram that the agent's next receive returns, or 0 if it
-    /// returns nothing, and uses that delivery.
+    /// returns nothing. Uses the next delivery if it is for the agent.
     fn next_request(&mut self) -> usize
         ensures used { IsNextRequest self.old.requests.datagrams (ahead_of self.old) result
             (ahead_of self.new) }
@@ -91,7 +91,7 @@ impl<'a> MemoryNetwork<'a> {
     }
 
     /// Returns the number of the datagram that the walk's next receive returns, or 0 if it returns
-    /// nothing, and uses that delivery. Returns `None` if the receive fails.
+    /// nothing. Returns `None` if the receive fails. Uses the next delivery if it is for the walk.
     fn next_reply(&mut self) -> Option<usize>
         ensures used { IsNextReply self.old.answer (ahead_of self.old) result (ahead_of self.new) }
         ensures requests { self.new.requests ≡ self.old.requests }
