@@ -58,7 +58,7 @@ pub by_equal : (R : ℕ → ℕ → Type 0) (s t o p : ℕ) → s ≡ t → o �
 by_equal R s t o p e f h = subst (λ (x : ℕ). R x p) e (subst (R s) f h)
 
 module _ {W : Type 0} (facts : LinkFacts W) where
-  -- no call leaves the link unchanged
+  -- a link over which nothing is called stays as it is
   pub moves_none : (link : W) → IsMoved facts link [] 0 ⊥ link
   moves_none link = grind (arith, common_steps, sent_nothing, by_equal)
 
@@ -157,7 +157,7 @@ module _ {L : Type 0} (facts : LinkFacts L) (Other : List ℕ → Type 0) (q : L
       → (facts.traffic new).sent ≡ (facts.traffic old).sent ++ q ∷ []
   sent_try what old new strays t keeps = grind (arith, common_steps, sent_none, moves_on, moved_bringing, moved_ending, sent_all)
 
-  -- the tries of a request change the link so
+  -- the tries of a request move the link (`IsMovedByTries`)
   pub moved_of : (tries : ℕ) → 0 < tries → (what : Outcome) (old new : L) → AreTried facts Other q tries old what new
       → IsMovedByTries facts old q tries (what ≡ outcome.cut_off) new
   moved_of tries some outcome.missed old new h = (

@@ -28,7 +28,8 @@ abbrev pub received : Option ℕ → List ℕ → Option (List ℕ)
 received None buffer = None
 received (Some n) buffer = Some (take n buffer)
 
--- what the agents return for a datagram: a reply to it, or nothing if one of them has none
+-- what the agents return for a datagram, if there is one: a reply to it, or nothing if one of them
+-- has none
 abbrev pub Gives : Agents → Option (List ℕ) → Option (List ℕ) → Type 0
 Gives agents None reply = reply ≡ None
 Gives agents (Some datagram) None = IsUnanswered agents datagram

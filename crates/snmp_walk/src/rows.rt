@@ -6,7 +6,7 @@ use crate::WalkEnd;
 use snmp_wire::{Binding, Bindings};
 use std::marker::Model;
 
-/// The bindings of a reply that a walk or a Get passes on, in order: a prefix of its bindings.
+/// The bindings of a reply that a walk or a Get passes on, in order: a prefix of the reply.
 #[derive(Drop)]
 pub struct Rows<'a> {
     bindings: Bindings<'a>,
