@@ -14,7 +14,7 @@ pub trait Sink {
     /// `binding` and leave the sink in state `new`.
     ghost takes: { Self → VarBind → Result (Unit {0}) SinkFault → Self → Type 0 };
 
-    /// Takes `binding`. An error refuses it and ends the walk or the Get.
+    /// Takes `binding`, or refuses it by an error, which ends the walk or the Get.
     fn row(&mut self, binding: &Binding<'_>) -> Result<(), SinkFault>
         ensures { takes self.old (var_bind binding.now) result self.new };
 

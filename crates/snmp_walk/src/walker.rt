@@ -229,8 +229,8 @@ impl WalkCore {
         }
     }
 
-    /// Reads a received datagram. Returns `Stray` and changes nothing if it isn't the reply to the
-    /// waiting request. After the end of the walk, no datagram is.
+    /// Reads a received datagram and returns what it means to the walk. Returns `Stray` and changes
+    /// nothing if it isn't the reply to the waiting request. After the end of the walk, none is.
     pub fn take<'a>(&mut self, datagram: &'a [u8]) -> Step<'a>
         ensures { MeansBy self.old datagram.now result self.new }
     {
