@@ -179,11 +179,12 @@ fn append_look_ups(tree: &Tree, id: NodeId, room: &mut Room<'_>) {
         }
     }
     append_node(tree, tree.find_any(node.label), room);
-    let (deepest, _rest) = tree.deepest(node.oid);
+    let oid = node.oid.to_oid();
+    let (deepest, _rest) = tree.deepest(&oid);
     append_node(tree, deepest, room);
-    let mut children = tree.children(node.oid);
+    let mut children = tree.children(&oid);
     if let Some(child) = children.next() {
-        append_child(tree, node.oid, child, room);
+        append_child(tree, &oid, child, room);
     }
     if tree.syntax_of(id).is_some() {
         room.append_line(b"with a syntax");
@@ -197,7 +198,7 @@ fn append_look_ups(tree: &Tree, id: NodeId, room: &mut Room<'_>) {
 fn append_node(tree: &Tree, found: Option<NodeId>, room: &mut Room<'_>) {
     if let Some(id) = found {
         if id < tree.len() {
-            room.append_name(tree.node(id).oid);
+            room.append_name(&tree.node(id).oid.to_oid());
         }
     }
 }

@@ -40,7 +40,7 @@ pub fn modules(alloc: Global, text: &[u8], room: &mut Room<'_>) -> Result<(), Fa
 pub fn tree(alloc: Global, text: &[u8], room: &mut Room<'_>) -> Result<(), Fault> {
     let tree = tree_of(alloc, text)?;
     'nodes: for id in 0..tree.len() {
-        room.append_name(tree.node(id).oid);
+        room.append_name(&tree.node(id).oid.to_oid());
     }
     Ok(())
 }

@@ -90,5 +90,5 @@ fn find<'t>(tree: &'t Tree, name: &Oid, near: &mut Near, found: &mut Found<'t>)
 fn is_known(found: &Found<'_>, name: &Oid) -> bool
     ensures { IsTrue result ↔ MatchOption found.now.below ⊥ (λ root. IsBelow name.now root.now) }
 {
-    matches!(found.below, Some(root) if name.is_below(root))
+    matches!(found.below, Some(root) if name.is_below_numbers(root.as_slice()))
 }

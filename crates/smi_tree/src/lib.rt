@@ -14,7 +14,7 @@
 //! let (tree, warnings) = Tree::load(alloc, modules)?;
 //! assert!(rt; warnings.len() == 1);
 //! let node = tree.find(b"A-MIB", b"a").expect(rt, "a node");
-//! assert!(rt; *tree.node(node).oid == parse_numeric(b"1.5")?);
+//! assert!(rt; tree.node(node).oid.to_oid() == parse_numeric(b"1.5")?);
 //! assert!(rt; tree.find_any(b"b").is_none());
 //! ```
 #![tactic(auto)]

@@ -7,7 +7,7 @@ use crate::columns::IndexPart;
 use smi_names::root_arc;
 use smi_text::Module;
 use smi_value::ValueSyntax;
-use snmp_oid::Oid;
+use snmp_oid::StoredOid;
 
 /// Where a tree begins its next search: at the node that it found last. No result depends on it.
 #[derive(Clone, Copy, Debug)]
@@ -32,7 +32,7 @@ pub struct Found<'a> {
     pub syntax: Option<ValueSyntax<'a>>,
     /// An identifier such that all identifiers below it have this node and this syntax, if the tree
     /// knows one.
-    pub below: Option<&'a Oid>,
+    pub below: Option<&'a StoredOid>,
 }
 
 /// A node that stands for the beginning of an identifier.

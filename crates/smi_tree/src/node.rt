@@ -6,7 +6,7 @@ ghost use Rattle.smi_names.specs.chains.Order.{at_place};
 
 use smi_names::{Source, root_label};
 use smi_text::{Def, Module};
-use snmp_oid::Oid;
+use snmp_oid::StoredOid;
 
 /// A node of a tree: a definition with an identifier, or a root.
 #[derive(Clone, Copy, Debug)]
@@ -16,7 +16,7 @@ pub struct Node<'a> {
     /// Its label.
     pub label: &'a [u8],
     /// Its identifier.
-    pub oid: &'a Oid,
+    pub oid: &'a StoredOid,
     /// Its definition, None for a root.
     pub definition: Option<&'a Def>,
 }

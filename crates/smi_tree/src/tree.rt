@@ -31,7 +31,7 @@ use loaded::resolve;
 use smi_names::{NameHash, Source, Warning, one_identifier};
 use smi_text::{Def, Module, Text};
 use smi_value::ValueSyntax;
-use snmp_oid::Oid;
+use snmp_oid::{Oid, StoredOid};
 use std::alloc::{AllocError, Global};
 use std::marker::Model;
 
@@ -239,7 +239,7 @@ impl Tree {
 impl Tree {
     /// The identifier of a module's node of this label.
     #[tactic(auto, unfolding(crate::specs::Naming::oid_in_module))]
-    pub fn in_module(&self, home: &[u8], label: &[u8]) -> Option<&Oid>
+    pub fn in_module(&self, home: &[u8], label: &[u8]) -> Option<&StoredOid>
         ensures { option_copied result ≡ oid_in_module self.now home.now label.now }
     {
         self.found(self.find(home, label))
@@ -247,7 +247,7 @@ impl Tree {
 
     /// The identifier of the first node of this label, the roots before all others.
     #[tactic(auto, unfolding(crate::specs::Naming::oid_anywhere))]
-    pub fn anywhere(&self, label: &[u8]) -> Option<&Oid>
+    pub fn anywhere(&self, label: &[u8]) -> Option<&StoredOid>
         ensures { option_copied result ≡ oid_anywhere self.now label.now }
     {
         self.found(self.find_any(label))
@@ -255,7 +255,7 @@ impl Tree {
 
     /// The identifier of the root of this label.
     #[tactic(auto, using(crate::proofs::Sounding::roots_first), unfolding(crate::specs::Naming::oid_of_root))]
-    pub fn among_roots(&self, label: &[u8]) -> Option<&Oid>
+    pub fn among_roots(&self, label: &[u8]) -> Option<&StoredOid>
         ensures { option_copied result ≡ oid_of_root label.now }
     {
         self.is_tree();
@@ -264,7 +264,7 @@ impl Tree {
 
     /// The identifier of the child of `oid` with this label, which is one number longer.
     #[tactic(auto, using(crate::proofs::Childhood::child_is), unfolding(crate::specs::Naming::oid_of_child))]
-    pub fn child_oid(&self, oid: &Oid, label: &[u8]) -> Option<&Oid>
+    pub fn child_oid(&self, oid: &Oid, label: &[u8]) -> Option<&StoredOid>
         ensures { option_copied result ≡ oid_of_child self.now oid.now label.now }
     {
         self.found(self.child(oid, label))
@@ -372,7 +372,7 @@ impl Tree {
     }
 
     /// The identifier of a node that was found.
-    fn found(&self, place: Option<NodeId>) -> Option<&Oid>
+    fn found(&self, place: Option<NodeId>) -> Option<&StoredOid>
         ensures { option_copied result ≡ oid_of self.now.nodes place }
     {
         let node = self.node_at(place?)?;
@@ -423,7 +423,7 @@ impl Tree {
 
     /// The identifier of a node, if no node is below it. `near` is what `deepest_near` left when it
     /// found the node.
-    fn last_on_way(&self, id: NodeId, near: &Near) -> Option<&Oid>
+    fn last_on_way(&self, id: NodeId, near: &Near) -> Option<&StoredOid>
         ensures at { IfSome result (λ o. o.now ≡ oid_at (oids_of self.now.nodes) id) }
         ensures last { IfSome result (λ o. HasNoneBelow (oids_of self.now.nodes) o.now) }
     {

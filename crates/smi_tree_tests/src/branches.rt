@@ -2,7 +2,7 @@
 
 use crate::reading::oid;
 use smi_tree::{Deepest, Identifiers};
-use snmp_oid::Oid;
+use snmp_oid::{Oid, StoredOid};
 use std::alloc::Global;
 use std::process::Abort;
 use std::test::Fail;
@@ -24,13 +24,13 @@ static OIDS: [&str; 10] = [
 /// The identifiers, in a box, whose `drop` is proved once.
 fn identifiers(alloc: Global) -> Result<Box<Identifiers>, Fail> {
     let mut oids = Vec::new(alloc);
-    push_oids(&mut oids)?;
+    push_oids(alloc, &mut oids)?;
     Ok(Box::new(alloc, Identifiers::new(alloc, oids)?)?)
 }
 
-fn push_oids(oids: &mut Vec<Oid>) -> Result<(), Fail> {
+fn push_oids(alloc: Global, oids: &mut Vec<StoredOid>) -> Result<(), Fail> {
     for text in &OIDS {
-        oids.push(oid(text)?)?;
+        oids.push(StoredOid::join(alloc, oid(text)?.as_slice(), &[])?)?;
     }
     Ok(())
 }

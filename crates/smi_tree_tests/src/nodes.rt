@@ -59,5 +59,6 @@ fn is_node(gathered: &Gathered, k: usize, place: Option<(usize, usize)>, oid: &O
         Some(Source::Definition(i, d)) => Some((*i, *d)),
         _ => None,
     };
-    found == place && gathered.oids.get(k) == Some(oid)
+    found == place
+        && matches!(gathered.oids.get(k), Some(found) if found.as_slice() == oid.as_slice())
 }

@@ -69,7 +69,7 @@ pub(crate) fn comes_to(resolution: Option<&Resolution>, expected: &str) -> bool 
         Some(Resolution::Unresolved) => expected == "unresolved",
         Some(Resolution::TooLong) => expected == "too long",
         Some(Resolution::Numbers(found)) => match parse_numeric(expected.as_bytes()) {
-            Ok(wanted) => *found == wanted,
+            Ok(wanted) => found.as_slice() == wanted.as_slice(),
             Err(_) => false,
         },
     }

@@ -144,7 +144,7 @@ fn find_any(tree: &Tree, label: &[u8]) -> Option<NodeId> {
 /// Whether a label in a module has this identifier.
 fn is_found(tree: &Tree, home: &str, label: &str, wanted: &str) -> Result<bool, Fail> {
     Ok(match find(tree, home.as_bytes(), label.as_bytes()) {
-        Some(id) => id < tree.len() && tree.node(id).oid == &oid(wanted)?,
+        Some(id) => id < tree.len() && tree.node(id).oid.as_slice() == oid(wanted)?.as_slice(),
         None => false,
     })
 }

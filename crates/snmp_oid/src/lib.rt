@@ -20,12 +20,14 @@
 
 mod numeric;
 mod oid;
+mod stored;
 
 pub use numeric::{
     LONGEST_TEXT, OidTextError, front_number, parse_number, parse_numeric, read_numeric,
     write_numeric,
 };
 pub use oid::{MAX_LEN, Oid, OidError, compare_numbers};
+pub use stored::StoredOid;
 
 // Laws: for proofs, and for readers.
 pub use numeric::names;

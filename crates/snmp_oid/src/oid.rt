@@ -180,12 +180,17 @@ impl Oid {
     }
 
     /// Returns whether the identifier begins with `root` and is longer.
-    #[tactic(auto, using(std::proofs::lemmas::Grind::common_steps, crate::proofs::IdentifierLemmas::fronts))]
     pub fn is_below(&self, root: &Oid) -> bool
         ensures { IsTrue result ↔ IsBelow self.now root.now }
     {
-        let front = root.as_slice();
-        self.len() > front.len() && compare_numbers(&self.as_slice()[..front.len()], front).is_eq()
+        self.is_below_numbers(root.as_slice())
+    }
+
+    /// Returns whether the identifier begins with these numbers and is longer.
+    pub fn is_below_numbers(&self, root: &[u32]) -> bool
+        ensures { IsTrue result ↔ IsBelow self.now root.now }
+    {
+        are_below(self.as_slice(), root)
     }
 
     /// Returns whether the identifier has an encoding (X.690, 8.19.4): at least two numbers, the
@@ -228,6 +233,14 @@ impl Oid {
             Err(_) => unreachable!(),
         }
     }
+}
+
+/// Returns whether `numbers` begin with `root` and are more.
+#[tactic(auto, using(std::proofs::lemmas::Grind::common_steps, crate::proofs::IdentifierLemmas::fronts))]
+pub(crate) fn are_below(numbers: &[u32], root: &[u32]) -> bool
+    ensures { IsTrue result ↔ IsBelow numbers.now root.now }
+{
+    numbers.len() > root.len() && compare_numbers(&numbers[..root.len()], root).is_eq()
 }
 
 /// `<`, `==` and `cmp` of identifiers follow the standard's order: a proper prefix comes first,

@@ -5,14 +5,14 @@ ghost use Rattle.std.specs.List.{slice_get};
 ghost use Rattle.smi_names.specs.chains.Resolution.{lengthened, followed_by, far_at, resolution_at};
 ghost use Rattle.smi_names.specs.chains.Resolution.{shared, AreWithin, HasReasons, GrowsTo};
 
-use snmp_oid::{MAX_LEN, Oid};
+use snmp_oid::{MAX_LEN, StoredOid};
 use std::alloc::{AllocError, Global};
 
 /// What a name resolves to: its identifier, or the reason why it has none.
 #[derive(Debug, Drop)]
 pub enum Resolution {
     /// Its identifier, of at most 128 numbers.
-    Numbers(Oid),
+    Numbers(StoredOid),
     /// Its chain has no end.
     Cycle,
     /// Its chain ends at a name without a meaning.
@@ -30,8 +30,8 @@ pub(crate) const CYCLE: usize = 1;
 /// The place of `TooLong` in the list.
 const TOO_LONG: usize = 2;
 
-/// What the names at places resolve to. A resolution takes some 500 octets, so each stands once: an
-/// import has that of its definition, and all names without an identifier share three.
+/// What the names at places resolve to. Each resolution is stored once: an import has that of its
+/// definition, and all names without an identifier share three.
 #[derive(Drop)]
 pub(crate) struct Shared {
     /// The resolutions.
@@ -68,6 +68,7 @@ pub(crate) fn reasons(alloc: Global, more: usize) -> Result<Vec<Resolution>, All
 /// place to which it leads and then these; that of `Unresolved` if it leads to none. `places` has
 /// those of the names before it.
 pub(crate) fn led(
+    alloc: Global,
     list: &mut Vec<Resolution>,
     places: &[usize],
     to: Option<usize>,
@@ -82,14 +83,19 @@ pub(crate) fn led(
         return Ok(UNRESOLVED);
     };
     match places.get(place) {
-        Some(at) => followed(list, *at, numbers),
+        Some(at) => followed(alloc, list, *at, numbers),
         None => Ok(UNRESOLVED),
     }
 }
 
 /// The place in the list of what a name resolves to, if its numbers are those of the resolution at
 /// `at` and then these.
-fn followed(list: &mut Vec<Resolution>, at: usize, numbers: &[u32]) -> Result<usize, AllocError>
+fn followed(
+    alloc: Global,
+    list: &mut Vec<Resolution>,
+    at: usize,
+    numbers: &[u32],
+) -> Result<usize, AllocError>
     requires reasons { HasReasons list.old.items }
     requires inside { at < length list.old.items }
     ensures grown { IfOk result (λ to. GrowsTo list.old.items list.new.items to
@@ -98,31 +104,42 @@ fn followed(list: &mut Vec<Resolution>, at: usize, numbers: &[u32]) -> Result<us
     let Resolution::Numbers(oid) = &list[at] else {
         return Ok(at);
     };
+    let prefix = oid.as_slice();
     // An import has the identifier of what it imports.
-    if numbers.is_empty() && oid.len() <= MAX_LEN {
+    if numbers.is_empty() {
         return Ok(at);
     }
-    let longer = oid.copy();
-    appended(list, longer, numbers)
+    if numbers.len() > MAX_LEN - prefix.len() {
+        return Ok(TOO_LONG);
+    }
+    let longer = StoredOid::join(alloc, prefix, numbers)?;
+    push(list, longer)
 }
 
-/// Appends an identifier, with these numbers after it, to the list, and returns its place; that of
-/// `TooLong` where it would be too long.
+/// Appends the identifier of these numbers to the list, and returns its place; that of `TooLong`
+/// where it would be too long.
 pub(crate) fn appended(
+    alloc: Global,
     list: &mut Vec<Resolution>,
-    oid: Oid,
     numbers: &[u32],
 ) -> Result<usize, AllocError>
     requires reasons { HasReasons list.old.items }
     ensures grown { IfOk result (λ to. GrowsTo list.old.items list.new.items to
-        (lengthened oid numbers.now)) }
+        (lengthened [] numbers.now)) }
 {
-    let mut longer = oid;
-    if longer.extend_from_slice(numbers).is_err() {
+    if numbers.len() > MAX_LEN {
         return Ok(TOO_LONG);
     }
+    let oid = StoredOid::join(alloc, numbers, &[])?;
+    push(list, oid)
+}
+
+/// Appends an identifier to the list, and returns its place.
+fn push(list: &mut Vec<Resolution>, oid: StoredOid) -> Result<usize, AllocError>
+    ensures grown { IfOk result (λ to. GrowsTo list.old.items list.new.items to
+        (Resolution.Numbers oid)) }
+{
     let at = list.len();
-    list.reserve(1)?;
-    list.push_reserved(Resolution::Numbers(longer));
+    list.push(Resolution::Numbers(oid))?;
     Ok(at)
 }

@@ -15,7 +15,6 @@ use crate::meaning::directory::Directory;
 use crate::meaning::entry::{Decider, Entry};
 use crate::meaning::parents::by_parts;
 use smi_text::Module;
-use snmp_oid::Oid;
 use std::alloc::{AllocError, Global};
 use std::marker::Model;
 
@@ -178,8 +177,8 @@ impl<'s, 'a> Entries<'s, 'a> {
                 Some(parts) => by_parts(alloc, list, places, to, parts.as_slice()),
                 None => Ok(UNRESOLVED),
             },
-            Decider::Import(_) => led(list, places, to, &[]),
-            Decider::Root(number) => appended(list, Oid::new(), &[number]),
+            Decider::Import(_) => led(alloc, list, places, to, &[]),
+            Decider::Root(number) => appended(alloc, list, &[number]),
         }
     }
 }

@@ -8,7 +8,6 @@ ghost use Rattle.smi_names.specs.meaning.Meaning.{arcs as arcs_of, origin_of_par
 use crate::chains::{Resolution, UNRESOLVED, appended, led};
 use crate::meaning::along::Leads;
 use smi_text::{Def, Name, Part};
-use snmp_oid::Oid;
 use std::alloc::{AllocError, Global};
 
 /// Definitions lead to the names with which their identifier values begin, if each part after it
@@ -68,15 +67,15 @@ pub(crate) fn by_parts(
     match parts {
         [] => Ok(UNRESOLVED),
         [Part::Name(_), part] => match part.number() {
-            Some(number) => led(list, places, to, &[number]),
+            Some(number) => led(alloc, list, places, to, &[number]),
             None => Ok(UNRESOLVED),
         },
         [Part::Name(_), rest @ ..] => match arcs(alloc, rest)? {
-            Some(numbers) => led(list, places, to, &numbers),
+            Some(numbers) => led(alloc, list, places, to, &numbers),
             None => Ok(UNRESOLVED),
         },
         _ => match arcs(alloc, parts)? {
-            Some(numbers) => appended(list, Oid::new(), &numbers),
+            Some(numbers) => appended(alloc, list, &numbers),
             None => Ok(UNRESOLVED),
         },
     }

@@ -11,7 +11,7 @@ use crate::meaning::Names;
 use crate::nodes::imports::add_import_warnings;
 use crate::nodes::warning::Warning;
 use smi_text::{Def, Module, Text};
-use snmp_oid::Oid;
+use snmp_oid::StoredOid;
 use std::alloc::{AllocError, Global};
 
 /// Where a node comes from.
@@ -29,27 +29,9 @@ pub struct Gathered {
     /// Where each node comes from, in order of loading: the roots first.
     pub sources: Vec<Source>,
     /// The identifier of each node.
-    pub oids: Vec<Oid>,
+    pub oids: Vec<StoredOid>,
     /// The warnings, in order of loading.
     pub warnings: Vec<Warning>,
-}
-
-/// The identifier of one number.
-fn single(number: u32) -> Oid
-    ensures { result ≡ number ∷ [] }
-{
-    let mut oid = Oid::new();
-    oid.push_with_room(number);
-    oid
-}
-
-/// Appends a copy of an identifier, which is moved once: an identifier takes some 500 octets.
-fn push_copy(oids: &mut Vec<Oid>, oid: &Oid) -> Result<(), AllocError>
-    ensures pushed { OnOk result (oids.new.items ≡ oids.old.items ++ oid.now ∷ []) }
-{
-    oids.reserve(1)?;
-    oids.push_reserved(oid.copy());
-    Ok(())
 }
 
 /// Whether one of the modules before this place has the name of a module.
@@ -78,7 +60,8 @@ impl Gathered {
     {
         if let Resolution::Numbers(oid) = resolution {
             self.sources.push(source)?;
-            return push_copy(&mut self.oids, oid);
+            self.oids.push(oid.copy(alloc)?)?;
+            return Ok(());
         }
         let home = Text::copied(alloc, module.name.as_bytes())?;
         let label = Text::copied(alloc, def.label.as_bytes())?;
@@ -190,31 +173,20 @@ impl Gathered {
     {
         let mut sources = Vec::with_capacity(alloc, room)?;
         let mut oids = Vec::with_capacity(alloc, room)?;
+        let ccitt = StoredOid::join(alloc, &[0], &[])?;
+        let iso = StoredOid::join(alloc, &[1], &[])?;
+        let joint = StoredOid::join(alloc, &[2], &[])?;
         sources.push(Source::Root(0))?;
-        oids.push(single(0))?;
+        oids.push(ccitt)?;
         sources.push(Source::Root(1))?;
-        oids.push(single(1))?;
+        oids.push(iso)?;
         sources.push(Source::Root(2))?;
-        oids.push(single(2))?;
+        oids.push(joint)?;
         Ok(Gathered {
             sources,
             oids,
             warnings: Vec::new(alloc),
         })
-    }
-
-    /// Gives back the unused room where the nodes take less than half of it. There was room for
-    /// each identifier that is kept, and some give no node: the roots as each module names them,
-    /// and the definitions of a module whose name an earlier one has.
-    fn trim(&mut self)
-        ensures sources { self.new.sources.items ≡ self.old.sources.items }
-        ensures oids { self.new.oids.items ≡ self.old.oids.items }
-        ensures warnings { self.new.warnings ≡ self.old.warnings }
-    {
-        if self.oids.capacity() / 2 > self.oids.len() {
-            self.sources.shrink_to_fit();
-            self.oids.shrink_to_fit();
-        }
     }
 }
 
@@ -234,6 +206,5 @@ pub fn gather_nodes<'a>(
     'modules: for (i, module) in modules.iter().enumerate() {
         gathered.add_module(alloc, names, module, i)?;
     }
-    gathered.trim();
     Ok(gathered)
 }

@@ -19,7 +19,7 @@ use crate::name::part::{Part, read_part};
 use crate::name::piece::{push_number, push_piece};
 use smi_tree::Tree;
 use snmp_io::unquoted_front;
-use snmp_oid::{Oid, front_number, names, read_numeric};
+use snmp_oid::{Oid, StoredOid, front_number, names, read_numeric};
 
 /// The identifier that a name means, or the first fault from the left. Does not allocate.
 ///
@@ -236,7 +236,7 @@ fn head_meaning(tree: &Tree, scope: Scope<'_>, part: &[u8], oid: &mut Oid) -> Re
 }
 
 /// The identifier of the node of a label in a scope.
-fn labelled<'t>(tree: &'t Tree, scope: Scope<'_>, label: &[u8]) -> Option<&'t Oid>
+fn labelled<'t>(tree: &'t Tree, scope: Scope<'_>, label: &[u8]) -> Option<&'t StoredOid>
     ensures { option_copied result
         ≡ found_in tree.now (scope_in scope.entry) label.now }
 {
@@ -259,9 +259,9 @@ fn part_meaning(tree: &Tree, part: &[u8], oid: &mut Oid) -> Result<(), NameError
 }
 
 /// Copies the identifier that was found.
-fn known(found: Option<&Oid>, oid: &mut Oid) -> Result<(), NameError>
+fn known(found: Option<&StoredOid>, oid: &mut Oid) -> Result<(), NameError>
     ensures { read_to result oid.new ≡ or_unknown (option_copied found.entry) }
 {
-    oid.set_to(found.ok_or(NameError::Unknown)?);
+    oid.set_to_numbers(found.ok_or(NameError::Unknown)?.as_slice());
     Ok(())
 }

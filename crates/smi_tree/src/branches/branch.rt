@@ -5,7 +5,7 @@ ghost use Rattle.std.specs.Prelude.{Some, None, option_copied};
 ghost use Rattle.smi_tree.specs.branches.Branches.{follower, GrowsBranch, AreBranchesOf, IsWay};
 ghost use Rattle.smi_tree.specs.branches.Standing.{oid_at};
 
-use snmp_oid::Oid;
+use snmp_oid::StoredOid;
 use std::alloc::{AllocError, Global};
 use std::collections::BTreeMap;
 
@@ -84,7 +84,7 @@ fn shared(a: &[u32], b: &[u32]) -> usize
 pub(crate) fn add(
     alloc: Global,
     branches: &mut Vec<Branch>,
-    oids: &[Oid],
+    oids: &[StoredOid],
     place: usize,
     last: &[u32],
     way: &mut Way,

@@ -10,7 +10,7 @@ ghost use Rattle.smi_tree.specs.branches.Branches.{standing_at, deeper_of};
 ghost use Rattle.smi_tree.specs.branches.Children.{places_left};
 
 use crate::branches::branch::{Branch, add, first, next};
-use snmp_oid::Oid;
+use snmp_oid::{Oid, StoredOid};
 use std::alloc::{AllocError, Global};
 use std::collections::BTreeMap;
 use std::collections::btree_map::Iter;
@@ -22,7 +22,7 @@ use std::marker::Model;
 /// Where an identifier stands at several places, the first stands for it.
 #[derive(Drop)]
 pub struct Identifiers {
-    oids: Vec<Oid>,
+    oids: Vec<StoredOid>,
     branches: Vec<Branch>,
     /// What follows a list of numbers with which no identifier begins: nothing.
     nothing: BTreeMap<u32, usize>,
@@ -53,7 +53,7 @@ pub struct Deepest {
 
 impl Identifiers {
     /// The list of these identifiers, ready to be searched.
-    pub fn new(alloc: Global, oids: Vec<Oid>) -> Result<Identifiers, AllocError>
+    pub fn new(alloc: Global, oids: Vec<StoredOid>) -> Result<Identifiers, AllocError>
         ensures { IfOk result (λ identifiers. identifiers ≡ oids.items) }
     {
         let mut branches = first(alloc)?;
@@ -78,7 +78,7 @@ impl Identifiers {
     }
 
     /// The identifier at a place, which is below `len()`.
-    pub fn get(&self, place: usize) -> &Oid
+    pub fn get(&self, place: usize) -> &StoredOid
         requires { place < length self.now }
         ensures { result.now ≡ oid_at self.now place }
     {
@@ -129,7 +129,7 @@ impl Identifiers {
 
     /// The identifier at a place, if no other in the list is below it. `near` is what
     /// `deepest_near` left when it found the place; with anything else the result is None.
-    pub fn last_on_way(&self, place: usize, near: usize) -> Option<&Oid>
+    pub fn last_on_way(&self, place: usize, near: usize) -> Option<&StoredOid>
         ensures at { IfSome result (λ o. o.now ≡ oid_at self.now place) }
         ensures last { IfSome result (λ o. HasNoneBelow self.now o.now) }
     {
@@ -187,25 +187,26 @@ fn deeper(branches: &[Branch], at: usize, depth: usize, deepest: Option<Deepest>
 }
 
 /// The place at a branch, if the identifier is below the one that stands there.
-fn known(oids: &[Oid], branches: &[Branch], oid: &Oid, at: usize) -> Option<Deepest>
+fn known(oids: &[StoredOid], branches: &[Branch], oid: &Oid, at: usize) -> Option<Deepest>
     requires { AreBranchesOf oids.now branches.now }
     ensures { IfSome result (λ d.
         IsUnderWay oids.now branches.now oid.now d.depth d.branch (Some d)) }
 {
     let place = standing(branches, at)?;
     let known = oids.get(place)?;
-    if !oid.is_below(known) {
+    let numbers = known.as_slice();
+    if !oid.is_below_numbers(numbers) {
         return None;
     }
     Some(Deepest {
         place,
-        depth: known.len(),
+        depth: numbers.len(),
         branch: at,
     })
 }
 
 /// The deepest place on the way to an identifier, from the first branch on.
-fn deepest_of_all(oids: &[Oid], branches: &[Branch], oid: &Oid) -> Option<Deepest>
+fn deepest_of_all(oids: &[StoredOid], branches: &[Branch], oid: &Oid) -> Option<Deepest>
     requires { AreBranchesOf oids.now branches.now }
     ensures { MatchOption result
         (HasNoBeginning oids.now oid.now)
@@ -217,7 +218,7 @@ fn deepest_of_all(oids: &[Oid], branches: &[Branch], oid: &Oid) -> Option<Deepes
 /// The deepest place on the way to an identifier, from a branch on, to which the first `depth`
 /// numbers lead. `before` is the deepest place up to there.
 fn deepest_from(
-    oids: &[Oid],
+    oids: &[StoredOid],
     branches: &[Branch],
     oid: &Oid,
     depth: usize,

@@ -6,8 +6,8 @@ use Rattle.smi_names.specs.declared.chains.shared.Resolution.TheVariants as R
 use Rattle.smi_names.proofs.Sharing.{followed_by_none}
 use Rattle.smi_names.proofs.chains.shared.followed.Goals as goal
 
-pub returns-then-len-le-MAX_LEN : goal.returns-then-len-le-MAX_LEN
-returns-then-len-le-MAX_LEN c =
+pub returns-then-is_empty : goal.returns-then-is_empty
+returns-then-is_empty c =
     let none : length c.args.numbers.now ≡ 0 = search rules in
     let is : c.index.result.now ≡ R.Numbers c.in-Numbers.oid = search rules in
     let at : get_or c.args.list.now.items c.args.at c.index.result.now ≡ c.index.result.now = search rules in
@@ -18,6 +18,6 @@ returns-then-len-le-MAX_LEN c =
         added = [];
         grown = sym (append-nil c.args.list.now.items);
         inside = c.requires.inside;
-        there = rw (nil_from_length c.args.numbers.now none, there) (sym (followed_by_none c.in-Numbers.oid c.len.ensures.at_most_128));
+        there = rw (nil_from_length c.args.numbers.now none, there) (sym (followed_by_none c.in-Numbers.oid c.as_slice-prefix.ensures.at_most_128));
       };
     }

@@ -1,0 +1,73 @@
+//! An object identifier on the heap, for lists of many.
+ghost use Rattle.std.specs.Prelude.{◌≡◌, ◌+◌, ◌≤◌, ◌++◌, ◌↔◌, length, IfOk, IsTrue};
+ghost use Rattle.snmp_oid.specs.Identifier.{IsBelow, IsIdentifier};
+
+use crate::Oid;
+use crate::oid::are_below;
+use std::alloc::{AllocError, Global};
+use std::marker::Model;
+
+/// An object identifier on the heap, which takes no more memory than its numbers need. An [`Oid`]
+/// takes the memory of 128 numbers.
+#[derive(Debug, Drop)]
+pub struct StoredOid {
+    numbers: Vec<u32>,
+}
+
+impl Model for StoredOid {
+    ghost use Rattle.std.specs.Prelude.{◌≤◌, ℕ, List, length};
+
+    ghost Value = { List ℕ };
+
+    ghost view = { λ o. o.numbers.items };
+
+    ghost invariant = { λ o. length o.numbers.items ≤ 128 };
+}
+
+impl StoredOid {
+    /// Stores the identifier of the numbers of `prefix` and then those of `suffix`, of which there
+    /// are at most 128 together.
+    pub fn join(alloc: Global, prefix: &[u32], suffix: &[u32]) -> Result<StoredOid, AllocError>
+        requires { length prefix.now + length suffix.now ≤ 128 }
+        ensures { IfOk result (λ o. o ≡ prefix.now ++ suffix.now) }
+    {
+        let mut numbers = Vec::with_capacity(alloc, prefix.len() + suffix.len())?;
+        numbers.extend_from_slice(prefix)?;
+        numbers.extend_from_slice(suffix)?;
+        Ok(StoredOid { numbers })
+    }
+
+    /// Stores a copy of the identifier.
+    pub fn copy(&self, alloc: Global) -> Result<StoredOid, AllocError>
+        ensures { IfOk result (λ o. o ≡ self.now) }
+    {
+        StoredOid::join(alloc, self.as_slice(), &[])
+    }
+
+    /// Returns the numbers, from the left.
+    #[inline]
+    pub fn as_slice(&self) -> &[u32]
+        ensures value { result.now ≡ self.now }
+        ensures at_most_128 { length self.now ≤ 128 }
+        ensures is_identifier { IsIdentifier self.now }
+    {
+        let numbers = self.numbers.as_slice();
+        numbers
+    }
+
+    /// Returns whether the identifier begins with `root` and is longer.
+    pub fn is_below(&self, root: &Oid) -> bool
+        ensures { IsTrue result ↔ IsBelow self.now root.now }
+    {
+        are_below(self.as_slice(), root.as_slice())
+    }
+
+    /// Returns the identifier, which takes no memory of its own.
+    pub fn to_oid(&self) -> Oid
+        ensures { result ≡ self.now }
+    {
+        let mut oid = Oid::new();
+        oid.set_to_numbers(self.as_slice());
+        oid
+    }
+}
