@@ -1,0 +1,2 @@
+mod DirectLemmas
+mod PolledLemmas

@@ -1,2 +1,5 @@
 pub mod Changes
+pub mod Direct
+pub mod Polled
+pub mod Rows
 pub mod Traps

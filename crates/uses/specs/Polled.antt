@@ -1,0 +1,52 @@
+-- What a poll of a subtree collects of a table.
+use Rattle.std.specs.Prelude.{◌≡◌, ℕ, List, [], ◌∷◌, ◌++◌, IfOk}
+use Rattle.snmp_oid.specs.Identifier.{IsBelow, Precedes}
+use Rattle.snmp_wire.specs.Message.{VarBind}
+use Rattle.snmp_agent.specs.table.Table.{MibView, IsMibView, IsRow}
+use Rattle.snmp_agent.specs.table.Listing.{variables}
+use Rattle.snmp_walk.specs.declared.end.WalkEnd.{WalkEnd}
+use Rattle.snmp_walk.specs.declared.link.Link.{Ghosts as LinkFacts}
+use Rattle.snmp_walk.specs.{Facts.IsDone, Link.OneOf, Ordered.AreOrdered, Ran.HasHappened}
+use Rattle.snmp_walk.specs.Walk.{rows_below}
+use Rattle.uses.specs.declared.subtrees.Subtree.{Subtree}
+
+-- The rows are the table's instances below the root, each once and in order: all of them if the poll
+-- is done, and otherwise the first of them.
+pub record IsPolled (view : MibView) (root : List ℕ) (end : WalkEnd) (rows : List VarBind)
+    : Type 0 where
+  -- each row is an instance of the table below the root,
+  pub instances : (p : VarBind) → OneOf rows p → IsRow view p × IsBelow p.name root
+  -- the names increase, so that each is there once,
+  pub ordered : AreOrdered rows
+  -- no instance is left out that comes before one of the rows,
+  pub none_skipped : (p q : VarBind) → OneOf rows q → IsRow view p → IsBelow p.name root
+      → Precedes p.name q.name → OneOf rows p
+  -- and at the end none is
+  pub all : IsDone end → (p : VarBind) → IsRow view p → IsBelow p.name root → OneOf rows p
+
+-- a beginning of the rows below the root is polled, if it is all of them at the end
+abbrev pub AreBeginningsPolled : Type 0
+AreBeginningsPolled = (view : MibView) (root : List ℕ) (end : WalkEnd) (rows more : List VarBind)
+    → IsMibView view → rows_below root (variables view) ≡ rows ++ more
+    → (IsDone end → rows ≡ rows_below root (variables view)) → IsPolled view root end rows
+
+-- A poll of this root took the link from one state to the other. If it began, what happened at the
+-- link has this consequence: where all that arrived are replies of the agent of one table, the rows
+-- are polled from that table.
+pub record IsPolledOver {W : Type 0} (facts : LinkFacts W) (old : W) (root : List ℕ)
+    (subtree : Subtree) (new : W) : Type 0 where
+  pub root_is : subtree.root ≡ root
+  pub rising : AreOrdered subtree.rows
+  pub happened : IfOk subtree.end (λ end. HasHappened facts old new end
+      (λ agents why. (view : MibView) → agents.tables ≡ view ∷ []
+      → IsPolled view root why subtree.rows))
+
+-- the subtrees were polled in turn, one for each root, each from the state in which the poll before
+-- it left the link
+abbrev pub ArePolledInTurn : {W : Type 0} → LinkFacts W → W → List (List ℕ) → List Subtree → W
+    → Type 0
+ArePolledInTurn {W} facts old [] [] new = new ≡ old
+ArePolledInTurn {W} facts old (root ∷ roots) (subtree ∷ subtrees) new = (between : W)
+    × IsPolledOver facts old root subtree between
+    × ArePolledInTurn facts between roots subtrees new
+ArePolledInTurn {W} facts old _ _ new = ⊥

@@ -1,0 +1,145 @@
+//! A link of one's own: an agent in the same program that is called at each receive.
+ghost use Rattle.std.specs.Prelude.{◌≡◌, [], IfOk, IsOk, ◌↔◌};
+ghost use Rattle.snmp_oid.specs.Identifier.{IsWire, wire};
+ghost use Rattle.snmp_walk.specs.Walker.{IsMethod};
+ghost use Rattle.uses.specs.Polled.{IsPolled};
+
+use crate::{Collected, poll};
+use snmp_agent::{Config, Outcome, Table, answer};
+use snmp_walk::{Link, LinkFault, Method, StartError, WalkEnd};
+use snmp_wire::{MAX_DATAGRAM, Oid};
+use std::alloc::Global;
+
+/// A link to the agent of a table. Each receive returns the agent's reply to the datagram that was
+/// sent last, and no other datagram is stored.
+#[derive(Drop)]
+pub struct Direct<'a> {
+    table: &'a Table,
+    config: Config<'a>,
+    /// The datagram that was sent last.
+    last: Vec<u8>,
+    /// Whether there is one.
+    is_sent: bool,
+    fault_count: u64,
+}
+
+impl<'a> Direct<'a> {
+    ghost use Rattle.std.specs.Prelude.{◌≡◌, ◌≤◌, IfSome, length, take};
+    ghost use Rattle.snmp_agent.specs.Reply.{IsReply, agent_of};
+    ghost use Rattle.uses.specs.Direct.{agent_at};
+
+    /// Returns a link over which nothing was sent.
+    pub fn new(alloc: Global, table: &'a Table, config: Config<'a>) -> Direct<'a>
+        ensures { agent_at result ≡ agent_of table.now config.entry }
+    {
+        Direct {
+            table,
+            config,
+            last: Vec::new(alloc),
+            is_sent: false,
+            fault_count: 0,
+        }
+    }
+
+    /// Writes the reply to the datagram sent last to the start of `out`, and returns its length, or
+    /// None if the agent doesn't reply.
+    fn reply_into(&self, out: &mut [u8; MAX_DATAGRAM]) -> Option<usize>
+        ensures length { IfSome result (λ n. n ≤ 65507) }
+        ensures room { length out.new ≡ 65507 }
+        ensures reply { IfSome result (λ n. IsReply (agent_at self.now) self.now.last.items
+            (take n out.new)) }
+    {
+        match answer(self.table, &self.config, self.last.as_slice(), out) {
+            Outcome::Reply(length) => Some(length),
+            Outcome::Dropped(_) => None,
+        }
+    }
+}
+
+impl<'a> Link for Direct<'a> {
+    ghost use Rattle.std.specs.Prelude.{[], ◌∷◌};
+    ghost use Rattle.snmp_walk.specs.Memory.{agents_over};
+    ghost use Rattle.uses.specs.Direct.{HasAsked, HasFailed, HasReplied, IsIdle};
+
+    // It doesn't store what was sent before, so it isn't honest in the sense of a link: what it
+    // promises are the four relations below.
+    ghost keeps = { λ _. ⊥ };
+
+    ghost honest = { λ _. ⊥ };
+
+    ghost agents = { λ link. agents_over (link.table.now ∷ []) link.config };
+
+    ghost traffic = { λ _. record { sent = []; ahead = [] } };
+
+    ghost fault_count = { λ link. link.fault_count };
+
+    ghost ready = { λ _ _ _. ⊥ };
+
+    ghost brings = { HasReplied };
+
+    ghost sends = { HasAsked };
+
+    ghost send_fails = { λ old _ new. HasFailed old new };
+
+    ghost is_silent = { IsIdle };
+
+    ghost receive_fails = { IsIdle };
+
+    ghost keeping = { λ _ h. h };
+
+    ghost lawful = { λ _ h. absurd h };
+
+    fn send(&mut self, datagram: &[u8]) -> Result<(), LinkFault> {
+        self.is_sent = false;
+        self.last.clear();
+        match self.last.extend_from_slice(datagram) {
+            Ok(()) => {
+                self.is_sent = true;
+                Ok(())
+            }
+            Err(_) => {
+                self.fault_count = self.fault_count.saturating_add(1);
+                Err(LinkFault)
+            }
+        }
+    }
+
+    fn receive(&mut self, buffer: &mut [u8]) -> Result<Option<usize>, LinkFault> {
+        let Some(out) = buffer.first_chunk_mut::<MAX_DATAGRAM>() else {
+            self.fault_count = self.fault_count.saturating_add(1);
+            return Err(LinkFault);
+        };
+        if !self.is_sent {
+            return Ok(None);
+        }
+        match self.reply_into(out) {
+            Some(length) => Ok(Some(length)),
+            None => Ok(None),
+        }
+    }
+
+    fn faults(&self) -> u64 {
+        self.fault_count
+    }
+}
+
+/// Collects the instances below `root` of the table at the other end of a `Direct`.
+///
+/// It may be called again and again over one link, always with ids from 1 on: a poll begins with a
+/// send, and then the agent replies only to what the poll sent. So the promise has no premise.
+pub fn poll_again(
+    link: &mut Direct<'_>,
+    root: Oid,
+    method: Method,
+    rows: &mut Collected,
+) -> Result<WalkEnd, StartError>
+    requires method { IsMethod method }
+    requires empty { rows.old ≡ [] }
+    ensures table { IfOk result (λ end. IsPolled link.old.table.now root end rows.new) }
+    ensures same_table { link.new.table.now ≡ link.old.table.now }
+    ensures variant { IsOk result ↔ IsWire (wire root) }
+{
+    link.table.is_mib_view();
+    let community = link.config.community;
+    poll(link, root, method, community, 0, 1, rows)
+}
