@@ -38,10 +38,10 @@ fn asks_after_changes(rt: HostRuntime) {
     let value = ValueRef::Integer(7);
     let sizes = put_and_remove(&mut table, &config, &name, value, &mut first, &mut second);
     let (one, two) = sizes.expect(&rt, "an instance");
-    let one = one.expect(&rt, "a reply");
-    let two = two.expect(&rt, "a reply");
-    let there = decode(&first[..one]).expect(&rt, "a message");
-    let gone = decode(&second[..two]).expect(&rt, "a message");
+    let one = first.get(..one.expect(&rt, "a reply"));
+    let two = second.get(..two.expect(&rt, "a reply"));
+    let there = decode(one.expect(&rt, "octets")).expect(&rt, "a message");
+    let gone = decode(two.expect(&rt, "octets")).expect(&rt, "a message");
     let there = there.bindings().next().expect(&rt, "a binding");
     let gone = gone.bindings().next().expect(&rt, "a binding");
     assert!(&rt; there.value == ValueRef::Integer(7));
