@@ -1,4 +1,4 @@
-//! Identifiers found number by number, where some stand at several places.
+//! Look-ups of identifiers, some of which occur more than once.
 
 use crate::reading::oid;
 use smi_tree::{Deepest, Identifiers};
@@ -7,7 +7,7 @@ use std::alloc::Global;
 use std::process::Abort;
 use std::test::Fail;
 
-/// `1.3.6` stands at two places, `1.3.6.1` at three.
+/// `1.3.6` occurs twice, `1.3.6.1` three times.
 static OIDS: [&str; 10] = [
     "1",
     "1.3.6",
@@ -21,7 +21,7 @@ static OIDS: [&str; 10] = [
     "2.5.1",
 ];
 
-/// The identifiers, in a box, whose `drop` is proved once.
+/// Returns the identifiers, in a box, whose `drop` is proved once.
 fn identifiers(alloc: Global) -> Result<Box<Identifiers>, Fail> {
     let mut oids = Vec::new(alloc);
     push_oids(alloc, &mut oids)?;
@@ -49,7 +49,7 @@ static FIRST: [(&str, Option<usize>); 10] = [
 ];
 
 #[test]
-fn the_first_place_is_found(rt: HostRuntime) -> Result<(), Fail> {
+fn the_first_index_is_found(rt: HostRuntime) -> Result<(), Fail> {
     let identifiers = identifiers(rt.alloc())?;
     assert_first(&rt, &identifiers)
 }
@@ -62,7 +62,7 @@ fn assert_first(rt: &impl Abort, identifiers: &Identifiers) -> Result<(), Fail> 
     Ok(())
 }
 
-/// The deepest place on the way to an identifier, and its depth.
+/// Identifiers, each with the index and the length of its longest known prefix.
 static DEEPEST: [(&str, Option<(usize, usize)>); 10] = [
     ("1", Some((0, 1))),
     ("1.3", Some((0, 1))),
@@ -77,7 +77,7 @@ static DEEPEST: [(&str, Option<(usize, usize)>); 10] = [
 ];
 
 #[test]
-fn the_longest_beginning_is_deepest(rt: HostRuntime) -> Result<(), Fail> {
+fn the_longest_prefix_is_deepest(rt: HostRuntime) -> Result<(), Fail> {
     let identifiers = identifiers(rt.alloc())?;
     assert_deepest(&rt, &identifiers)
 }
@@ -87,18 +87,19 @@ fn assert_deepest(rt: &impl Abort, identifiers: &Identifiers) -> Result<(), Fail
     for (text, expected) in &DEEPEST {
         let oid = oid(text)?;
         assert!(rt;
-            found(identifiers.deepest_near(&oid, &mut 0)) == *expected,
+            index_and_depth(identifiers.deepest_near(&oid, &mut 0)) == *expected,
             "{text}"
         );
         assert!(rt;
-            found(identifiers.deepest_near(&oid, &mut near)) == *expected,
+            index_and_depth(identifiers.deepest_near(&oid, &mut near)) == *expected,
             "{text}"
         );
     }
     Ok(())
 }
 
-fn found(deepest: Option<Deepest>) -> Option<(usize, usize)> {
+/// Returns the index and the depth of what was found.
+fn index_and_depth(deepest: Option<Deepest>) -> Option<(usize, usize)> {
     match deepest {
         Some(deepest) => Some((deepest.place, deepest.depth)),
         None => None,
@@ -128,22 +129,22 @@ fn assert_children(rt: &impl Abort, identifiers: &Identifiers) -> Result<(), Fai
     Ok(())
 }
 
-/// Whether the children of an identifier are at these places, in order.
+/// Returns whether the children of an identifier have these indices, in order.
 fn has_children(identifiers: &Identifiers, oid: &Oid, expected: &[usize]) -> bool {
-    let mut left = expected;
-    for place in identifiers.children(oid) {
-        match rest_after(left, place) {
-            Some(rest) => left = rest,
+    let mut remaining = expected;
+    for index in identifiers.children(oid) {
+        match rest_after(remaining, index) {
+            Some(rest) => remaining = rest,
             None => return false,
         }
     }
-    left.is_empty()
+    remaining.is_empty()
 }
 
-/// The other places, where the first is this one.
-fn rest_after(places: &[usize], place: usize) -> Option<&[usize]> {
-    match places {
-        [first, rest @ ..] if *first == place => Some(rest),
+/// Returns the other indices if the first one is `index`.
+fn rest_after(indices: &[usize], index: usize) -> Option<&[usize]> {
+    match indices {
+        [first, rest @ ..] if *first == index => Some(rest),
         _ => None,
     }
 }

@@ -1,6 +1,7 @@
-//! Chains of names: long ones in both directions, rings, and what leads into a ring or nowhere.
+//! Chains of names, each of which refers to the next: long ones in both directions, rings, and
+//! names that refer into a ring or to nothing.
 
-use crate::reading::{comes_to, modules_of, names_of};
+use crate::reading::{modules_of, names_of, resolves_to};
 use smi_names::{Names, ordered};
 use smi_text::Module;
 use std::alloc::Global;
@@ -9,38 +10,43 @@ use std::test::Fail;
 
 const MANY: usize = 40_000;
 
-/// What a name of a module is based on.
+/// What the identifier value of a name consists of.
 #[derive(Clone, Copy)]
 enum Basis<'a> {
-    /// Numbers alone.
+    /// Only numbers.
     Numbers(&'a [u32]),
-    /// These numbers after those of the name of a place.
+    /// The name with this index, and these numbers after it.
     After(usize, &'a [u32]),
-    /// A name without a meaning.
+    /// A name that isn't defined.
     Nowhere,
 }
 
-/// A place with the number 1 alone, and then places each of which leads to the one before it.
-fn falling(alloc: Global, count: usize, numbers: &[u32]) -> Result<Vec<Basis<'_>>, Fail> {
+/// Returns a name with the number 1 only, and then names each of which refers to the one before it.
+fn references_back(alloc: Global, count: usize, numbers: &[u32]) -> Result<Vec<Basis<'_>>, Fail> {
     let mut bases = Vec::new(alloc);
     bases.push(Basis::Numbers(&[1]))?;
-    for place in 1..count {
-        bases.push(Basis::After(place.saturating_sub(1), numbers))?;
+    for index in 1..count {
+        bases.push(Basis::After(index.saturating_sub(1), numbers))?;
     }
     Ok(bases)
 }
 
-/// Places each of which leads to the one after it, the last one to `end`.
-fn rising(alloc: Global, count: usize, end: usize) -> Result<Vec<Basis<'static>>, Fail> {
+/// Returns names each of which refers to the one after it, the last one to the name with index
+/// `end`.
+fn references_forward(
+    alloc: Global,
+    count: usize,
+    end: usize,
+) -> Result<Vec<Basis<'static>>, Fail> {
     let mut bases = Vec::new(alloc);
-    for place in 1..count {
-        bases.push(Basis::After(place, &[]))?;
+    for index in 1..count {
+        bases.push(Basis::After(index, &[]))?;
     }
     bases.push(Basis::After(end, &[]))?;
     Ok(bases)
 }
 
-/// How many names of a module with these bases resolve to this.
+/// Returns how many names of a module with these bases resolve to `expected`.
 fn count(alloc: Global, bases: &[Basis<'_>], expected: &str) -> Result<usize, Fail> {
     let mut text = String::new(alloc);
     push_module(&mut text, bases)?;
@@ -48,7 +54,7 @@ fn count(alloc: Global, bases: &[Basis<'_>], expected: &str) -> Result<usize, Fa
     count_in(alloc, &modules, expected)
 }
 
-/// How many definitions of modules resolve to this.
+/// Returns how many definitions of modules resolve to `expected`.
 fn count_in(alloc: Global, modules: &[Module], expected: &str) -> Result<usize, Fail> {
     let names = names_of(alloc, modules)?;
     Ok(count_among(&names, modules, expected))
@@ -62,23 +68,23 @@ fn count_among<'a>(names: &Names<'a>, modules: &'a [Module], expected: &str) -> 
     count
 }
 
-/// How many definitions of a module resolve to this.
+/// Returns how many definitions of a module resolve to `expected`.
 fn count_of<'a>(names: &Names<'a>, module: &'a Module, expected: &str) -> usize {
     let mut count: usize = 0;
     for def in module.defs.as_slice() {
         let found = names.resolution(module.name.as_bytes(), def.label.as_bytes());
-        if comes_to(found, expected) {
+        if resolves_to(found, expected) {
             count = count.saturating_add(1);
         }
     }
     count
 }
 
-/// Appends a module that has a name for each place, with its basis.
+/// Appends a module with a name for each basis.
 fn push_module(text: &mut String, bases: &[Basis<'_>]) -> Result<(), Fail> {
     text.push_str("M DEFINITIONS ::= BEGIN\n")?;
-    for (place, basis) in bases.iter().enumerate() {
-        write!(text, "p{place} OBJECT IDENTIFIER ::= {{")?;
+    for (index, basis) in bases.iter().enumerate() {
+        write!(text, "p{index} OBJECT IDENTIFIER ::= {{")?;
         push_basis(text, *basis)?;
         text.push_str(" }\n")?;
     }
@@ -86,12 +92,12 @@ fn push_module(text: &mut String, bases: &[Basis<'_>]) -> Result<(), Fail> {
     Ok(())
 }
 
-/// Appends the parts of an identifier value that has this basis.
+/// Appends the parts of an identifier value with this basis.
 fn push_basis(text: &mut String, basis: Basis<'_>) -> Result<(), Fail> {
     match basis {
         Basis::Numbers(numbers) => push_numbers(text, numbers),
-        Basis::After(place, numbers) => {
-            write!(text, " p{place}")?;
+        Basis::After(index, numbers) => {
+            write!(text, " p{index}")?;
             push_numbers(text, numbers)
         }
         Basis::Nowhere => {
@@ -108,7 +114,8 @@ fn push_numbers(text: &mut String, numbers: &[u32]) -> Result<(), Fail> {
     Ok(())
 }
 
-/// Checks how many names of a module with these bases resolve to each of these.
+/// Asserts of each row that its number of names, in a module with these bases, resolves to its
+/// identifier or reason.
 fn assert_counts(
     rt: &impl Abort,
     alloc: Global,
@@ -124,16 +131,27 @@ fn assert_counts(
 #[test]
 fn long_chains_end(rt: HostRuntime) -> Result<(), Fail> {
     let alloc = rt.alloc();
-    assert_counts(&rt, alloc, &falling(alloc, MANY, &[])?, &[("1", MANY)])?;
-    assert_counts(&rt, alloc, &rising_to_numbers(alloc)?, &[("1.3", MANY + 1)])?;
-    // Without the last place it leads nowhere.
-    let bases = rising(alloc, MANY, MANY)?;
+    assert_counts(
+        &rt,
+        alloc,
+        &references_back(alloc, MANY, &[])?,
+        &[("1", MANY)],
+    )?;
+    assert_counts(
+        &rt,
+        alloc,
+        &references_forward_to_numbers(alloc)?,
+        &[("1.3", MANY + 1)],
+    )?;
+    // Without the last name, the one before it refers to nothing.
+    let bases = references_forward(alloc, MANY, MANY)?;
     assert_counts(&rt, alloc, &bases, &[("unresolved", MANY)])
 }
 
-/// Places each of which leads to the one after it, the last of which has the numbers 1 and 3.
-fn rising_to_numbers(alloc: Global) -> Result<Vec<Basis<'static>>, Fail> {
-    let mut bases = rising(alloc, MANY, MANY)?;
+/// Returns names each of which refers to the one after it, the last of which has the numbers 1 and
+/// 3.
+fn references_forward_to_numbers(alloc: Global) -> Result<Vec<Basis<'static>>, Fail> {
+    let mut bases = references_forward(alloc, MANY, MANY)?;
     bases.push(Basis::Numbers(&[1, 3]))?;
     Ok(bases)
 }
@@ -141,15 +159,20 @@ fn rising_to_numbers(alloc: Global) -> Result<Vec<Basis<'static>>, Fail> {
 #[test]
 fn rings_have_no_end(rt: HostRuntime) -> Result<(), Fail> {
     let alloc = rt.alloc();
-    assert_counts(&rt, alloc, &rising(alloc, MANY, 0)?, &[("cycle", MANY)])?;
+    assert_counts(
+        &rt,
+        alloc,
+        &references_forward(alloc, MANY, 0)?,
+        &[("cycle", MANY)],
+    )?;
     let rows = [("cycle", 1002), ("2", 1), ("unresolved", 1)];
     assert_counts(&rt, alloc, &ring_and_others(alloc)?, &rows)
 }
 
-/// A ring of places after others that lead into it; then a place of its own that leads to itself,
-/// another that leads into the ring, and two that stand apart.
+/// Returns names that refer into a ring, and the ring. After these come a name that refers to
+/// itself, one that refers to the first, one with a number only, and one that refers to nothing.
 fn ring_and_others(alloc: Global) -> Result<Vec<Basis<'static>>, Fail> {
-    let mut bases = rising(alloc, 1000, 500)?;
+    let mut bases = references_forward(alloc, 1000, 500)?;
     bases.extend_from_slice(&[
         Basis::After(1000, &[1]),
         Basis::After(0, &[1]),
@@ -160,12 +183,12 @@ fn ring_and_others(alloc: Global) -> Result<Vec<Basis<'static>>, Fail> {
 }
 
 #[test]
-fn numbers_come_along_a_chain(rt: HostRuntime) -> Result<(), Fail> {
-    let bases = falling(rt.alloc(), 200, &[7])?;
+fn numbers_are_appended_along_a_chain(rt: HostRuntime) -> Result<(), Fail> {
+    let bases = references_back(rt.alloc(), 200, &[7])?;
     assert_counts(&rt, rt.alloc(), &bases, &NUMBERS)
 }
 
-/// One name has 128 numbers, and those after it have too many.
+/// What names resolve to, and how many. One name has 128 numbers, and those after it have too many.
 static NUMBERS: [(&str, usize); 4] = [
     ("1", 1),
     ("1.7.7.7", 1),
@@ -180,13 +203,13 @@ const SEVENS: &str = "\
 7.7.7.7.7.7.7.7.7.7.7.7.7.7.7.7.7.7.7.7.7.7.7.7.7.7.7.7.7.7.7.7";
 
 #[test]
-fn each_place_comes_after_the_one_it_leads_to(rt: HostRuntime) -> Result<(), Fail> {
+fn each_index_comes_after_the_one_it_refers_to(rt: HostRuntime) -> Result<(), Fail> {
     let order = ordered(rt.alloc(), &NEXT)?;
     assert!(rt; order.as_slice() == [2, 3, 0, 6, 7].as_slice());
     Ok(())
 }
 
-/// The place that each place leads to: 1, 4 and 5 stand on a ring or lead into one.
+/// The index that each index refers to: 1, 4 and 5 are on a ring or refer into one.
 static NEXT: [Option<usize>; 8] = [
     Some(3),
     Some(4),

@@ -1,4 +1,4 @@
-//! The indexes of columns, by INDEX and AUGMENTS of their rows. `tests/program.sh` tests those over
+//! The indexes of columns, by INDEX and AUGMENTS of their rows. `tests/program.sh` tests indexes of
 //! each base type.
 
 ghost use Rattle.std.specs.Prelude.{◌≡◌};
@@ -10,18 +10,18 @@ use smi_tree::{Extent, Identifiers, IndexPart, Indexes, Types};
 use std::alloc::Global;
 use std::test::Fail;
 
-/// A label, and the index of its node.
+/// A label, and the INDEX parts of its node.
 type Row<'a> = (&'a str, Option<&'a [IndexPart]>);
 
 const TEXT: IndexPart = IndexPart::Text(Extent::Counted);
 
 const IMPLIED_TEXT: IndexPart = IndexPart::Text(Extent::Implied);
 
-/// The place of the first node of a label.
-fn place_of(modules: &[Module], sources: &[Source], label: &str) -> Option<usize> {
-    for (place, source) in sources.iter().enumerate() {
+/// Returns the index in `sources` of the first node with this label.
+fn node_of(modules: &[Module], sources: &[Source], label: &str) -> Option<usize> {
+    for (node, source) in sources.iter().enumerate() {
         if has_label(modules, *source, label) {
-            return Some(place);
+            return Some(node);
         }
     }
     None
@@ -40,7 +40,7 @@ fn has_label(modules: &[Module], source: Source, label: &str) -> bool {
     }
 }
 
-/// The first row whose node has another index, or isn't there.
+/// Returns the position of the first row whose node has other INDEX parts or doesn't exist.
 fn first_wrong(
     modules: &[Module],
     sources: &[Source],
@@ -48,8 +48,8 @@ fn first_wrong(
     rows: &[Row<'_>],
 ) -> Option<usize> {
     for (k, (label, expected)) in rows.iter().enumerate() {
-        let found = match place_of(modules, sources, label) {
-            Some(place) => indexes.get(place) == *expected,
+        let found = match node_of(modules, sources, label) {
+            Some(node) => indexes.get(node) == *expected,
             None => false,
         };
         if !found {
@@ -59,7 +59,7 @@ fn first_wrong(
     None
 }
 
-/// The first wrong row over the modules of a text.
+/// Returns the position of the first wrong row for the modules of `text`.
 fn wrong_row(alloc: Global, text: &[u8], rows: &[Row<'_>]) -> Result<Option<usize>, Fail> {
     let modules = modules_of(alloc, text)?;
     let names = names_of(alloc, &modules)?;
@@ -104,7 +104,7 @@ fn wrong_row_among<'a>(
 }
 
 #[test]
-fn columns_of_a_table(rt: HostRuntime) -> Result<(), Fail> {
+fn columns_have_the_index_of_their_row(rt: HostRuntime) -> Result<(), Fail> {
     assert!(rt; wrong_row(rt.alloc(), TINY, &COLUMNS)?.is_none());
     Ok(())
 }
@@ -120,7 +120,7 @@ static COLUMNS: [Row<'static>; 8] = [
     ("tiny", None),
 ];
 
-/// A row that augments one of another module, and an object `local` in each of the two modules.
+/// A row that augments a row of another module, and an object `local` in each of the two modules.
 const ROWS: &[u8] = b"M DEFINITIONS ::= BEGIN IMPORTS farRow FROM P;
 local OBJECT-TYPE SYNTAX OCTET STRING (SIZE (6)) MAX-ACCESS read-only STATUS current
   DESCRIPTION \"\" ::= { iso 1 }
@@ -139,7 +139,7 @@ END
 ";
 
 #[test]
-fn the_names_of_an_index_are_those_of_its_module(rt: HostRuntime) -> Result<(), Fail> {
+fn names_in_an_index_are_looked_up_in_its_module(rt: HostRuntime) -> Result<(), Fail> {
     assert!(rt; wrong_row(rt.alloc(), ROWS, &COLUMNS_OF_ROWS)?.is_none());
     Ok(())
 }
@@ -149,8 +149,8 @@ static COLUMNS_OF_ROWS: [Row<'static>; 2] = [
     ("key", Some(&[IndexPart::Address, IndexPart::Number])),
 ];
 
-/// Rows whose index is a string: of a fixed SIZE below zero, without IMPLIED and with it, of a
-/// range below zero, and of SIZE zero.
+/// Rows whose INDEX is a string: of a fixed SIZE below zero, without IMPLIED and with it; of a
+/// range below zero; and of SIZE zero.
 const SIZES: &[u8] = b"M DEFINITIONS ::= BEGIN
 below OBJECT-TYPE SYNTAX OCTET STRING (SIZE (-5)) MAX-ACCESS read-only STATUS current
   DESCRIPTION \"\" ::= { belowRow 1 }

@@ -11,7 +11,7 @@ use std::process::Abort;
 use std::random::RandomSource;
 use std::test::Fail;
 
-/// A source whose octets are all 7.
+/// A source of random octets, which are all 7.
 #[derive(Drop)]
 struct Sevens;
 
@@ -22,13 +22,13 @@ impl RandomSource for Sevens {
     }
 }
 
-/// The hash by the key whose octets are all 7.
+/// Returns the hash by the key whose octets are all 7.
 fn key_of_sevens() -> NameHash {
     NameHash::of_key(RandomState::new(&Sevens).ok())
 }
 
-/// The hash of a name.
-fn hashed(hash: NameHash, name: &str) -> u64 {
+/// Returns the hash of `name`.
+fn hash_of(hash: NameHash, name: &str) -> u64 {
     let mut hasher = hash.build_hasher();
     hasher.write(name.as_bytes());
     hasher.finish()
@@ -44,49 +44,49 @@ static HASHES: [(&str, u64, u64); 3] = [
 #[test]
 fn names_are_hashed_by_the_key(rt: HostRuntime) {
     for (name, keyed, _) in &HASHES {
-        assert_eq!(rt; hashed(key_of_sevens(), name), *keyed, "{name}");
+        assert_eq!(rt; hash_of(key_of_sevens(), name), *keyed, "{name}");
     }
 }
 
 #[test]
-fn names_are_hashed_by_the_fixed_key_without_one(rt: HostRuntime) {
+fn without_a_key_names_are_hashed_by_the_fixed_key(rt: HostRuntime) {
     for (name, _, fixed) in &HASHES {
-        assert_eq!(rt; hashed(NameHash::of_key(None), name), *fixed, "{name}");
-        assert_eq!(rt; hashed(NameHash::Fixed, name), *fixed, "{name}");
+        assert_eq!(rt; hash_of(NameHash::of_key(None), name), *fixed, "{name}");
+        assert_eq!(rt; hash_of(NameHash::Fixed, name), *fixed, "{name}");
     }
 }
 
-/// Names that were chosen to have one place in a map of 4096 groups, by the fixed key.
+/// Names that were chosen to be in one group of a map of 4096 groups, by the fixed key.
 static CHOSEN: [&str; 16] = [
     "hkmdxkjb", "yhiuiexq", "jgtjltiv", "mpvcfjib", "xobyychc", "hosaodkn", "czxgzkaz", "kprxbfbr",
     "rauzpnci", "taapvoef", "cyoqbfww", "imhfwpjn", "hfvdfwyh", "ondlnwqk", "nihsbion", "qyhwsfvr",
 ];
 
-/// How many of the chosen names have the place of the first one.
-fn at_the_first_place(hash: NameHash) -> usize {
-    let first = place(hash, CHOSEN[0]);
+/// Returns how many of the chosen names are in the group of the first one.
+fn count_in_first_group(hash: NameHash) -> usize {
+    let first = group_of(hash, CHOSEN[0]);
     let mut count: usize = 0;
     for name in &CHOSEN {
-        if place(hash, name) == first {
+        if group_of(hash, name) == first {
             count = count.saturating_add(1);
         }
     }
     count
 }
 
-/// The place of a name in a map of 4096 groups: what a search for it looks at first.
-fn place(hash: NameHash, name: &str) -> u64 {
-    let hashed = hashed(hash, name);
+/// Returns the group of `name` in a map of 4096 groups, where a search for it begins.
+fn group_of(hash: NameHash, name: &str) -> u64 {
+    let hashed = hash_of(hash, name);
     (hashed ^ (hashed >> 32)) % 4096
 }
 
 #[test]
-fn names_chosen_for_the_fixed_key_have_places_of_their_own_by_another(rt: HostRuntime) {
-    assert_eq!(rt; at_the_first_place(NameHash::Fixed), 16);
-    assert_eq!(rt; at_the_first_place(key_of_sevens()), 1);
+fn names_chosen_for_the_fixed_key_are_spread_by_another_key(rt: HostRuntime) {
+    assert_eq!(rt; count_in_first_group(NameHash::Fixed), 16);
+    assert_eq!(rt; count_in_first_group(key_of_sevens()), 1);
 }
 
-/// The tree of the tiny modules, in a box, whose `drop` is proved once.
+/// Returns the tree of the tiny modules, in a box, whose `drop` is proved once.
 fn tree_by(alloc: Global, hash: NameHash) -> Result<Box<Tree>, Fail> {
     let loaded = Tree::load_with_key(alloc, hash, modules_of(alloc, TINY)?)?;
     let (tree, _warnings) = loaded.into_parts();
@@ -94,7 +94,7 @@ fn tree_by(alloc: Global, hash: NameHash) -> Result<Box<Tree>, Fail> {
 }
 
 #[test]
-fn look_ups_find_the_same_by_each_key(rt: HostRuntime) -> Result<(), Fail> {
+fn look_ups_find_the_same_with_each_key(rt: HostRuntime) -> Result<(), Fail> {
     let keyed = tree_by(rt.alloc(), key_of_sevens())?;
     let fixed = tree_by(rt.alloc(), NameHash::Fixed)?;
     assert_same(&rt, &keyed, &fixed);

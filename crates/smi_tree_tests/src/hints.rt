@@ -3,27 +3,28 @@ use smi_value::{Hint, HintValue, write_hint};
 use std::alloc::Global;
 use std::process::Abort;
 
-/// Whether what was written is `> ` and then the text.
-fn is_behind(written: &[u8], text: &[u8]) -> bool {
+/// Returns whether `written` is `> ` followed by `text`.
+fn is_appended(written: &[u8], text: &[u8]) -> bool {
     match written {
         [b'>', b' ', rest @ ..] => rest == text,
         _ => false,
     }
 }
 
-/// Whether the hint of octets shows the octets so, after what was written before.
+/// Returns whether the hint of octets shows `octets` as `text`, and appends it to what was written
+/// before.
 fn shows_octets(alloc: Global, hint: &[u8], octets: &[u8], text: &[u8]) -> bool {
     match (Hint::parse(hint), Vec::from_slice(alloc, b"> ")) {
         (Some(hint), Ok(mut out)) => {
             !hint.is_number()
                 && write_hint(&hint, HintValue::Octets(octets), &mut out).is_ok()
-                && is_behind(out.as_slice(), text)
+                && is_appended(out.as_slice(), text)
         }
         _ => false,
     }
 }
 
-/// Whether the hint of numbers shows the number so.
+/// Returns whether the hint of numbers shows `n` as `text`.
 fn shows_number(alloc: Global, hint: &[u8], n: i64, text: &[u8]) -> bool {
     let Some(hint) = Hint::parse(hint) else {
         return false;
@@ -33,7 +34,7 @@ fn shows_number(alloc: Global, hint: &[u8], n: i64, text: &[u8]) -> bool {
     is_written && out.as_slice() == text
 }
 
-/// Asserts of each row that its hint shows its octets by its text.
+/// Asserts that the hint of each row shows its octets as its text.
 fn assert_octets(rt: &impl Abort, alloc: Global, rows: &[(&[u8], &[u8], &[u8])]) {
     for (hint, octets, text) in rows {
         assert!(rt; shows_octets(alloc, hint, octets, text), "{hint:?}");
@@ -59,7 +60,7 @@ const ADDRESSES_AND_DATES: &[(&[u8], &[u8], &[u8])] = &[
 ];
 
 #[test]
-fn addresses_and_dates(rt: HostRuntime) {
+fn addresses_and_dates_are_shown(rt: HostRuntime) {
     assert_octets(&rt, rt.alloc(), ADDRESSES_AND_DATES);
 }
 
@@ -76,7 +77,7 @@ const COUNTS: &[(&[u8], &[u8], &[u8])] = &[
 ];
 
 #[test]
-fn counts(rt: HostRuntime) {
+fn repeated_parts_are_shown(rt: HostRuntime) {
     assert_octets(&rt, rt.alloc(), COUNTS);
 }
 
@@ -99,7 +100,7 @@ const GREATEST: &[(&[u8], &[u8], &[u8])] = &[
 ];
 
 #[test]
-fn the_greatest_numbers(rt: HostRuntime) {
+fn the_greatest_numbers_are_shown(rt: HostRuntime) {
     assert_octets(&rt, rt.alloc(), GREATEST);
 }
 
@@ -119,7 +120,7 @@ const NUMBERS: &[(&[u8], i64, &[u8])] = &[
 ];
 
 #[test]
-fn numbers(rt: HostRuntime) {
+fn numbers_are_shown(rt: HostRuntime) {
     for (hint, n, text) in NUMBERS {
         assert!(rt; shows_number(rt.alloc(), hint, *n, text), "{hint:?} {n}");
     }
@@ -131,7 +132,7 @@ const NO_HINTS: &[&[u8]] = &[
 ];
 
 #[test]
-fn texts_that_are_no_hints(rt: HostRuntime) {
+fn malformed_hints_are_refused(rt: HostRuntime) {
     for text in NO_HINTS {
         assert!(rt; Hint::parse(text).is_none(), "{text:?}");
     }
@@ -151,7 +152,7 @@ const HINTS: &[&[u8]] = &[
 ];
 
 #[test]
-fn texts_that_are_hints(rt: HostRuntime) {
+fn unusual_hints_are_accepted(rt: HostRuntime) {
     for text in HINTS {
         assert!(rt; Hint::parse(text).is_some(), "{text:?}");
     }

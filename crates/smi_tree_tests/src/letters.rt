@@ -1,19 +1,19 @@
-//! Letters of `-O`.
+//! The letters of `-O`.
 use smi_value::{Letters, NameForm, StringForm, TypeForm};
 use std::process::Abort;
 
-/// Asserts that the text has these letters.
+/// Asserts that `text` is read as these letters.
 fn assert_letters(rt: &impl Abort, text: &[u8], letters: Letters) {
     assert!(rt; Letters::parse(text) == Ok(letters), "{text:?}");
 }
 
-/// Asserts that this octet of the text is no letter.
+/// Asserts that `text` is refused because of `octet`, which isn't a letter.
 fn assert_no_letter(rt: &impl Abort, text: &[u8], octet: u8) {
     assert!(rt; Letters::parse(text) == Err(octet), "{text:?}");
 }
 
 #[test]
-fn no_letters_say_the_usual_forms(rt: HostRuntime) {
+fn without_letters_the_usual_forms_apply(rt: HostRuntime) {
     let usual = Letters::new();
     assert_letters(&rt, b"", usual);
     assert!(rt; usual.names == NameForm::ModuleLabel);
@@ -22,7 +22,7 @@ fn no_letters_say_the_usual_forms(rt: HostRuntime) {
 }
 
 #[test]
-fn the_last_of_letters_that_exclude_each_other_holds(rt: HostRuntime) {
+fn the_last_of_letters_that_exclude_each_other_applies(rt: HostRuntime) {
     let letters = Letters::new();
     assert_letters(
         &rt,
@@ -84,7 +84,7 @@ fn the_last_of_letters_that_exclude_each_other_holds(rt: HostRuntime) {
 }
 
 #[test]
-fn the_other_letters_stand_for_themselves(rt: HostRuntime) {
+fn each_other_letter_sets_one_choice(rt: HostRuntime) {
     let letters = Letters::new();
     assert_letters(
         &rt,

@@ -1,6 +1,7 @@
 //! Tests of the layers from modules to lines: chains, branches, meanings, types, nodes and indexes,
 //! the tree of names that is made of them, the texts of values, and the names, lines and details
-//! that are shown by a tree. They are a separate crate so that those layers are proved only once.
+//! that are shown with a tree. They are a crate of their own, so that those layers are proved only
+//! once.
 #![tactic(auto)]
 
 #[cfg(test)]

@@ -1,4 +1,4 @@
-//! Lines and values, by the letters and the syntax of the object.
+//! Lines and values, by the letters and by the syntax of the object.
 
 use crate::names::{COUNTED, MAC, sample};
 use smi_show::{Letters, line, name_text, value_text};
@@ -13,7 +13,7 @@ fn letters_of(letters: &[u8]) -> Result<Letters, Fail> {
     Ok(Letters::parse(letters).ok().ok_or("no letters")?)
 }
 
-/// Whether a binding has this line, after what stands before it.
+/// Returns whether the line of a binding is `text`, and is appended to what `out` has before.
 fn has_line(
     alloc: Global,
     tree: &Tree,
@@ -34,7 +34,7 @@ fn is_after_before(out: &[u8], text: &[u8]) -> bool {
     }
 }
 
-/// Whether a line ends in the text of its value.
+/// Returns whether `line` ends with the text of its value.
 fn ends_in_value(
     alloc: Global,
     tree: &Tree,
@@ -49,7 +49,8 @@ fn ends_in_value(
     Ok(line.ends_with(&shown))
 }
 
-/// Checks the line of a binding, the text of its value, and what stands before both.
+/// Asserts that a binding has this line, that it is appended to what was written before, and that
+/// it ends with the text of its value.
 fn assert_line(
     rt: &impl Abort,
     alloc: Global,
@@ -73,7 +74,7 @@ fn assert_line(
     Ok(())
 }
 
-/// Checks the lines of a binding by letters.
+/// Asserts that a binding has the line of each row, with the row's letters.
 fn assert_lines(
     rt: &impl Abort,
     alloc: Global,
@@ -91,7 +92,7 @@ fn assert_lines(
 /// The instance of `tinyMac` whose index is `wes`.
 const WES: [u32; 8] = [1, 3, 6, 2, 3, 119, 101, 115];
 
-/// Letters, and the line of a value by the letters.
+/// Letters, and the line of a value with these letters.
 static NAMES: [(&[u8], &str); 14] = [
     (
         b"",
@@ -128,13 +129,13 @@ static NAMES: [(&[u8], &str); 14] = [
 ];
 
 #[test]
-fn names_by_each_letter(rt: HostRuntime) -> Result<(), Fail> {
+fn each_letter_changes_the_line(rt: HostRuntime) -> Result<(), Fail> {
     let tree = sample(rt.alloc(), COUNTED, MAC)?;
     let value = ValueRef::Octets(b"\x00\x16\x3e\x5a\x78\x8e");
     assert_lines(&rt, rt.alloc(), &tree, &WES, &value, &NAMES)
 }
 
-/// Letters, and the line of an identifier by the letters.
+/// Letters, and the line of an identifier with these letters.
 static IDENTIFIERS: [(&[u8], &str); 7] = [
     (b"", "iso.3 = OID: TINY-MIB::tinyMac.\"wes\"\n"),
     (b"n", ".1.3 = OID: .1.3.6.2.3.119.101.115\n"),
@@ -153,7 +154,7 @@ fn identifiers_are_shown_as_names(rt: HostRuntime) -> Result<(), Fail> {
 }
 
 #[test]
-fn a_syntax_shows_values_of_its_type_alone(rt: HostRuntime) -> Result<(), Fail> {
+fn a_syntax_applies_only_to_values_of_its_type(rt: HostRuntime) -> Result<(), Fail> {
     assert_by_base(&rt, rt.alloc())
 }
 
@@ -166,7 +167,7 @@ const BITS: &str = "OBJECT-TYPE SYNTAX BITS { up(1) } UNITS \"jobs\" MAX-ACCESS 
 const TICKS: &str = "OBJECT-TYPE SYNTAX TimeTicks UNITS \"jobs\" MAX-ACCESS read-only
   STATUS current DESCRIPTION \"Time.\"";
 
-/// Checks the line of a value of the column.
+/// Asserts that a value of the column has this line.
 fn assert_column(
     rt: &impl Abort,
     alloc: Global,
@@ -178,7 +179,7 @@ fn assert_column(
     assert_line(rt, alloc, tree, letters, &[1, 3, 6, 2], value, text)
 }
 
-/// Checks lines by a syntax of each base.
+/// Asserts lines of values for syntaxes of three base types.
 fn assert_by_base(rt: &impl Abort, alloc: Global) -> Result<(), Fail> {
     let tree = sample(alloc, COUNTED, NUMBER)?;
     assert_integers(rt, alloc, &tree)?;
@@ -192,7 +193,7 @@ fn assert_by_base(rt: &impl Abort, alloc: Global) -> Result<(), Fail> {
     assert_column(rt, alloc, &tree, b"t", &ticks, text)
 }
 
-/// Letters, and the line of the number 1 by the letters.
+/// Letters, and the line of the number 1 with these letters.
 static ONE: [(&[u8], &str); 3] = [
     (b"", "TINY-MIB::tinyMac = INTEGER: up(1)\n"),
     (b"q", "TINY-MIB::tinyMac up\n"),
@@ -259,7 +260,7 @@ fn assert_exceptions(rt: &impl Abort, alloc: Global, tree: &Tree) -> Result<(), 
 }
 
 #[test]
-fn a_name_alone(rt: HostRuntime) -> Result<(), Fail> {
+fn a_name_is_shown_without_a_value(rt: HostRuntime) -> Result<(), Fail> {
     let mut out = Vec::new(rt.alloc());
     let tree = sample(rt.alloc(), COUNTED, MAC)?;
     push_names(&tree, &mut out)?;
@@ -268,7 +269,7 @@ fn a_name_alone(rt: HostRuntime) -> Result<(), Fail> {
     Ok(())
 }
 
-/// Appends the names of the column by four letters.
+/// Appends the names of the column in four forms.
 fn push_names(tree: &Tree, out: &mut Vec<u8>) -> Result<(), Fail> {
     let column = Oid::from_slice(&[1, 3, 6, 2])?;
     for letters in [b"".as_slice(), b"n", b"f", b"s"] {

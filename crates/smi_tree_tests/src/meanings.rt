@@ -1,6 +1,6 @@
 //! What names mean in modules that import from one another.
 
-use crate::reading::{comes_to, modules_of, names_of};
+use crate::reading::{modules_of, names_of, resolves_to};
 use smi_names::{Decider, Names};
 use smi_text::Module;
 use std::alloc::Global;
@@ -46,25 +46,26 @@ END
 A DEFINITIONS ::= BEGIN hidden OBJECT IDENTIFIER ::= { iso 12 } END
 ";
 
-/// A module, a name there, and what it resolves to.
+/// A module, a name in it, and what the name resolves to.
 type Row = (&'static str, &'static str, &'static str);
 
-/// The first row whose name doesn't resolve, in the row's module, to what the row says.
+/// Returns the index of the first row whose name doesn't resolve, in the row's module, as the row
+/// says.
 fn unresolved_row(names: &Names<'_>, rows: &[Row]) -> Option<usize> {
     for (k, (home, name, expected)) in rows.iter().enumerate() {
         let found = names.resolution(home.as_bytes(), name.as_bytes());
-        if !comes_to(found, expected) {
+        if !resolves_to(found, expected) {
             return Some(k);
         }
     }
     None
 }
 
-/// What decides a name: a definition by its line, an import by its line and module, a root by its
-/// number.
+/// What decides a name: a definition by its line, an import by its line and module, a built-in root
+/// by its number.
 type Decided<'a> = Option<(usize, &'a str, u32)>;
 
-/// Whether this decides a name.
+/// Returns whether `decider` is the expected one.
 fn is_decided(decider: Option<Decider<'_>>, expected: Decided<'_>) -> bool {
     let Some((line, source, number)) = expected else {
         return decider.is_none();
@@ -79,10 +80,11 @@ fn is_decided(decider: Option<Decider<'_>>, expected: Decided<'_>) -> bool {
     }
 }
 
-/// A module, a name there, and what decides it.
+/// A module, a name in it, and what decides the name.
 type Decision = (&'static str, &'static str, Decided<'static>);
 
-/// The first row whose name isn't decided, in the row's module, by what the row says.
+/// Returns the index of the first row whose name isn't decided, in the row's module, by what the
+/// row says.
 fn undecided_row(names: &Names<'_>, rows: &[Decision]) -> Option<usize> {
     for (k, (home, name, expected)) in rows.iter().enumerate() {
         if !is_decided(names.decider(home.as_bytes(), name.as_bytes()), *expected) {
@@ -114,7 +116,7 @@ fn are_named(names: &Names<'_>, rows: &[Row], decisions: &[Decision]) -> bool {
     unresolved_row(names, rows).is_none() && undecided_row(names, decisions).is_none()
 }
 
-/// Whether modules are loaded by their names alone.
+/// Returns whether the modules that were read are loaded, and no others.
 fn are_loaded(names: &Names<'_>) -> bool {
     names.is_loaded(b"RING-C")
         && names.is_loaded(b"A")
@@ -123,13 +125,13 @@ fn are_loaded(names: &Names<'_>) -> bool {
 }
 
 static RESOLUTIONS: [Row; 29] = [
-    // Its own definition, not the imports of the name.
+    // The module's own definition, not the imports of the name.
     ("A", "x", "2.1"),
     // The first import of the name.
     ("A", "y", "1.2"),
     ("A", "late", "1.2.5"),
     ("A", "early", "1.2.5.1"),
-    // An import that the named module imports.
+    // An import of a name that the other module imports too.
     ("A", "z", "0.7"),
     // An imported name comes before the root.
     ("A", "iso", "2.9"),
@@ -139,7 +141,7 @@ static RESOLUTIONS: [Row; 29] = [
     ("D", "ccitt", "0"),
     ("A", "named", "1.3"),
     ("A", "number", "1.3"),
-    // Imports that go round a ring of modules, one to a definition and one to none.
+    // Imports around a ring of modules: one ends at a definition, and the others never end.
     ("A", "far", "1.11.10"),
     ("A", "round", "cycle"),
     ("RING-C", "round", "cycle"),
@@ -160,7 +162,7 @@ static RESOLUTIONS: [Row; 29] = [
 ];
 
 #[test]
-fn names_are_decided(rt: HostRuntime) -> Result<(), Fail> {
+fn each_name_is_decided_by_one_definition_import_or_root(rt: HostRuntime) -> Result<(), Fail> {
     let modules = modules_of(rt.alloc(), MODULES)?;
     assert_names(&rt, rt.alloc(), &modules, &[], &DECISIONS)
 }

@@ -21,8 +21,8 @@ same OBJECT IDENTIFIER ::= { n }
 END
 ";
 
-/// Of each node the place of its module, that of its definition there, and its identifier. The
-/// roots stand first, in no module.
+/// For each node the index of its module, the index of its definition there, and its identifier.
+/// The built-in roots come first, and have no module.
 static NODES: [(Option<(usize, usize)>, &str); 7] = [
     (None, "0"),
     (None, "1"),
@@ -47,18 +47,18 @@ fn assert_nodes(rt: &impl Abort, alloc: Global, modules: &[Module]) -> Result<()
 
 fn assert_gathered(rt: &impl Abort, gathered: &Gathered) -> Result<(), Fail> {
     assert!(rt; gathered.sources.len() == NODES.len() && gathered.oids.len() == NODES.len());
-    for (k, (place, text)) in NODES.iter().enumerate() {
-        assert!(rt; is_node(gathered, k, *place, &oid(text)?), "{text}");
+    for (k, (source, text)) in NODES.iter().enumerate() {
+        assert!(rt; is_node(gathered, k, *source, &oid(text)?), "{text}");
     }
     Ok(())
 }
 
-/// Whether a node has this place and this identifier.
-fn is_node(gathered: &Gathered, k: usize, place: Option<(usize, usize)>, oid: &Oid) -> bool {
+/// Returns whether node `k` has this source and this identifier.
+fn is_node(gathered: &Gathered, k: usize, source: Option<(usize, usize)>, oid: &Oid) -> bool {
     let found = match gathered.sources.get(k) {
         Some(Source::Definition(i, d)) => Some((*i, *d)),
         _ => None,
     };
-    found == place
-        && matches!(gathered.oids.get(k), Some(found) if found.as_slice() == oid.as_slice())
+    let stored = gathered.oids.get(k);
+    found == source && matches!(stored, Some(stored) if stored.as_slice() == oid.as_slice())
 }

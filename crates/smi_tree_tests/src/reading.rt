@@ -8,7 +8,7 @@ use snmp_oid::{Oid, parse_numeric};
 use std::alloc::Global;
 use std::test::Fail;
 
-/// Two modules with an object, two tables, and names that are missing or lead back to themselves.
+/// Two modules with an object, two tables, and names that are missing or refer back to themselves.
 pub(crate) const TINY: &[u8] = b"TINY-SMI DEFINITIONS ::= BEGIN
 enterprises OBJECT IDENTIFIER ::= { private 1 }
 private     OBJECT IDENTIFIER ::= { internet 4 }
@@ -43,17 +43,17 @@ loopB OBJECT IDENTIFIER ::= { loopA 1 }
 END
 ";
 
-/// The identifier of a text such as `1.3.6`.
+/// Returns the identifier of a text such as `1.3.6`.
 pub(crate) fn oid(text: &str) -> Result<Oid, Fail> {
     Ok(parse_numeric(text.as_bytes()).ok().ok_or("no identifier")?)
 }
 
-/// The modules of a text.
+/// Returns the modules of a text.
 pub(crate) fn modules_of(alloc: Global, text: &[u8]) -> Result<Vec<Module>, Fail> {
     Ok(parse_modules(alloc, text)?)
 }
 
-/// The names of modules, in a box, whose `drop` is proved once.
+/// Returns the names of `modules`, in a box, whose `drop` is proved once.
 pub(crate) fn names_of<'a>(alloc: Global, modules: &'a [Module]) -> Result<Box<Names<'a>>, Fail>
     ensures { IfOk result (λ names. names.value.modules ≡ modules.now) }
 {
@@ -61,8 +61,8 @@ pub(crate) fn names_of<'a>(alloc: Global, modules: &'a [Module]) -> Result<Box<N
     Ok(Box::new(alloc, names)?)
 }
 
-/// Whether a name resolves to this identifier, or for this reason to none.
-pub(crate) fn comes_to(resolution: Option<&Resolution>, expected: &str) -> bool {
+/// Returns whether a name resolves to this identifier, or to none for this reason.
+pub(crate) fn resolves_to(resolution: Option<&Resolution>, expected: &str) -> bool {
     match resolution {
         None => expected == "no meaning",
         Some(Resolution::Cycle) => expected == "cycle",

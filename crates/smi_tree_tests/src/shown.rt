@@ -1,4 +1,5 @@
-//! Names by the tree of the tiny modules. `tests/program.sh` tests what else is shown by modules.
+//! Names read and shown with the tree of the tiny modules. `tests/program.sh` tests what else a
+//! tree shows.
 
 use crate::names::random_oid;
 use crate::reading::{TINY, modules_of, oid};
@@ -16,7 +17,7 @@ const MAC: &str = "1.3.6.1.4.1.32473.2.1.2.3.119.101.115";
 
 const USE: &str = "1.3.6.1.4.1.32473.3.1.1.119.101.115";
 
-/// The tree of the tiny modules, in a box, whose `drop` is proved once.
+/// Returns the tree of the tiny modules, in a box, whose `drop` is proved once.
 fn tiny(alloc: Global) -> Result<Box<Tree>, Fail> {
     let modules = modules_of(alloc, TINY)?;
     let (tree, _warnings) = Tree::load(alloc, modules)?;
@@ -29,7 +30,7 @@ fn names_are_read(rt: HostRuntime) -> Result<(), Fail> {
     assert_read(&rt, &tree)
 }
 
-/// Names with what they mean.
+/// Names, with the identifiers that they mean.
 static READ: [(&str, &str); 3] = [
     ("TINY-MIB::tinyState.0", STATE),
     ("TINY-MIB::tinyMac.\"wes\"", MAC),
@@ -43,7 +44,7 @@ fn assert_read(rt: &impl Abort, tree: &Tree) -> Result<(), Fail> {
     Ok(())
 }
 
-/// Whether a text means this identifier.
+/// Returns whether `text` means this identifier.
 fn means(tree: &Tree, text: &[u8], expected: &Oid) -> bool {
     match resolve(tree, text) {
         Ok(found) => found == *expected,
@@ -55,8 +56,8 @@ fn letters_of(letters: &str) -> Result<Letters, Fail> {
     Ok(Letters::parse(letters.as_bytes()).ok().ok_or("letters")?)
 }
 
-/// The beginnings of the identifiers that are shown and read back.
-static FRONTS: [&str; 3] = [
+/// Prefixes of the identifiers that are shown and read back.
+static PREFIXES: [&str; 3] = [
     "1.3.6.1.4.1.32473",
     "1.3.6.1.4.1.32473.2.1.2",
     "1.3.6.1.4.1.32473.3.1.1",
@@ -65,21 +66,21 @@ static FRONTS: [&str; 3] = [
 #[test]
 fn what_is_shown_is_read_back(rt: HostRuntime) -> Result<(), Fail> {
     let tree = tiny(rt.alloc())?;
-    assert_fronts(&rt, rt.alloc(), &tree)
+    assert_prefixes(&rt, rt.alloc(), &tree)
 }
 
-fn assert_fronts(rt: &impl Abort, alloc: Global, tree: &Tree) -> Result<(), Fail> {
-    for front in &FRONTS {
-        let front = oid(front)?;
+fn assert_prefixes(rt: &impl Abort, alloc: Global, tree: &Tree) -> Result<(), Fail> {
+    for prefix in &PREFIXES {
+        let prefix = oid(prefix)?;
         for seed in 0..1000 {
-            let name = random_oid(front.as_slice(), seed);
+            let name = random_oid(prefix.as_slice(), seed);
             assert!(rt; are_read_back(alloc, tree, &name)?);
         }
     }
     Ok(())
 }
 
-/// Whether the names of an identifier are read back, by letters of three kinds.
+/// Returns whether the names of an identifier are read back, with letters of three kinds.
 fn are_read_back(alloc: Global, tree: &Tree, name: &Oid) -> Result<bool, Fail> {
     for letters in ["S", "Sb", "n"] {
         if !is_read_back(alloc, tree, letters, name)? {
@@ -96,7 +97,7 @@ fn is_read_back(alloc: Global, tree: &Tree, letters: &str, name: &Oid) -> Result
 }
 
 #[test]
-fn a_writer_shows_each_line_as_it_is_alone(rt: HostRuntime) -> Result<(), Fail> {
+fn a_line_writer_writes_each_line_as_line_does(rt: HostRuntime) -> Result<(), Fail> {
     let tree = tiny(rt.alloc())?;
     assert_writers(&rt, rt.alloc(), &tree)
 }
@@ -108,7 +109,8 @@ fn assert_writers(rt: &impl Abort, alloc: Global, tree: &Tree) -> Result<(), Fai
     Ok(())
 }
 
-/// Checks the lines of names, a few of one column after the other, and the column itself.
+/// Asserts that the writer's lines are those of `line`: for a column, and for a few names below it
+/// one after the other.
 fn assert_written(
     rt: &impl Abort,
     alloc: Global,
@@ -117,11 +119,11 @@ fn assert_written(
 ) -> Result<(), Fail> {
     let mut writer = LineWriter::new(tree);
     for round in 0..100 {
-        for front in &FRONTS {
-            let front = oid(front)?;
-            assert!(rt; is_written_alike(alloc, tree, &mut writer, letters, &front)?);
+        for prefix in &PREFIXES {
+            let prefix = oid(prefix)?;
+            assert!(rt; is_written_alike(alloc, tree, &mut writer, letters, &prefix)?);
             for seed in 0..round % 4 {
-                let name = random_oid(front.as_slice(), round * 4 + seed);
+                let name = random_oid(prefix.as_slice(), round * 4 + seed);
                 assert!(rt; is_written_alike(alloc, tree, &mut writer, letters, &name)?);
             }
         }
@@ -129,7 +131,7 @@ fn assert_written(
     Ok(())
 }
 
-/// Whether a writer's next line is that which the name has alone.
+/// Returns whether the writer's next line is the one that `line` writes for this name.
 fn is_written_alike(
     alloc: Global,
     tree: &Tree,
@@ -137,13 +139,13 @@ fn is_written_alike(
     letters: &Letters,
     name: &Oid,
 ) -> Result<bool, Fail> {
-    let alone = alone(alloc, tree, letters, name)?;
+    let single_line = single_line(alloc, tree, letters, name)?;
     let mut written = Vec::new(alloc);
     writer.line(letters, name, &ValueRef::Integer(1), &mut written)?;
-    Ok(written.as_slice() == alone.as_slice())
+    Ok(written.as_slice() == single_line.as_slice())
 }
 
-fn alone(alloc: Global, tree: &Tree, letters: &Letters, name: &Oid) -> Result<Vec<u8>, Fail> {
+fn single_line(alloc: Global, tree: &Tree, letters: &Letters, name: &Oid) -> Result<Vec<u8>, Fail> {
     let mut text = Vec::new(alloc);
     line(tree, letters, name, &ValueRef::Integer(1), &mut text)?;
     Ok(text)

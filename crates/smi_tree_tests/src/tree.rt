@@ -34,7 +34,7 @@ static TINY_WARNINGS: [&str; 4] = [
     "TINY-MIB::loopB stands on a cycle",
 ];
 
-/// The nodes of the tiny modules below the roots.
+/// The nodes of the tiny modules, without the built-in roots.
 static TINY_NODES: [(&str, &str, &str); 6] = [
     ("TINY-SMI", "internet", "1.3.6.1"),
     ("TINY-SMI", "private", "1.3.6.1.4"),
@@ -51,15 +51,15 @@ struct Loaded {
     warnings: Vec<Warning>,
 }
 
-/// The tree of a text's modules, in a box, whose `drop` is proved once.
+/// Returns the tree of a text's modules, in a box, whose `drop` is proved once.
 fn load(alloc: Global, text: &str) -> Result<Box<Loaded>, Fail> {
     let modules = modules_of(alloc, text.as_bytes())?;
     let (tree, warnings) = Tree::load(alloc, modules)?;
     Ok(Box::new(alloc, Loaded { tree, warnings })?)
 }
 
-/// The texts in a row.
-fn joined(alloc: Global, texts: &[&str]) -> Result<String, Fail> {
+/// Returns the texts, one after the other.
+fn join_texts(alloc: Global, texts: &[&str]) -> Result<String, Fail> {
     let mut all = String::new(alloc);
     for text in texts {
         all.push_str(text)?;
@@ -67,7 +67,7 @@ fn joined(alloc: Global, texts: &[&str]) -> Result<String, Fail> {
     Ok(all)
 }
 
-/// Whether a text consists of these parts, in order.
+/// Returns whether `text` consists of `parts`, in order.
 fn consists_of(text: &str, parts: &[&[u8]]) -> bool {
     let mut rest = text.as_bytes();
     for part in parts {
@@ -79,7 +79,7 @@ fn consists_of(text: &str, parts: &[&[u8]]) -> bool {
     rest.is_empty()
 }
 
-/// Whether a sentence says what a warning does.
+/// Returns whether `sentence` says what `warning` does.
 fn says(sentence: &str, warning: &Warning) -> bool {
     match warning {
         Warning::DoubleModule(home) => {
@@ -118,7 +118,7 @@ fn says(sentence: &str, warning: &Warning) -> bool {
     }
 }
 
-/// Whether these sentences say what warnings do, in order.
+/// Returns whether the sentences say what the warnings do, in order.
 fn say(sentences: &[&str], warnings: &[Warning]) -> bool {
     if sentences.len() != warnings.len() {
         return false;
@@ -131,17 +131,17 @@ fn say(sentences: &[&str], warnings: &[Warning]) -> bool {
     true
 }
 
-/// The node of a label in a module.
+/// Returns the node of a label in a module.
 fn find(tree: &Tree, home: &[u8], label: &[u8]) -> Option<NodeId> {
     tree.find(home, label)
 }
 
-/// The first node of a label in any module.
+/// Returns the first node of a label in any module.
 fn find_any(tree: &Tree, label: &[u8]) -> Option<NodeId> {
     tree.find_any(label)
 }
 
-/// Whether a label in a module has this identifier.
+/// Returns whether a label in a module has the identifier `wanted`.
 fn is_found(tree: &Tree, home: &str, label: &str, wanted: &str) -> Result<bool, Fail> {
     Ok(match find(tree, home.as_bytes(), label.as_bytes()) {
         Some(id) => id < tree.len() && tree.node(id).oid.as_slice() == oid(wanted)?.as_slice(),
@@ -149,7 +149,7 @@ fn is_found(tree: &Tree, home: &str, label: &str, wanted: &str) -> Result<bool, 
     })
 }
 
-/// Whether a tree has these nodes, each of a label in a module with its identifier.
+/// Returns whether a tree has these nodes, each of a label in a module with its identifier.
 fn has_nodes(tree: &Tree, rows: &[(&str, &str, &str)]) -> Result<bool, Fail> {
     for (home, label, text) in rows {
         if !is_found(tree, home, label, text)? {
@@ -159,24 +159,25 @@ fn has_nodes(tree: &Tree, rows: &[(&str, &str, &str)]) -> Result<bool, Fail> {
     Ok(true)
 }
 
-/// The node of a label right below an identifier.
+/// Returns the node of a label directly below an identifier.
 fn child(tree: &Tree, parent: &str, label: &str) -> Result<Option<NodeId>, Fail> {
     Ok(tree.child(&oid(parent)?, label.as_bytes()))
 }
 
-/// Whether a tree has the nodes of the tiny modules, and the three roots.
+/// Returns whether a tree has the nodes of the tiny modules and the three built-in roots, and no
+/// others.
 fn is_tiny(tree: &Tree) -> Result<bool, Fail> {
     Ok(has_nodes(tree, &TINY_NODES)? && tree.len() == TINY_NODES.len() + 3)
 }
 
 #[test]
-fn tiny_modules_in_both_orders(rt: HostRuntime) -> Result<(), Fail> {
+fn the_tiny_modules_load_in_either_order(rt: HostRuntime) -> Result<(), Fail> {
     assert_tiny(&rt, rt.alloc(), &[TINY_SMI, TINY_MIB])?;
     assert_tiny(&rt, rt.alloc(), &[TINY_MIB, TINY_SMI])
 }
 
 fn assert_tiny(rt: &impl Abort, alloc: Global, texts: &[&str]) -> Result<(), Fail> {
-    let loaded = load(alloc, &joined(alloc, texts)?)?;
+    let loaded = load(alloc, &join_texts(alloc, texts)?)?;
     assert_tiny_tree(rt, &loaded)
 }
 
@@ -195,9 +196,9 @@ fn assert_tiny_tree(rt: &impl Abort, loaded: &Loaded) -> Result<(), Fail> {
 }
 
 #[test]
-fn modules_loaded_twice_change_nothing(rt: HostRuntime) -> Result<(), Fail> {
+fn modules_loaded_twice_change_no_node(rt: HostRuntime) -> Result<(), Fail> {
     let texts = [TINY_SMI, TINY_MIB, TINY_SMI, TINY_MIB];
-    let loaded = load(rt.alloc(), &joined(rt.alloc(), &texts)?)?;
+    let loaded = load(rt.alloc(), &join_texts(rt.alloc(), &texts)?)?;
     assert_twice_tiny(&rt, &loaded)
 }
 
@@ -223,7 +224,7 @@ own OBJECT IDENTIFIER ::= { 1 }
 END
 ";
 
-/// Identifiers, with the label of the deepest node of each, and the numbers after that node's.
+/// Identifiers, each with the label of its deepest node, and the numbers after those of that node.
 static DEEPEST: [(&str, Option<&str>, &[u32]); 5] = [
     ("1.3", Some("one"), &[]),
     ("1.3.2", Some("one"), &[2]),
@@ -232,14 +233,14 @@ static DEEPEST: [(&str, Option<&str>, &[u32]); 5] = [
     ("3", None, &[3]),
 ];
 
-/// Whether the deepest node of an identifier has this label, and these numbers follow it.
+/// Returns whether the deepest node of an identifier has this label, and these numbers follow it.
 fn is_deepest(tree: &Tree, text: &str, label: Option<&str>, numbers: &[u32]) -> Result<bool, Fail> {
     let oid = oid(text)?;
     let (found, rest) = tree.deepest(&oid);
     Ok(is_labelled(tree, found, label) && rest == numbers)
 }
 
-/// Whether a node has this label, or there is none.
+/// Returns whether a node has this label, or both are absent.
 fn is_labelled(tree: &Tree, found: Option<NodeId>, label: Option<&str>) -> bool {
     match (found, label) {
         (Some(id), Some(label)) => id < tree.len() && tree.node(id).label == label.as_bytes(),
@@ -248,7 +249,7 @@ fn is_labelled(tree: &Tree, found: Option<NodeId>, label: Option<&str>) -> bool 
 }
 
 #[test]
-fn the_first_node_stands_for_an_identifier(rt: HostRuntime) -> Result<(), Fail> {
+fn the_first_node_represents_an_identifier(rt: HostRuntime) -> Result<(), Fail> {
     let loaded = load(rt.alloc(), ONE_AND_TWO)?;
     assert_one_and_two(&rt, &loaded.tree)
 }
@@ -280,8 +281,8 @@ mine OBJECT IDENTIFIER ::= { 1 10 }
 END
 ";
 
-/// The first node of each label in each module. Some labels stand in several modules, and one is
-/// that of a root.
+/// The first node of each label in each module. Some labels occur in several modules, and one is
+/// also a built-in root.
 static SHARED_NODES: [(&str, &str, &str); 7] = [
     ("A", "shared", "1.3"),
     ("A", "only", "1.4"),
@@ -292,7 +293,7 @@ static SHARED_NODES: [(&str, &str, &str); 7] = [
     ("C", "iso", "2.9"),
 ];
 
-/// Labels that no module of the name has.
+/// Labels that no module of this name has.
 static ABSENT: [(&str, &str); 7] = [
     ("A", "mine"),
     ("A", "iso"),
@@ -323,7 +324,7 @@ fn assert_shared(rt: &impl Abort, tree: &Tree) -> Result<(), Fail> {
     Ok(())
 }
 
-/// A module of 1000 nodes, each below the one after, and the last below the first.
+/// Appends a module of 1000 nodes, each below the next, and the last below the first.
 fn push_ring(text: &mut String) -> Result<(), Fail> {
     text.push_str("R DEFINITIONS ::= BEGIN\n")?;
     for k in 0..1000 {
@@ -335,20 +336,20 @@ fn push_ring(text: &mut String) -> Result<(), Fail> {
 }
 
 #[test]
-fn a_ring_of_names_has_no_end(rt: HostRuntime) -> Result<(), Fail> {
+fn each_name_on_a_ring_has_a_warning(rt: HostRuntime) -> Result<(), Fail> {
     let mut text = String::new(rt.alloc());
     push_ring(&mut text)?;
     assert!(rt; has_ring(rt.alloc(), &text)?);
     Ok(())
 }
 
-/// Whether a text has a tree of the roots alone, with a warning of each node of the ring.
+/// Returns whether a text has a tree of only the roots, with a warning for each node of the ring.
 fn has_ring(alloc: Global, text: &str) -> Result<bool, Fail> {
     let loaded = load(alloc, text)?;
     Ok(loaded.tree.len() == 3 && are_on_a_ring(alloc, &loaded.warnings)?)
 }
 
-/// Whether warnings say of each of the 1000 nodes in turn that it stands on a cycle.
+/// Returns whether the warnings say of each of the 1000 nodes in turn that it is on a cycle.
 fn are_on_a_ring(alloc: Global, warnings: &[Warning]) -> Result<bool, Fail> {
     for (k, warning) in warnings.iter().enumerate() {
         if !is_on_a_ring(alloc, warning, k)? {
@@ -363,7 +364,7 @@ fn is_on_a_ring(alloc: Global, warning: &Warning, number: usize) -> Result<bool,
     Ok(says(&sentence, warning))
 }
 
-/// A module of 5000 nodes below one, each number once, out of order.
+/// Appends a module of 5000 nodes below one, with each number once, but not in order.
 fn push_children(text: &mut String) -> Result<(), Fail> {
     text.push_str("M DEFINITIONS ::= BEGIN\n")?;
     for k in 0..5000 {
@@ -375,14 +376,15 @@ fn push_children(text: &mut String) -> Result<(), Fail> {
 }
 
 #[test]
-fn many_children_come_in_order(rt: HostRuntime) -> Result<(), Fail> {
+fn many_children_are_in_order(rt: HostRuntime) -> Result<(), Fail> {
     let mut text = String::new(rt.alloc());
     push_children(&mut text)?;
     assert!(rt; has_wide_tree(rt.alloc(), &text)?);
     Ok(())
 }
 
-/// Whether a text has a tree without warnings, in which the 5000 children of 1.9 come in order.
+/// Returns whether a text has a tree without warnings, in which the 5000 children of 1.9 are in
+/// order.
 fn has_wide_tree(alloc: Global, text: &str) -> Result<bool, Fail> {
     let loaded = load(alloc, text)?;
     Ok(loaded.warnings.is_empty() && is_wide(&loaded.tree)?)
@@ -396,7 +398,8 @@ fn is_wide(tree: &Tree) -> Result<bool, Fail> {
     )
 }
 
-/// How many children a node has, unless one's number isn't its place among them.
+/// Returns the number of children of the node 1.9, or `None` if the last number of one isn't its
+/// index among them.
 fn children_in_order(tree: &Tree, top: &Oid) -> Option<u32> {
     let mut number: u32 = 0;
     for id in tree.children(top) {

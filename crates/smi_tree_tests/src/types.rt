@@ -1,5 +1,4 @@
-//! The syntax of objects: what their chains of types give, through modules that import from one
-//! another.
+//! The syntax of objects, which chains of types define across modules that import from one another.
 
 ghost use Rattle.std.specs.Prelude.{IfOk};
 ghost use Rattle.smi_tree.specs.types.Kept.{AreTypesOf};
@@ -30,7 +29,7 @@ Deep ::= OCTET STRING (SIZE (0..255))
 END
 ";
 
-/// The modules with an object of each row's syntax in the first one.
+/// Returns the modules, with an object of each row's syntax in the first one.
 fn modules(alloc: Global, rows: &[Row<'_>]) -> Result<Vec<Module>, Fail> {
     let mut text = String::new(alloc);
     push_objects(&mut text, rows)?;
@@ -50,7 +49,7 @@ current DESCRIPTION \"\" ::= {{ iso {k} }}"
     Ok(())
 }
 
-/// A hint without its quotes, empty if there is none.
+/// Returns the hint without its quotes, empty if there is none.
 fn hint<'a>(syntax: &TypeSyntax<'a>) -> &'a [u8] {
     match syntax.hint {
         Some(hint) => match hint.as_bytes() {
@@ -61,7 +60,7 @@ fn hint<'a>(syntax: &TypeSyntax<'a>) -> &'a [u8] {
     }
 }
 
-/// The first name, empty if there is none.
+/// Returns the first name, empty if there is none.
 fn first_name<'a>(names: Option<&'a [NamedNumber]>) -> &'a [u8] {
     match names {
         Some([first, ..]) => first.name.as_bytes(),
@@ -69,7 +68,7 @@ fn first_name<'a>(names: Option<&'a [NamedNumber]>) -> &'a [u8] {
     }
 }
 
-/// The first length of a SIZE, empty if there is none.
+/// Returns the first length of a SIZE, empty if there is none.
 fn first_length<'a>(sizes: Option<&'a [Range]>) -> &'a [u8] {
     match sizes {
         Some([first, ..]) => first.low.text.as_bytes(),
@@ -77,10 +76,11 @@ fn first_length<'a>(sizes: Option<&'a [Range]>) -> &'a [u8] {
     }
 }
 
-/// A base, a hint, the first name, and the first length of SIZE, each empty if there is none.
+/// A base, a hint, the first name, and the first length of SIZE. Each text is empty if there is
+/// none.
 type Expected<'a> = Option<(TypeBase, &'a str, &'a str, &'a str)>;
 
-/// A syntax, and what its chain of types gives.
+/// A type, and the syntax that its chain of types defines.
 type Row<'a> = (&'a str, Expected<'a>);
 
 fn is_syntax(found: Option<TypeSyntax<'_>>, expected: Expected<'_>) -> bool {
@@ -96,16 +96,17 @@ fn is_syntax(found: Option<TypeSyntax<'_>>, expected: Expected<'_>) -> bool {
     }
 }
 
-/// How many definitions stand before the objects in the first module.
+/// The number of definitions before the objects in the first module.
 const BEFORE: usize = 4;
 
-/// The first of these rows whose syntax isn't as the row says.
+/// Returns the index of the first of these rows whose syntax isn't as the row says.
 fn wrong_row(alloc: Global, rows: &[Row<'_>]) -> Result<Option<usize>, Fail> {
     let modules = modules(alloc, rows)?;
     wrong_row_from(alloc, &modules, BEFORE, rows)
 }
 
-/// The first wrong row of objects that begin at a place of the first module.
+/// Returns the index of the first wrong row, if the objects begin with definition `first` of the
+/// first module.
 fn wrong_row_from(
     alloc: Global,
     modules: &[Module],
@@ -136,7 +137,7 @@ fn first_wrong(modules: &[Module], types: &Types, first: usize, rows: &[Row<'_>]
 }
 
 #[test]
-fn base_types_go_by_name_and_sizes_are_the_nearest(rt: HostRuntime) -> Result<(), Fail> {
+fn base_types_are_known_by_name_and_the_nearest_size_applies(rt: HostRuntime) -> Result<(), Fail> {
     assert!(rt; wrong_row(rt.alloc(), &SYNTAXES)?.is_none());
     Ok(())
 }
@@ -161,7 +162,7 @@ static SYNTAXES: [Row<'static>; 15] = [
     ("Opaque (SIZE (2))", Some((TypeBase::Opaque, "", "", "2"))),
     ("Counter64", Some((TypeBase::Counter64, "", "", ""))),
     ("Bound", Some((TypeBase::Integer, "", "", ""))),
-    // Through two imports, to the end of the chain.
+    // Across two imports, to the end of the chain.
     (
         "Far (SIZE (1 | 3))",
         Some((TypeBase::OctetString, "255a", "", "1")),
@@ -182,19 +183,20 @@ fn assert_objects(rt: &impl Abort, alloc: Global, modules: &[Module]) -> Result<
     Ok(())
 }
 
-/// The place of the first object in the first module: the first definition with a syntax.
+/// Returns the index of the first object in the first module: the first definition with a syntax.
 fn first_object(modules: &[Module], types: &Types) -> Option<usize>
     requires { AreTypesOf modules.now types.now }
 {
-    for place in 0..=BEFORE {
-        if types.syntax(modules, 0, place).is_some() {
-            return Some(place);
+    for index in 0..=BEFORE {
+        if types.syntax(modules, 0, index).is_some() {
+            return Some(index);
         }
     }
     None
 }
 
-/// Whether there is no object after it, nor in the other modules or where there is no module.
+/// Returns whether there is no object after it, none in the other modules, and none in a module
+/// that doesn't exist.
 fn are_no_objects(modules: &[Module], types: &Types) -> bool
     requires { AreTypesOf modules.now types.now }
 {
@@ -208,7 +210,7 @@ o OBJECT-TYPE SYNTAX T0 MAX-ACCESS read-only STATUS current DESCRIPTION \"\"
 ::= { iso 1 }
 ";
 
-/// A module with an object at the head of a chain of 10,001 types.
+/// Appends a module with an object whose type is the first of a chain of 10,001 types.
 fn push_chain(text: &mut String) -> Result<(), Fail> {
     text.push_str(CHAIN)?;
     for k in 0..10_000 {

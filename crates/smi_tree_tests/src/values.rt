@@ -1,4 +1,4 @@
-//! Each row of the table of values, with each letter that affects it.
+//! The texts of values of each type, with the letters and the syntaxes that affect them.
 ghost use Rattle.std.specs.Prelude.{◌≡◌, true};
 ghost use Rattle.smi_text.specs.trees.Word.{is_word};
 ghost use Rattle.snmp_wire.specs.ber.Value.{datum};
@@ -11,7 +11,7 @@ use snmp_wire::ValueRef;
 use std::alloc::{AllocError, Global};
 use std::process::Abort;
 
-/// A value that is no identifier.
+/// A value that isn't an object identifier.
 #[derive(Clone, Copy)]
 enum Value<'a> {
     Integer(i32),
@@ -28,7 +28,7 @@ enum Value<'a> {
     EndOfMibView,
 }
 
-/// The value as it is read from a message.
+/// Returns the value as it is read from a message.
 fn value_of(value: Value<'_>) -> ValueRef<'_>
     ensures { IsNoIdentifier (datum result) }
 {
@@ -48,7 +48,7 @@ fn value_of(value: Value<'_>) -> ValueRef<'_>
     }
 }
 
-/// The text of a value.
+/// Returns the text of a value.
 fn text_of(
     alloc: Global,
     letters: &Letters,
@@ -64,7 +64,7 @@ fn text_of(
     Ok(out)
 }
 
-/// Whether the letters show the value so.
+/// Returns whether the value is shown as `text` with these letters.
 fn shows(
     alloc: Global,
     letters: &[u8],
@@ -81,10 +81,10 @@ fn shows(
     }
 }
 
-/// Letters, a value, and the text that they show of it.
+/// Letters, a value, and its text with these letters.
 type Row = (&'static [u8], Value<'static>, &'static [u8]);
 
-/// Asserts of each row that its letters show its value by its text.
+/// Asserts that each row's value is shown as its text, with its letters.
 fn assert_rows(rt: &impl Abort, alloc: Global, syntax: Option<&ValueSyntax<'_>>, rows: &[Row]) {
     for (letters, value, text) in rows {
         assert!(rt;
@@ -112,7 +112,7 @@ const NUMBERS: &[Row] = &[
 ];
 
 #[test]
-fn numbers_without_a_syntax(rt: HostRuntime) {
+fn numbers_are_shown_without_a_syntax(rt: HostRuntime) {
     assert_rows(&rt, rt.alloc(), None, NUMBERS);
 }
 
@@ -152,7 +152,7 @@ const TICKS: &[Row] = &[
 ];
 
 #[test]
-fn ticks(rt: HostRuntime) {
+fn time_ticks_are_shown_as_durations(rt: HostRuntime) {
     assert_rows(&rt, rt.alloc(), None, TICKS);
 }
 
@@ -183,16 +183,16 @@ const STRINGS: &[Row] = &[
 ];
 
 #[test]
-fn strings_without_a_hint(rt: HostRuntime) {
+fn strings_are_shown_without_a_hint(rt: HostRuntime) {
     assert_rows(&rt, rt.alloc(), None, STRINGS);
 }
 
-/// The octets of two lines.
+/// Octets that take two lines in hexadecimal.
 const OCTETS: &[u8] =
     b"\x00\x01\x02\x03\x04\x05\x06\x07\x08\x09\x0a\x0b\x0c\x0d\x0e\x0f\xf0\xe1\xd2\xc3\xb4\xa5\
     \x96\x87\x78\x69\x5a\x4b\x3c\x2d\x1e\x0f";
 
-/// These octets in hexadecimal, in two lines.
+/// `OCTETS` in hexadecimal, in two lines.
 const LINES: &[u8] = b"00 01 02 03 04 05 06 07 08 09 0A 0B 0C 0D 0E 0F \n\
     F0 E1 D2 C3 B4 A5 96 87 78 69 5A 4B 3C 2D 1E 0F ";
 
@@ -203,7 +203,7 @@ const OPAQUES: &[Row] = &[
 ];
 
 #[test]
-fn hexadecimal_lines(rt: HostRuntime) {
+fn hexadecimal_has_16_octets_a_line(rt: HostRuntime) {
     let line = Value::Octets(&OCTETS[..16]);
     assert!(rt;
         shows(
@@ -219,12 +219,13 @@ fn hexadecimal_lines(rt: HostRuntime) {
     assert_rows(&rt, rt.alloc(), None, OPAQUES);
 }
 
-/// Whether the letters show the string of this octet so.
+/// Returns whether the string of this octet is shown as `text` with these letters.
 fn shows_octet(alloc: Global, letters: &[u8], octet: u8, text: &[u8]) -> bool {
     shows(alloc, letters, None, Value::Octets(&[octet]), text)
 }
 
-/// Whether the string of this printable octet is shown as itself.
+/// Returns whether the string of this printable octet is shown as text, with a backslash before a
+/// quote or a backslash.
 fn is_shown_as_text(alloc: Global, octet: u8) -> bool {
     if octet == b'"' || octet == b'\\' {
         shows_octet(alloc, b"q", octet, &[b'"', b'\\', octet, b'"'])
@@ -234,7 +235,7 @@ fn is_shown_as_text(alloc: Global, octet: u8) -> bool {
 }
 
 #[test]
-fn every_octet_as_text(rt: HostRuntime) {
+fn each_octet_is_shown_as_text(rt: HostRuntime) {
     for octet in 32..127 {
         assert!(rt; is_shown_as_text(rt.alloc(), octet));
     }
@@ -273,7 +274,7 @@ const OTHERS: &[Row] = &[
 ];
 
 #[test]
-fn other_values(rt: HostRuntime) {
+fn other_values_are_shown(rt: HostRuntime) {
     assert_rows(&rt, rt.alloc(), None, OTHERS);
 }
 
@@ -307,11 +308,11 @@ const TIME: &[Row] = &[
 ];
 
 #[test]
-fn hints_and_units(rt: HostRuntime) {
+fn numbers_are_shown_with_hints_and_units(rt: HostRuntime) {
     let hundredths = ValueSyntax::new(ValueBase::Integer, &[], Some(b"d-2"), Some(b"degrees"));
     assert_rows(&rt, rt.alloc(), Some(&hundredths), HUNDREDTHS);
-    let bits = ValueSyntax::new(ValueBase::Gauge32, &[], Some(b"b"), Some(b"jobs"));
-    assert_rows(&rt, rt.alloc(), Some(&bits), BINARY);
+    let binary = ValueSyntax::new(ValueBase::Gauge32, &[], Some(b"b"), Some(b"jobs"));
+    assert_rows(&rt, rt.alloc(), Some(&binary), BINARY);
     let jobs = ValueSyntax::new(ValueBase::Gauge32, &[], Some(b"1x:"), Some(b"jobs"));
     assert_rows(&rt, rt.alloc(), Some(&jobs), JOBS);
     let packets = ValueSyntax::new(ValueBase::Counter32, &[], Some(b"x"), Some(b"packets"));
@@ -332,15 +333,15 @@ const ADDRESSES: &[Row] = &[
 const WITH_HINT_OF_NUMBERS: &[Row] = &[(b"", Value::Octets(b"wes"), b"STRING: \"wes\"")];
 
 #[test]
-fn strings_with_a_hint(rt: HostRuntime) {
+fn strings_are_shown_by_their_hint(rt: HostRuntime) {
     let mac = ValueSyntax::new(ValueBase::OctetString, &[], Some(b"1x:"), None);
     assert_rows(&rt, rt.alloc(), Some(&mac), ADDRESSES);
     let number = ValueSyntax::new(ValueBase::OctetString, &[], Some(b"d"), Some(b"m"));
     assert_rows(&rt, rt.alloc(), Some(&number), WITH_HINT_OF_NUMBERS);
 }
 
-/// The name with its number, from their texts.
-fn named(rt: &impl Abort, alloc: Global, name: &[u8], number: &[u8]) -> NamedNumber
+/// Returns the name with its number, from their texts.
+fn named_number(rt: &impl Abort, alloc: Global, name: &[u8], number: &[u8]) -> NamedNumber
     requires { is_word name.now ≡ true }
 {
     let octets = Text::copied(alloc, name).expect(rt, "memory");
@@ -351,11 +352,11 @@ fn named(rt: &impl Abort, alloc: Global, name: &[u8], number: &[u8]) -> NamedNum
     }
 }
 
-/// `up(1)`, `down(2)` and `again(1)`.
-fn states(rt: &impl Abort, alloc: Global) -> [NamedNumber; 3] {
-    let up = named(rt, alloc, b"up", b"1");
-    let down = named(rt, alloc, b"down", b"002");
-    let again = named(rt, alloc, b"again", b"1");
+/// Returns `up(1)`, `down(2)` and `again(1)`.
+fn state_names(rt: &impl Abort, alloc: Global) -> [NamedNumber; 3] {
+    let up = named_number(rt, alloc, b"up", b"1");
+    let down = named_number(rt, alloc, b"down", b"002");
+    let again = named_number(rt, alloc, b"again", b"1");
     [up, down, again]
 }
 
@@ -372,8 +373,8 @@ const STATES: &[Row] = &[
 ];
 
 #[test]
-fn names_of_numbers(rt: HostRuntime) {
-    let names = states(&rt, rt.alloc());
+fn numbers_are_shown_by_their_names(rt: HostRuntime) {
+    let names = state_names(&rt, rt.alloc());
     let state = ValueSyntax::new(ValueBase::Integer, &names, Some(b"d-2"), Some(b"m"));
     assert_rows(&rt, rt.alloc(), Some(&state), STATES);
 }
@@ -389,8 +390,8 @@ const FLAGS: &[Row] = &[
 ];
 
 #[test]
-fn bits(rt: HostRuntime) {
-    let names = states(&rt, rt.alloc());
+fn bits_are_shown_by_their_names(rt: HostRuntime) {
+    let names = state_names(&rt, rt.alloc());
     let flags = ValueSyntax::new(ValueBase::Bits, &names, Some(b"1x:"), Some(b"m"));
     assert_rows(&rt, rt.alloc(), Some(&flags), FLAGS);
 }

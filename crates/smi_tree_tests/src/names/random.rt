@@ -1,7 +1,7 @@
-//! Identifiers that look random, by which names are shown and read back.
+//! Pseudo-random identifiers, whose names are shown and read back.
 use snmp_oid::Oid;
 
-/// The next number of a sequence that looks random, and what is taken of it.
+/// Returns the next state of a pseudo-random sequence, and a number that is taken from it.
 fn next(state: u64) -> (u64, u32) {
     let after = state
         .wrapping_mul(6364136223846793005)
@@ -9,13 +9,13 @@ fn next(state: u64) -> (u64, u32) {
     (after, (after >> 33) as u32)
 }
 
-/// An identifier below the one of these numbers, or elsewhere. Its further numbers, at most 11, are
-/// often those of printable text.
-pub fn random_oid(front: &[u32], seed: u64) -> Oid {
+/// Returns an identifier below `prefix`, or sometimes elsewhere. Its further numbers, at most 11,
+/// are often those of printable characters.
+pub fn random_oid(prefix: &[u32], seed: u64) -> Oid {
     let (mut state, first) = next(seed);
     let mut oid = Oid::new();
     if first % 8 != 0 {
-        for number in front {
+        for number in prefix {
             let _ = oid.push(*number);
         }
     }

@@ -10,7 +10,7 @@ use std::alloc::Global;
 use std::process::Abort;
 use std::test::Fail;
 
-/// Whether a text means the identifier of these numbers.
+/// Returns whether `text` means the identifier with these numbers.
 fn means(tree: &Tree, text: &[u8], numbers: &[u32]) -> bool {
     match resolve(tree, text) {
         Ok(found) => found.as_slice() == numbers,
@@ -18,12 +18,12 @@ fn means(tree: &Tree, text: &[u8], numbers: &[u32]) -> bool {
     }
 }
 
-/// Whether a text means an identifier.
+/// Returns whether `text` means an identifier.
 fn is_meant(tree: &Tree, text: &[u8]) -> bool {
     resolve(tree, text).is_ok()
 }
 
-/// Whether a text means no identifier, for this reason.
+/// Returns whether `text` means no identifier, for this reason.
 fn is_fault(tree: &Tree, text: &[u8], fault: NameError) -> bool {
     match resolve(tree, text) {
         Ok(_) => false,
@@ -31,7 +31,7 @@ fn is_fault(tree: &Tree, text: &[u8], fault: NameError) -> bool {
     }
 }
 
-/// Whether `resolve_into` reads a text as `resolve` does.
+/// Returns whether `resolve_into` reads `text` as `resolve` does.
 fn is_read_alike(tree: &Tree, text: &[u8], oid: &mut Oid) -> bool {
     let found = resolve(tree, text);
     let other = resolve_into(tree, text, oid);
@@ -46,7 +46,7 @@ fn are_alike(found: &Result<Oid, NameError>, other: &Result<(), NameError>, oid:
     }
 }
 
-/// Names, with the numbers of what they mean.
+/// Names, with the numbers of the identifiers that they mean.
 static READ: [(&str, &[u32]); 16] = [
     (".", &[]),
     ("iso", &[1]),
@@ -83,7 +83,7 @@ fn assert_read(rt: &impl Abort, tree: &Tree) {
 }
 
 #[test]
-fn a_name_is_read_into_an_identifier_that_is_there(rt: HostRuntime) -> Result<(), Fail> {
+fn a_name_is_read_into_an_existing_identifier(rt: HostRuntime) -> Result<(), Fail> {
     let tree = sample(rt.alloc(), COUNTED, MAC)?;
     assert_read_alike(&rt, &tree);
     Ok(())
@@ -143,8 +143,9 @@ fn assert_faults(rt: &impl Abort, tree: &Tree) {
     }
 }
 
-/// Texts with the octet that ends their fronts, the numbers of what these mean, and their lengths.
-static FRONTS: [(&str, u8, &[u32], usize); 9] = [
+/// Texts that begin with a name, the octet that ends the name, the numbers of the identifier that
+/// it means, and its length.
+static PREFIXES: [(&str, u8, &[u32], usize); 9] = [
     ("iso.3|x", b'|', &[1, 3], 5),
     ("iso.3", b'|', &[1, 3], 5),
     (".|.", b'|', &[], 1),
@@ -161,8 +162,8 @@ static FRONTS: [(&str, u8, &[u32], usize); 9] = [
     ("'a|b'.1|'", b'|', &[97, 124, 98, 1], 7),
 ];
 
-/// Texts whose fronts, up to the first of this octet, have these faults.
-static BAD_FRONTS: [(&str, u8, NameError); 8] = [
+/// Texts whose prefix, up to the first of this octet, has this fault.
+static BAD_PREFIXES: [(&str, u8, NameError); 8] = [
     ("", b'|', NameError::Unknown),
     ("|1.3", b'|', NameError::Unknown),
     ("nosuch|iso", b'|', NameError::Unknown),
@@ -174,37 +175,37 @@ static BAD_FRONTS: [(&str, u8, NameError); 8] = [
 ];
 
 #[test]
-fn the_front_of_a_text_is_read(rt: HostRuntime) -> Result<(), Fail> {
+fn a_name_at_the_start_of_a_text_is_read(rt: HostRuntime) -> Result<(), Fail> {
     let tree = sample(rt.alloc(), COUNTED, MAC)?;
-    assert_fronts(&rt, &tree);
+    assert_prefixes(&rt, &tree);
     Ok(())
 }
 
-fn assert_fronts(rt: &impl Abort, tree: &Tree) {
-    for (text, stop, numbers, size) in &FRONTS {
+fn assert_prefixes(rt: &impl Abort, tree: &Tree) {
+    for (text, stop, numbers, size) in &PREFIXES {
         assert!(rt;
-            front_means(tree, text.as_bytes(), *stop, numbers, *size),
+            prefix_means(tree, text.as_bytes(), *stop, numbers, *size),
             "{text}"
         );
     }
-    for (text, stop, fault) in &BAD_FRONTS {
+    for (text, stop, fault) in &BAD_PREFIXES {
         assert!(rt;
-            is_front_fault(tree, text.as_bytes(), *stop, *fault),
+            is_prefix_fault(tree, text.as_bytes(), *stop, *fault),
             "{text}"
         );
     }
 }
 
-/// Whether the front of a text means the identifier of these numbers and has this length, by
-/// `resolve_front` and by `resolve_front_into`.
-fn front_means(tree: &Tree, text: &[u8], stop: u8, numbers: &[u32], size: usize) -> bool {
+/// Returns whether the name at the start of `text` means the identifier with these numbers and has
+/// this length, by `resolve_front` and by `resolve_front_into`.
+fn prefix_means(tree: &Tree, text: &[u8], stop: u8, numbers: &[u32], size: usize) -> bool {
     let mut oid = Oid::new();
     let found = resolve_front(tree, text, stop);
     let other = resolve_front_into(tree, text, stop, &mut oid);
-    are_fronts(&found, &other, numbers, size) && oid.as_slice() == numbers
+    are_prefixes(&found, &other, numbers, size) && oid.as_slice() == numbers
 }
 
-fn are_fronts(
+fn are_prefixes(
     found: &Result<(Oid, usize), NameError>,
     other: &Result<usize, NameError>,
     numbers: &[u32],
@@ -218,8 +219,8 @@ fn are_fronts(
     }
 }
 
-/// Whether the front of a text means no identifier, for this reason.
-fn is_front_fault(tree: &Tree, text: &[u8], stop: u8, fault: NameError) -> bool {
+/// Returns whether the start of `text` means no identifier, for this reason.
+fn is_prefix_fault(tree: &Tree, text: &[u8], stop: u8, fault: NameError) -> bool {
     let mut oid = Oid::new();
     match (
         resolve_front(tree, text, stop),
@@ -250,7 +251,7 @@ fn assert_limit(rt: &impl Abort, tree: &Tree) {
     assert!(rt; is_fault(tree, SEVENS, NameError::TooLong));
 }
 
-/// The index of the column, whether it is shown as numbers, the numbers after the column, and the
+/// The INDEX of the column, whether it is shown as numbers, the numbers after the column, and the
 /// name.
 static INSTANCES: [(&str, bool, &[u32], &str); 11] = [
     (COUNTED, false, &[], "TINY-MIB::tinyMac"),
@@ -293,7 +294,8 @@ fn instances_are_shown(rt: HostRuntime) -> Result<(), Fail> {
     Ok(())
 }
 
-/// Whether the numbers after the column are shown as this text, and the text is read back.
+/// Returns whether the column with the numbers `tail` after it is shown as `text`, and `text` is
+/// read back.
 fn shows(
     alloc: Global,
     tree: &Tree,
@@ -309,7 +311,7 @@ fn shows(
     Ok(out.as_slice() == text.as_bytes() && means(tree, &out, oid.as_slice()))
 }
 
-/// The letters of a form of names, and of whether indexes are shown as numbers.
+/// Returns the letters for a form of names, and for whether indexes are shown as numbers.
 fn letters_by(names: NameForm, numeric_index: bool) -> Letters {
     Letters {
         names,
@@ -341,7 +343,7 @@ fn assert_read_back(rt: &impl Abort, alloc: Global, tree: &Tree) -> Result<(), F
     Ok(())
 }
 
-/// Whether the names of an identifier, in numbers and by its module, are read back.
+/// Returns whether the names of an identifier, in numbers and by its module, are read back.
 fn is_read_back(alloc: Global, tree: &Tree, numeric_index: bool, oid: &Oid) -> Result<bool, Fail> {
     let numeric = letters_by(NameForm::Numeric, numeric_index);
     let named = letters_by(NameForm::ModuleLabel, numeric_index);

@@ -1,15 +1,15 @@
-//! The tree of a small module: a column, and the columns by which its rows may be identified.
+//! The tree of a small module: a column, and the objects that may be the INDEX of its rows.
 use smi_text::parse_modules;
 use smi_tree::Tree;
 use std::alloc::Global;
 use std::test::Fail;
 
-/// What stands in the module before the INDEX of its rows.
+/// The text of the module before the INDEX of its rows.
 const BEFORE: &[u8] = b"TINY-MIB DEFINITIONS ::= BEGIN
 tinyEntry OBJECT-TYPE SYNTAX TinyEntry MAX-ACCESS not-accessible
   STATUS current DESCRIPTION \"Row.\" INDEX { ";
 
-/// What stands between the INDEX of the rows and the definition of `tinyMac`.
+/// The text between the INDEX of the rows and the definition of `tinyMac`.
 const BETWEEN: &[u8] = b" } ::= { iso 3 6 }
 tinyText OBJECT-TYPE SYNTAX OCTET STRING MAX-ACCESS not-accessible
   STATUS current DESCRIPTION \"Text.\" ::= { tinyEntry 3 }
@@ -23,12 +23,12 @@ Mac ::= TEXTUAL-CONVENTION DISPLAY-HINT \"1x:\" STATUS current
   DESCRIPTION \"An address.\" SYNTAX OCTET STRING (SIZE (6))
 tinyMac ";
 
-/// What stands after the clauses of `tinyMac`.
+/// The text after the clauses of `tinyMac`.
 const AFTER: &[u8] = b" ::= { tinyEntry 2 }
 END
 ";
 
-/// An INDEX of one string, whose length stands before it.
+/// An INDEX of one string, whose length comes before it.
 pub const COUNTED: &str = "tinyText";
 
 /// An INDEX of one string, without its length.
@@ -41,8 +41,8 @@ pub const TRIPLE: &str = "tinyNumber, tinyPair, tinyAddress";
 pub const MAC: &str =
     "OBJECT-TYPE SYNTAX Mac MAX-ACCESS read-only STATUS current DESCRIPTION \"Address.\"";
 
-/// The tree of the module in which `tinyMac`, a column at 1.3.6.2, is defined by these clauses, and
-/// its rows are identified by this INDEX. It is in a box, whose `drop` is proved once.
+/// Returns the tree of the module in which `tinyMac`, a column at 1.3.6.2, is defined by `clauses`,
+/// and its rows have this INDEX. It is in a box, whose `drop` is proved once.
 pub fn sample(alloc: Global, index: &str, clauses: &str) -> Result<Box<Tree>, Fail> {
     let mut text = Vec::from_slice(alloc, BEFORE)?;
     text.extend_from_slice(index.as_bytes())?;
