@@ -1,4 +1,4 @@
-//! What is said of how a walk or a Get ended early, and the status then.
+//! The message and the status of a walk or a Get that ended early.
 
 use snmp_oid::{Oid, parse_numeric};
 use snmp_tools::Failure;
@@ -6,7 +6,7 @@ use snmp_walk::{SinkFault, WalkEnd};
 use std::alloc::Global;
 use std::process::Abort;
 
-/// Asserts that this is said, with this status, of a walk or a Get of `box:1161` that ended so.
+/// Asserts the message and the status of a walk or a Get of `box:1161` that ended with `end`.
 fn assert_said(rt: &impl Abort, alloc: Global, end: WalkEnd, text: &str, status: u8) {
     let failure = Failure::Ended("box:1161", end);
     let mut said = Vec::new(alloc);
@@ -16,7 +16,7 @@ fn assert_said(rt: &impl Abort, alloc: Global, end: WalkEnd, text: &str, status:
 }
 
 #[test]
-fn ids_that_are_used_up_are_too_many_requests(rt: HostRuntime) {
+fn used_up_ids_are_too_many_requests(rt: HostRuntime) {
     let end = WalkEnd::TooManyRequests;
     assert_said(&rt, rt.alloc(), end, "Too many requests.", 1);
 }
@@ -41,23 +41,23 @@ fn other_ends_have_their_messages(rt: HostRuntime) {
     assert_said(&rt, rt.alloc(), WalkEnd::Fault(-1, -2), unknown, 2);
 }
 
-/// The identifier of this text.
+/// Returns the identifier of this text.
 fn name(rt: &impl Abort, text: &[u8]) -> Oid {
     parse_numeric(text).expect(rt, "a name")
 }
 
 #[test]
-fn names_that_end_a_walk_are_told(rt: HostRuntime) {
+fn names_that_end_a_walk_are_reported(rt: HostRuntime) {
     let asked = name(&rt, b"1.3.6.1");
     let none = "No progress after .1.3.6.1";
     assert_said(&rt, rt.alloc(), WalkEnd::NoProgress { asked }, none, 1);
     let (last, got) = (name(&rt, b"1.3.6.2"), name(&rt, b"1.3.6"));
-    let falling = "Error: OID not increasing: .1.3.6.2 >= .1.3.6";
+    let decreasing = "Error: OID not increasing: .1.3.6.2 >= .1.3.6";
     assert_said(
         &rt,
         rt.alloc(),
         WalkEnd::NotIncreasing { last, got },
-        falling,
+        decreasing,
         1,
     );
 }

@@ -1,4 +1,4 @@
-//! The texts of errors.
+//! The messages of errors.
 
 use smi_show::NameError;
 use smi_text::{LexError, ParseError};
@@ -11,7 +11,7 @@ use snmp_words::UsageError;
 use std::alloc::Global;
 use std::fmt::Display;
 
-/// Whether an error has this text.
+/// Returns whether `error` is displayed as `text`.
 fn says<E: Display + Drop>(alloc: Global, error: E, text: &str) -> bool {
     match format!(in alloc; "{error}") {
         Ok(said) => said.as_str() == text,
@@ -20,7 +20,7 @@ fn says<E: Display + Drop>(alloc: Global, error: E, text: &str) -> bool {
 }
 
 #[test]
-fn errors_of_messages(rt: HostRuntime) {
+fn errors_of_messages_have_their_texts(rt: HostRuntime) {
     for (error, text) in [
         (BerError::Truncated, "the message is cut short"),
         (BerError::Trailing, "octets follow the message"),
@@ -42,7 +42,7 @@ fn errors_of_messages(rt: HostRuntime) {
 }
 
 #[test]
-fn errors_of_identifiers_and_names(rt: HostRuntime) {
+fn errors_of_identifiers_and_names_have_their_texts(rt: HostRuntime) {
     for (error, text) in [
         (
             OidError::TooLong,
@@ -69,7 +69,7 @@ fn errors_of_identifiers_and_names(rt: HostRuntime) {
 }
 
 #[test]
-fn errors_of_tables(rt: HostRuntime) {
+fn errors_of_tables_have_their_texts(rt: HostRuntime) {
     for (error, text) in [
         (TableError::BadLine { line: 1 }, "line 1: bad line"),
         (TableError::BadName { line: 2 }, "line 2: bad name"),
@@ -89,7 +89,7 @@ fn errors_of_tables(rt: HostRuntime) {
 }
 
 #[test]
-fn errors_of_modules(rt: HostRuntime) {
+fn errors_of_modules_have_their_texts(rt: HostRuntime) {
     for (error, text) in [
         (
             LexError::BadByte { line: 5 },
@@ -119,7 +119,7 @@ fn errors_of_modules(rt: HostRuntime) {
 }
 
 #[test]
-fn errors_of_walks_and_files(rt: HostRuntime) {
+fn errors_of_walks_and_files_have_their_texts(rt: HostRuntime) {
     for (error, text) in [
         (StartError::NotWire, "the name can't be sent"),
         (

@@ -1,4 +1,4 @@
-//! Outputs that fail, and words that make no command.
+//! Outputs that fail, and arguments that aren't a command.
 
 use crate::run::{OF_THREE, assert_runs_within, status_of};
 use snmp_io::memory::MemoryOutput;
@@ -6,7 +6,7 @@ use snmp_net::memory::MemoryLinks;
 use std::alloc::{AllocError, Global};
 
 #[test]
-fn an_output_that_fails_after_forty_octets(rt: HostRuntime) {
+fn an_output_that_fails_ends_the_walk(rt: HostRuntime) {
     assert_runs_within(
         &rt,
         rt.alloc(),
@@ -22,7 +22,7 @@ fn an_output_that_fails_after_forty_octets(rt: HostRuntime) {
 }
 
 #[test]
-fn faults_that_cannot_be_told_change_nothing_else(rt: HostRuntime) {
+fn messages_that_cannot_be_written_change_nothing_else(rt: HostRuntime) {
     assert_runs_within(
         &rt,
         rt.alloc(),
@@ -37,8 +37,8 @@ fn faults_that_cannot_be_told_change_nothing_else(rt: HostRuntime) {
     );
 }
 
-/// The status of a command line, and whether it prints something on standard output, and on
-/// standard error.
+/// Runs a command line. Returns its status, and whether it prints something on standard output and
+/// on standard error.
 fn status_and_printing(alloc: Global, line: &str) -> Result<(u8, bool, bool), AllocError> {
     let mut links = MemoryLinks::new(alloc, &[], &[]);
     let mut out = MemoryOutput::new(alloc);
@@ -48,7 +48,7 @@ fn status_and_printing(alloc: Global, line: &str) -> Result<(u8, bool, bool), Al
 }
 
 #[test]
-fn words_that_make_no_command(rt: HostRuntime) {
+fn bad_arguments_and_help_have_their_outputs(rt: HostRuntime) {
     let ended = status_and_printing(rt.alloc(), "snmp snmpwalk");
     assert!(rt; matches!(ended, Ok((1, false, true))));
     let ended = status_and_printing(rt.alloc(), "snmp snmpwalk --help");

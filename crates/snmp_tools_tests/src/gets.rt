@@ -3,7 +3,7 @@
 use crate::run::{Held, NO_LIMITS, OF_THREE, assert_prints, assert_runs_within};
 
 #[test]
-fn a_value_and_an_exception(rt: HostRuntime) {
+fn values_and_exceptions_are_printed(rt: HostRuntime) {
     const OF_AN_OBJECT: Held<'static> = &[(
         "t.tab",
         b"object 1.3.6.1.4.1.32473.1\n1.3.6.1.4.1.32473.1.10.0|2|3\n",
@@ -40,7 +40,7 @@ fn a_value_and_an_exception(rt: HostRuntime) {
 }
 
 #[test]
-fn names_in_the_order_given_and_again(rt: HostRuntime) {
+fn names_are_printed_in_the_order_given_and_as_often(rt: HostRuntime) {
     assert_prints(
         &rt,
         rt.alloc(),
@@ -55,7 +55,7 @@ fn names_in_the_order_given_and_again(rt: HostRuntime) {
 }
 
 #[test]
-fn replies_that_have_no_room(rt: HostRuntime) {
+fn a_reply_without_room_is_an_error_or_missing(rt: HostRuntime) {
     assert_runs_within(
         &rt,
         rt.alloc(),
@@ -79,7 +79,7 @@ fn replies_that_have_no_room(rt: HostRuntime) {
 }
 
 #[test]
-fn an_output_that_fails_in_the_second_line(rt: HostRuntime) {
+fn an_output_that_fails_in_the_second_line_ends_the_get(rt: HostRuntime) {
     assert_runs_within(
         &rt,
         rt.alloc(),

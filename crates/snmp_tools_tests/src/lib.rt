@@ -1,5 +1,5 @@
-//! Tests that go through several crates: from words to lines, over files and outputs in memory; and
-//! of outputs, files, messages, module files and translations alone.
+//! Tests that go through several crates: from arguments to lines, over files and outputs in memory.
+//! Also tests of outputs, files, messages, module files and translations by themselves.
 #![tactic(auto)]
 
 #[cfg(test)]

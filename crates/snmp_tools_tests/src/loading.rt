@@ -1,4 +1,4 @@
-//! What a load of module files gives.
+//! Trees that are loaded from module files.
 
 use crate::tiny::{ACROSS, TINY, WELL};
 use smi_tree::Tree;
@@ -11,29 +11,29 @@ use std::process::Abort;
 use std::test::Fail;
 
 // The files of the tests.
-const HELD: &[(&str, &[u8])] = &[
+const FILES: &[(&str, &[u8])] = &[
     ("tiny.txt", TINY),
     ("across.txt", ACROSS),
     ("well.txt", WELL),
 ];
 
-// The tree that files give, or what refuses them.
+// Returns the tree of these files, or why they are refused.
 fn load<'a>(
     alloc: Global,
     paths: &[&'a str],
     err: &mut MemoryOutput,
 ) -> Result<Tree, FilesError<'a>> {
-    let files = MemoryFiles { files: HELD };
+    let files = MemoryFiles { files: FILES };
     load_tree(alloc, &files, paths, err)
 }
 
-// Asserts what the tree of `across.txt` and `well.txt` holds.
+// Asserts that the tree is that of `across.txt` and `well.txt`.
 fn assert_across(rt: &impl Abort, tree: &Tree) {
     assert!(rt; tree.len() == 5);
-    let Some(place) = tree.find(b"ACROSS-MIB", b"across") else {
+    let Some(id) = tree.find(b"ACROSS-MIB", b"across") else {
         panic!(rt; "no node")
     };
-    assert!(rt; place < tree.len() && tree.node(place).oid.as_slice() == [1, 7, 2].as_slice());
+    assert!(rt; id < tree.len() && tree.node(id).oid.as_slice() == [1, 7, 2].as_slice());
 }
 
 #[test]
@@ -46,7 +46,7 @@ fn names_are_found_across_files(rt: HostRuntime) -> Result<(), Fail> {
     Ok(())
 }
 
-// Asserts that the tree is loaded, and that the output took 20 octets of the warnings.
+// Asserts that the tree is loaded, and that the output accepted 20 octets of the warnings.
 fn assert_cut_off(rt: &impl Abort, tree: &Tree, err: &MemoryOutput) {
     assert!(rt; tree.len() == 15);
     assert!(rt; err.octets() == b"snmp: TINY-MIB impor".as_slice());
@@ -62,10 +62,10 @@ fn a_tree_is_loaded_though_the_output_fails(rt: HostRuntime) -> Result<(), Fail>
 }
 
 #[test]
-fn a_tree_is_the_same_whatever_the_key(rt: HostRuntime) -> Result<(), Fail> {
+fn a_tree_is_the_same_with_any_hash_key(rt: HostRuntime) -> Result<(), Fail> {
     let mut err = MemoryOutput::new(rt.alloc());
     let files = KeyedFiles {
-        files: MemoryFiles { files: HELD },
+        files: MemoryFiles { files: FILES },
         key: RandomState::new(&rt).ok(),
     };
     let tree = load_tree(rt.alloc(), &files, &["across.txt", "well.txt"], &mut err)?;

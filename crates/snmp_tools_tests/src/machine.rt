@@ -1,4 +1,4 @@
-//! Outputs and files, the machine's and those in memory: what no clause says, such as that calls
+//! Outputs and files, of the machine and in memory: what no contract says, such as that calls
 //! succeed and that an interrupted write is tried again.
 
 use snmp_io::memory::{MemoryFiles, MemoryOutput};
@@ -8,8 +8,8 @@ use std::io;
 use std::io::{ErrorKind, Write};
 use std::process::Abort;
 
-// An output that interrupts each second write, from the first on, takes at most three octets a
-// write, and is full after eight.
+// An output that interrupts every second write, beginning with the first. It accepts at most three
+// octets a write, and is full after eight.
 #[derive(Drop)]
 struct Hesitant {
     turns: u32,
@@ -41,7 +41,7 @@ fn interrupted_writes_are_tried_again(rt: HostRuntime) {
     assert_eq!(rt; out.faults(), 1);
 }
 
-// An output takes five octets and no more.
+// Asserts that an output accepts five octets and no more.
 fn assert_takes_five(rt: &impl Abort, out: &mut MemoryOutput) {
     assert!(rt; write_all(out, b"abc").is_ok());
     assert!(rt; write_all(out, b"def").is_err());
@@ -49,35 +49,35 @@ fn assert_takes_five(rt: &impl Abort, out: &mut MemoryOutput) {
     assert_eq!(rt; out.faults(), 1);
 }
 
-// An output takes six octets.
+// Asserts that an output accepts six octets.
 fn assert_takes_six(rt: &impl Abort, out: &mut MemoryOutput) {
     assert!(rt; write_all(out, b"abcdef").is_ok());
     assert!(rt; out.octets() == b"abcdef".as_slice());
 }
 
 #[test]
-fn memory_takes_up_to_its_limit(rt: HostRuntime) {
+fn an_output_in_memory_accepts_octets_up_to_its_limit(rt: HostRuntime) {
     let mut limited = MemoryOutput::with_limit(rt.alloc(), 5);
     assert_takes_five(&rt, &mut limited);
     let mut all = MemoryOutput::new(rt.alloc());
     assert_takes_six(&rt, &mut all);
 }
 
-// A file is read, and has these octets.
+// Asserts that a file can be read, and has these octets.
 fn assert_read(rt: &impl Abort, alloc: Global, files: &impl Files, path: &str, octets: &[u8]) {
     assert!(rt; files.read(alloc, path).expect(rt, path).as_slice() == octets);
 }
 
-// A file can't be read.
+// Asserts that a file can't be read.
 fn assert_unreadable(rt: &impl Abort, alloc: Global, files: &impl Files, path: &str) {
     assert!(rt; matches!(files.read(alloc, path), Err(FileFault::Unreadable)));
 }
 
 #[test]
-fn files_are_read(rt: HostRuntime) {
+fn files_are_read_or_unreadable(rt: HostRuntime) {
     let alloc = rt.alloc();
-    let held = [("a", b"text".as_slice()), ("b", b"".as_slice())];
-    let files = MemoryFiles { files: &held };
+    let contents = [("a", b"text".as_slice()), ("b", b"".as_slice())];
+    let files = MemoryFiles { files: &contents };
     assert_read(&rt, alloc, &files, "a", b"text");
     assert_read(&rt, alloc, &files, "b", b"");
     assert_unreadable(&rt, alloc, &files, "c");

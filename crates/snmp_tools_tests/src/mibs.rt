@@ -1,4 +1,4 @@
-//! Names and types by module files.
+//! Names and types from module files.
 
 use crate::run::{Held, NO_LIMITS, Run, assert_runs_within};
 use crate::tiny::{TINY, WARNINGS};
@@ -10,7 +10,7 @@ const TABLE: &[u8] = b"object 1.3.6.1.4.1.32473.1\n1.3.6.1.4.1.32473.1.0|2|1\n\
 1.3.6.1.4.1.32473.2.1.2.3.119.101.115|4x|00163E5A788E\n\
 1.3.6.1.4.1.32473.3.1.1.119.101.115|66|5\n";
 
-/// The lines of a walk over it, by the modules.
+/// The lines of a walk over `TABLE`, with the modules.
 const LINES: &str = "TINY-MIB::tinyState.0 = INTEGER: up(1)\n\
 TINY-MIB::tinyMac.\"wes\" = STRING: 0:16:3e:5a:78:8e\n\
 TINY-MIB::tinyKeyUse.'wes' = Gauge32: 5 jobs\n";
@@ -19,7 +19,7 @@ TINY-MIB::tinyKeyUse.'wes' = Gauge32: 5 jobs\n";
 const FILES: Held<'static> = &[("tiny.txt", TINY), ("tiny.tab", TABLE)];
 
 #[test]
-fn lines_by_module_files(rt: HostRuntime) {
+fn lines_have_the_names_and_types_of_module_files(rt: HostRuntime) {
     assert_runs_within(
         &rt,
         rt.alloc(),
@@ -51,7 +51,7 @@ TINY-MIB::tinyState.1 = No Such Instance currently exists at this OID\n",
     );
 }
 
-/// Asserts the runs where standard error takes no more octets than each of these limits.
+/// Asserts the runs with a standard error that accepts no more octets than each of these limits.
 fn assert_cut_off(rt: &impl Abort, alloc: Global, limits: &[usize], runs: &[Run<'_>]) {
     for limit in limits {
         assert_runs_within(rt, alloc, FILES, (usize::MAX, *limit), runs);

@@ -1,4 +1,4 @@
-//! Walks and Gets over the network, by links in memory.
+//! Walks and Gets over the network, here links in memory.
 
 use crate::run::{NO_LIMITS, Run, THREE, THREE_LINES, assert_runs_over};
 use snmp_agent::{Config, Table};
@@ -7,8 +7,8 @@ use std::alloc::Global;
 use std::process::Abort;
 use std::test::Fail;
 
-/// The agent that serves the three rows at port 1161 of `device`, with the community `secret`, and
-/// brings these deliveries.
+/// Returns the agent that serves the three rows at port 1161 of `device`, with community `secret`.
+/// Its link has these deliveries.
 fn device<'a>(table: &'a Table, deliveries: &'a [Option<usize>]) -> MemoryAgent<'a> {
     MemoryAgent {
         host: "device",
@@ -22,7 +22,7 @@ fn device<'a>(table: &'a Table, deliveries: &'a [Option<usize>]) -> MemoryAgent<
     }
 }
 
-/// Asserts the runs over links to the device that brings these deliveries.
+/// Asserts the runs over links to the device, which have these deliveries.
 fn assert_runs_at_device(
     rt: &impl Abort,
     alloc: Global,
@@ -54,7 +54,7 @@ fn late_replies_change_no_line(rt: HostRuntime) -> Result<(), Fail> {
 }
 
 #[test]
-fn a_walk_ends_where_no_reply_comes(rt: HostRuntime) -> Result<(), Fail> {
+fn a_walk_ends_if_no_reply_arrives(rt: HostRuntime) -> Result<(), Fail> {
     const FIRST_LINE: &str = ".1.3.6.1.4.1.32473.1.1.0 = INTEGER: 1\n";
     assert_runs_at_device(
         &rt,
@@ -90,7 +90,7 @@ fn a_walk_ends_where_no_reply_comes(rt: HostRuntime) -> Result<(), Fail> {
 }
 
 #[test]
-fn agents_that_are_not_reached(rt: HostRuntime) -> Result<(), Fail> {
+fn an_agent_that_is_not_reached_is_reported(rt: HostRuntime) -> Result<(), Fail> {
     assert_runs_at_device(
         &rt,
         rt.alloc(),
@@ -113,7 +113,7 @@ fn agents_that_are_not_reached(rt: HostRuntime) -> Result<(), Fail> {
 }
 
 #[test]
-fn a_device_is_asked_for_a_name(rt: HostRuntime) -> Result<(), Fail> {
+fn a_get_is_sent_again_until_its_reply_arrives(rt: HostRuntime) -> Result<(), Fail> {
     const LINE: &str = ".1.3.6.1.4.1.32473.1.1.0 = INTEGER: 1\n";
     assert_runs_at_device(
         &rt,

@@ -1,4 +1,4 @@
-//! Which links the tools open, and all that they send over each.
+//! The links that the tools open, and all that they send over each.
 ghost use Rattle.std.specs.Prelude.{None, refl};
 
 use crate::run::{OF_THREE, THREE, THREE_LINES};
@@ -13,8 +13,8 @@ use std::cell::Cell;
 use std::process::Abort;
 use std::test::Fail;
 
-/// A link in memory that takes the expected datagrams, each whole and in their order, and no
-/// others. `sent` counts them, and is the greatest number once another one was to be sent.
+/// A link in memory that accepts only the expected datagrams, in their order. `sent` counts them,
+/// and is `usize::MAX` after an attempt to send another one.
 #[derive(Drop)]
 struct Expecting<'a> {
     link: MemoryLink<'a>,
@@ -74,12 +74,12 @@ impl<'a> Link for Expecting<'a> {
     }
 }
 
-/// A door that isn't opened.
+/// A door, the socket of a server. It is never opened.
 #[derive(Drop)]
 struct NoDoor;
 
-/// Links to an agent in memory, which together take these datagrams, and how many links were asked
-/// for.
+/// Links to an agent in memory, which together accept these datagrams. `asked` counts the calls to
+/// open a link or a door.
 #[derive(Drop)]
 struct Counting<'a> {
     alloc: Global,
@@ -152,8 +152,8 @@ impl<'a> Links for Counting<'a> {
 /// links it opens, and the datagrams that it sends.
 type Asking<'a> = ((&'a str, &'a str, &'a str, u8), u64, &'a [&'a [u8]]);
 
-/// Whether the command line prints its texts, opens so many links, and sends these datagrams, all
-/// of them and no others.
+/// Returns whether the command line prints its texts, opens `opened` links, and sends exactly the
+/// expected datagrams.
 fn asks(
     alloc: Global,
     table: &Table,
@@ -185,8 +185,8 @@ fn asks(
     )
 }
 
-/// Asserts of each of the command lines that it prints its texts, opens so many links, and sends
-/// these datagrams.
+/// Asserts of each of the command lines that it prints its texts, opens its number of links, and
+/// sends exactly its datagrams.
 fn assert_asks(
     rt: &impl Abort,
     alloc: Global,
@@ -201,40 +201,42 @@ fn assert_asks(
     Ok(())
 }
 
-/// The GetNext of 1.3.6.1.4.1.32473.1, in community `secret` with id 1.
+/// The GetNextRequest of 1.3.6.1.4.1.32473.1, with community `secret` and id 1.
 const FROM_ROOT: &[u8] = &[
     0x30, 0x27, 0x02, 0x01, 0x01, 0x04, 0x06, 0x73, 0x65, 0x63, 0x72, 0x65, 0x74, 0xA1, 0x1A, 0x02,
     0x01, 0x01, 0x02, 0x01, 0x00, 0x02, 0x01, 0x00, 0x30, 0x0F, 0x30, 0x0D, 0x06, 0x09, 0x2B, 0x06,
     0x01, 0x04, 0x01, 0x81, 0xFD, 0x59, 0x01, 0x05, 0x00,
 ];
 
-/// The GetNext of each of the three rows, with ids 2 to 4.
+/// The GetNextRequest of the first row, with id 2.
 const FROM_FIRST: &[u8] = &[
     0x30, 0x29, 0x02, 0x01, 0x01, 0x04, 0x06, 0x73, 0x65, 0x63, 0x72, 0x65, 0x74, 0xA1, 0x1C, 0x02,
     0x01, 0x02, 0x02, 0x01, 0x00, 0x02, 0x01, 0x00, 0x30, 0x11, 0x30, 0x0F, 0x06, 0x0B, 0x2B, 0x06,
     0x01, 0x04, 0x01, 0x81, 0xFD, 0x59, 0x01, 0x01, 0x00, 0x05, 0x00,
 ];
 
+/// The GetNextRequest of the second row, with id 3.
 const FROM_SECOND: &[u8] = &[
     0x30, 0x29, 0x02, 0x01, 0x01, 0x04, 0x06, 0x73, 0x65, 0x63, 0x72, 0x65, 0x74, 0xA1, 0x1C, 0x02,
     0x01, 0x03, 0x02, 0x01, 0x00, 0x02, 0x01, 0x00, 0x30, 0x11, 0x30, 0x0F, 0x06, 0x0B, 0x2B, 0x06,
     0x01, 0x04, 0x01, 0x81, 0xFD, 0x59, 0x01, 0x02, 0x00, 0x05, 0x00,
 ];
 
+/// The GetNextRequest of the last row, with id 4.
 const FROM_LAST: &[u8] = &[
     0x30, 0x29, 0x02, 0x01, 0x01, 0x04, 0x06, 0x73, 0x65, 0x63, 0x72, 0x65, 0x74, 0xA1, 0x1C, 0x02,
     0x01, 0x04, 0x02, 0x01, 0x00, 0x02, 0x01, 0x00, 0x30, 0x11, 0x30, 0x0F, 0x06, 0x0B, 0x2B, 0x06,
     0x01, 0x04, 0x01, 0x81, 0xFD, 0x59, 0x01, 0x0A, 0x00, 0x05, 0x00,
 ];
 
-/// The GetBulk of ten repetitions from 1.3.6.1.4.1.32473.1.
+/// The GetBulkRequest from 1.3.6.1.4.1.32473.1 with max-repetitions 10.
 const BULK: &[u8] = &[
     0x30, 0x27, 0x02, 0x01, 0x01, 0x04, 0x06, 0x73, 0x65, 0x63, 0x72, 0x65, 0x74, 0xA5, 0x1A, 0x02,
     0x01, 0x01, 0x02, 0x01, 0x00, 0x02, 0x01, 0x0A, 0x30, 0x0F, 0x30, 0x0D, 0x06, 0x09, 0x2B, 0x06,
     0x01, 0x04, 0x01, 0x81, 0xFD, 0x59, 0x01, 0x05, 0x00,
 ];
 
-/// The Get of the last row and the first.
+/// The GetRequest of the last row and the first.
 const GET: &[u8] = &[
     0x30, 0x3A, 0x02, 0x01, 0x01, 0x04, 0x06, 0x73, 0x65, 0x63, 0x72, 0x65, 0x74, 0xA0, 0x2D, 0x02,
     0x01, 0x01, 0x02, 0x01, 0x00, 0x02, 0x01, 0x00, 0x30, 0x22, 0x30, 0x0F, 0x06, 0x0B, 0x2B, 0x06,
@@ -255,7 +257,7 @@ const TWO_LINES: &str = ".1.3.6.1.4.1.32473.1.10.0 = INTEGER: 3\n\
 const SILENT: &str = "Timeout: No Response from device.\n";
 
 #[test]
-fn one_link_is_opened_and_the_stated_requests_are_sent(rt: HostRuntime) -> Result<(), Fail> {
+fn one_link_is_opened_and_only_the_expected_requests_are_sent(rt: HostRuntime) -> Result<(), Fail> {
     assert_asks(
         &rt,
         rt.alloc(),
@@ -272,7 +274,7 @@ fn one_link_is_opened_and_the_stated_requests_are_sent(rt: HostRuntime) -> Resul
     )
 }
 
-/// Nothing comes until the sixth datagram was sent, whose reply it is that comes then.
+/// Nothing arrives until the sixth datagram was sent. Then its reply arrives.
 const AT_SIXTH: &[Option<usize>] = &[None, None, None, None, None, Some(6)];
 
 #[test]
@@ -362,11 +364,11 @@ const NOTHING_SENT: &[Asking<'static>] = &[
 ];
 
 #[test]
-fn without_an_agent_or_a_start_nothing_is_sent(rt: HostRuntime) -> Result<(), Fail> {
+fn without_an_agent_or_a_valid_start_nothing_is_sent(rt: HostRuntime) -> Result<(), Fail> {
     assert_asks(&rt, rt.alloc(), &[], NOTHING_SENT)
 }
 
-/// An output that notes at each write how many datagrams were sent before it.
+/// An output that records at each write how many datagrams were sent before it.
 #[derive(Drop)]
 struct Noting<'a> {
     sent: &'a Cell<usize>,
@@ -394,7 +396,7 @@ impl Output for Noting<'_> {
     ghost after_takes = { λ _ _. refl };
 }
 
-/// Asserts at each write of the lines of the command line how many datagrams were sent before it.
+/// Asserts how many datagrams were sent before each write to standard output.
 fn assert_notes(
     rt: &impl Abort,
     alloc: Global,

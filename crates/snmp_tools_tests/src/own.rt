@@ -1,4 +1,4 @@
-//! The tools over files and outputs of a caller's own.
+//! The tools over a caller's own files and outputs.
 ghost use Rattle.std.specs.Prelude.{None, refl};
 
 use crate::run::{THREE, THREE_LINES};
@@ -9,7 +9,7 @@ use std::alloc::Global;
 use std::cell::Cell;
 use std::hash::RandomState;
 
-/// Files that hold one text, whatever the path, and count how often their key is asked for.
+/// Files that have one text at every path, and count how many times their key is asked for.
 #[derive(Drop)]
 struct OneText<'a> {
     text: &'a [u8],
@@ -29,7 +29,7 @@ impl Files for OneText<'_> {
     }
 }
 
-/// An output that counts what it takes.
+/// An output that counts the octets that it accepts.
 #[derive(Drop)]
 struct Counter {
     octets: usize,

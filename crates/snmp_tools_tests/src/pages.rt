@@ -3,23 +3,23 @@
 use crate::run::{NO_LIMITS, prints};
 use std::alloc::{AllocError, Global};
 
-/// The text of `count` rows, whose numbers go up by `step` modulo `count`, and the lines of a walk
-/// over them.
+/// Returns the text of `count` rows, whose numbers begin with 0 and increase by `step` modulo
+/// `count`, and the lines of a walk over them.
 fn rows_of(alloc: Global, count: u32, step: u32) -> Result<(String, String), AllocError> {
     let mut text = String::new(alloc);
     let mut lines = String::new(alloc);
-    for place in 0..count {
-        let number = place.wrapping_mul(step) % count.max(1);
+    for index in 0..count {
+        let number = index.wrapping_mul(step) % count.max(1);
         write!(text, "1.3.6.1.4.1.32473.1.{number}.0|65|{number}\n")?;
         write!(
             lines,
-            ".1.3.6.1.4.1.32473.1.{place}.0 = Counter32: {place}\n"
+            ".1.3.6.1.4.1.32473.1.{index}.0 = Counter32: {index}\n"
         )?;
     }
     Ok((text, lines))
 }
 
-/// Whether a walk prints the lines of such rows, all of them and nothing else.
+/// Returns whether a walk prints the lines of such rows, all of them and nothing else.
 fn is_printed(alloc: Global, words: &str, count: u32, step: u32) -> Result<bool, AllocError> {
     let (text, lines) = rows_of(alloc, count, step)?;
     let files = [("pages.tab", text.as_bytes())];
@@ -27,8 +27,8 @@ fn is_printed(alloc: Global, words: &str, count: u32, step: u32) -> Result<bool,
 }
 
 #[test]
-fn lines_of_several_pages_come_in_order(rt: HostRuntime) {
-    // A step that has no factor in common with a count comes to each number once.
+fn lines_of_several_pages_are_in_order(rt: HostRuntime) {
+    // A step without a common factor with a count reaches each number once.
     for &count in &[127, 128, 129, 257, 513] {
         for &step in &[1, 101] {
             for &words in &[

@@ -6,34 +6,34 @@ use snmp_tools::tool;
 use std::alloc::{AllocError, Global};
 use std::process::Abort;
 
-/// The table of three instances.
+/// A table of three instances.
 pub const THREE: &[u8] =
     b"1.3.6.1.4.1.32473.1.10.0|2|3\n1.3.6.1.4.1.32473.1.2.0|4|wes\n1.3.6.1.4.1.32473.1.1.0|2|1\n";
 
-/// The lines of a walk over it.
+/// The lines of a walk over `THREE`.
 pub const THREE_LINES: &str = ".1.3.6.1.4.1.32473.1.1.0 = INTEGER: 1\n\
     .1.3.6.1.4.1.32473.1.2.0 = STRING: \"wes\"\n\
     .1.3.6.1.4.1.32473.1.10.0 = INTEGER: 3\n";
 
-/// Files: paths with their texts.
+/// Files: paths with their contents.
 pub type Held<'a> = &'a [(&'a str, &'a [u8])];
 
-/// A file `t.tab` with the table of three instances.
+/// The file `t.tab`, with a table of three instances.
 pub const OF_THREE: Held<'static> = &[("t.tab", THREE)];
 
 /// A command line, what it must print on standard output and on standard error, and its status.
 ///
-/// Its words are what stands between spaces: a word is empty between two spaces in a row, and after
-/// one at the end.
+/// Its arguments are separated by single spaces. So one is empty between two spaces in a row, and
+/// after a space at the end.
 pub type Run<'a> = (&'a str, &'a str, &'a str, u8);
 
-/// How many octets standard output and standard error take.
+/// How many octets standard output and standard error accept.
 pub type Room = (usize, usize);
 
-/// Outputs that take as much as memory holds.
+/// Outputs that accept as much as memory holds.
 pub const NO_LIMITS: Room = (usize::MAX, usize::MAX);
 
-/// The status of a command line over files, links and outputs.
+/// Runs a command line over files, links and outputs, and returns its status.
 pub fn status_of(
     alloc: Global,
     line: &str,
@@ -47,14 +47,14 @@ pub fn status_of(
     Ok(tool(alloc, &words, &files, links, out, err))
 }
 
-/// Whether an output that takes `limit` octets took as much of the text as that.
+/// Returns whether an output that accepts `limit` octets has that many of the text, or all of it.
 fn has_taken(output: &MemoryOutput, limit: usize, text: &str) -> bool {
     let octets = output.octets();
     text.as_bytes().starts_with(octets) && octets.len() == limit.min(text.len())
 }
 
-/// Whether the run over files and links prints its texts, as much of them as the outputs take, and
-/// has its status.
+/// Returns whether the run over files and links prints its texts, as far as the outputs accept
+/// them, and has its status.
 pub fn prints_over(
     alloc: Global,
     files: Held<'_>,
@@ -69,8 +69,8 @@ pub fn prints_over(
     Ok(ended == status && has_taken(&out, room.0, lines) && has_taken(&err, room.1, messages))
 }
 
-/// Whether the run over files, with no agent, prints its texts, as much of them as the outputs
-/// take, and has its status.
+/// Returns whether the run over files, without an agent, prints its texts, as far as the outputs
+/// accept them, and has its status.
 pub fn prints(
     alloc: Global,
     files: Held<'_>,
@@ -82,7 +82,7 @@ pub fn prints(
 }
 
 /// Asserts that each of the runs over files and links, one after the other, prints its texts, as
-/// much of them as the outputs take, and has its status.
+/// far as the outputs accept them, and has its status.
 pub fn assert_runs_over(
     rt: &impl Abort,
     alloc: Global,
@@ -97,8 +97,8 @@ pub fn assert_runs_over(
     }
 }
 
-/// Asserts that each of the runs over files, with no agent, prints its texts, as much of them as
-/// the outputs take, and has its status.
+/// Asserts that each of the runs over files, without an agent, prints its texts, as far as the
+/// outputs accept them, and has its status.
 pub fn assert_runs_within(
     rt: &impl Abort,
     alloc: Global,
@@ -115,7 +115,7 @@ pub fn assert_runs_within(
     }
 }
 
-/// Asserts that each of the command lines prints these lines alone and has status 0.
+/// Asserts that each of the command lines prints these lines and nothing else, and has status 0.
 pub fn assert_prints(rt: &impl Abort, alloc: Global, files: Held<'_>, lines: &[(&str, &str)]) {
     for (line, printed) in lines {
         let run = (*line, *printed, "", 0);

@@ -3,7 +3,7 @@
 use crate::run::{NO_LIMITS, OF_THREE, assert_runs_over};
 use snmp_net::memory::MemoryLinks;
 
-/// A Get of sysName.0, community `public`, id 1.
+/// A GetRequest of sysName.0, with community `public` and id 1.
 const GET: &[u8] = b"\x30\x26\x02\x01\x01\x04\x06public\xa0\x19\x02\x01\x01\x02\x01\x00\
 \x02\x01\x00\x30\x0e\x30\x0c\x06\x08\x2b\x06\x01\x02\x01\x01\x05\x00\x05\x00";
 
@@ -59,7 +59,7 @@ fn replies_and_dropped_datagrams_are_counted(rt: HostRuntime) {
 }
 
 #[test]
-fn a_place_to_listen_has_no_prefix(rt: HostRuntime) {
+fn an_address_to_listen_at_has_no_prefix(rt: HostRuntime) {
     let mut links = MemoryLinks::new(rt.alloc(), &[], &[]);
     assert_runs_over(
         &rt,

@@ -1,4 +1,4 @@
-//! Table files whose names are read by the nodes of loaded modules.
+//! Table files whose names are looked up in loaded modules.
 
 use crate::run::{Held, NO_LIMITS, Run, assert_prints, assert_runs_within};
 
@@ -17,7 +17,8 @@ namedValue OBJECT-TYPE SYNTAX INTEGER MAX-ACCESS read-only
 END
 ";
 
-/// Names by label, by module and label, from the roots on, and in numbers; with bars in quotes.
+/// Names as a label, as a module and a label, as labels from the root on, and in numbers. Some have
+/// bars within quotes.
 const TABLE: &[u8] = b"#snmptab 2
 object NAMED-MIB::namedValue
 .iso.7.3.'x|y'.0|4|t|u
@@ -43,7 +44,7 @@ const FILES: Held<'static> = &[
 ];
 
 #[test]
-fn names_of_tables_are_those_of_the_modules(rt: HostRuntime) {
+fn names_in_tables_are_looked_up_in_the_modules(rt: HostRuntime) {
     assert_prints(
         &rt,
         rt.alloc(),
@@ -76,7 +77,7 @@ NAMED-MIB::named.5.0 = No Such Object available on this agent at this OID\n",
     );
 }
 
-/// Walks over the tables with a fault, and one over names without a module.
+/// Walks over the tables with a fault, and one over the table of names without the module.
 const REFUSED: &[Run<'static>] = &[
     (
         "snmp snmpwalk --mib=named.txt table:label.tab named",
@@ -147,6 +148,6 @@ const REFUSED: &[Run<'static>] = &[
 ];
 
 #[test]
-fn texts_that_the_modules_dont_know_are_refused(rt: HostRuntime) {
+fn faulty_names_and_lines_are_reported(rt: HostRuntime) {
     assert_runs_within(&rt, rt.alloc(), FILES, NO_LIMITS, REFUSED);
 }

@@ -35,7 +35,7 @@ loopB OBJECT IDENTIFIER ::= { loopA 1 }
 END
 ";
 
-/// The lines of their warnings.
+/// The warnings about `TINY`, a line each.
 pub(crate) const WARNINGS: &str = "\
 snmp: TINY-MIB imports absent from TINY-SMI, which has no absent
 snmp: TINY-MIB imports from GONE-MIB, which is not loaded
@@ -43,7 +43,7 @@ snmp: TINY-MIB::loopA stands on a cycle
 snmp: TINY-MIB::loopB stands on a cycle
 ";
 
-/// A module without a warning, if the one below is loaded too.
+/// A module without a warning, if `WELL` is loaded too.
 pub(crate) const ACROSS: &[u8] = b"ACROSS-MIB DEFINITIONS ::= BEGIN
 IMPORTS well FROM WELL-MIB;
 across OBJECT IDENTIFIER ::= { well 2 }

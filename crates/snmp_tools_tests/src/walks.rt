@@ -1,9 +1,9 @@
-//! Walks over table files that end without a fault.
+//! Walks over table files that end with status 0.
 
 use crate::run::{OF_THREE, THREE_LINES, assert_prints};
 
 #[test]
-fn three_rows_in_numeric_order(rt: HostRuntime) {
+fn rows_are_printed_in_numeric_order(rt: HostRuntime) {
     assert_prints(
         &rt,
         rt.alloc(),
@@ -23,7 +23,7 @@ fn three_rows_in_numeric_order(rt: HostRuntime) {
 }
 
 #[test]
-fn an_empty_table_answers_the_root_itself(rt: HostRuntime) {
+fn without_rows_a_walk_prints_the_result_for_its_root(rt: HostRuntime) {
     const LINE: &str = ".1.0 = No Such Object available on this agent at this OID\n";
     assert_prints(
         &rt,

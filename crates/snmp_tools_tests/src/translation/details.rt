@@ -4,7 +4,7 @@ use crate::tiny::WARNINGS;
 use crate::translation::run::assert_ends;
 
 #[test]
-fn details_of_several_names(rt: HostRuntime) {
+fn details_of_several_names_are_printed(rt: HostRuntime) {
     const DETAILS: &str = ".iso
 iso OBJECT IDENTIFIER
 ::= { 1 }

@@ -1,4 +1,4 @@
-//! What ends the job early, and what was printed before.
+//! What ends a translation early, and what is printed before.
 
 use crate::tiny::WARNINGS;
 use crate::translation::run::{Limits, assert_ends, ends};
@@ -27,22 +27,26 @@ fn the_first_bad_name_ends_the_job(rt: HostRuntime) {
     );
 }
 
-/// Asserts for each limit that an output that takes so many octets takes this text, and that its
-/// failure ends the job.
+/// Asserts for each row that standard output, which accepts `limit` octets, then has the row's
+/// text, and that its failure ends the job.
 fn assert_cut_off(rt: &impl Abort, alloc: Global, cases: &[(usize, &str)]) {
-    for (limit, front) in cases {
+    for (limit, prefix) in cases {
         let limits = Limits {
             out: *limit,
             err: usize::MAX,
         };
-        let given = ("", "", "", "iso.3 iso nosuch");
-        let cut = ends(alloc, limits, (given, *front, "", "The output failed."));
+        let arguments = ("", "", "", "iso.3 iso nosuch");
+        let cut = ends(
+            alloc,
+            limits,
+            (arguments, *prefix, "", "The output failed."),
+        );
         assert!(rt; matches!(cut, Ok(true)), "{limit}");
     }
 }
 
 #[test]
-fn an_output_that_fails(rt: HostRuntime) {
+fn an_output_that_fails_ends_the_job(rt: HostRuntime) {
     assert_cut_off(
         &rt,
         rt.alloc(),
@@ -51,7 +55,7 @@ fn an_output_that_fails(rt: HostRuntime) {
 }
 
 #[test]
-fn an_output_of_warnings_that_fails(rt: HostRuntime) {
+fn a_failing_output_for_warnings_changes_nothing_else(rt: HostRuntime) {
     let limits = Limits {
         out: usize::MAX,
         err: 5,

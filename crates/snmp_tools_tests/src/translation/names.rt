@@ -3,7 +3,7 @@
 use crate::translation::run::assert_ends;
 
 #[test]
-fn names_by_the_roots_alone(rt: HostRuntime) {
+fn without_modules_names_begin_with_a_root(rt: HostRuntime) {
     assert_ends(
         &rt,
         rt.alloc(),

@@ -1,4 +1,4 @@
-//! How a test does the job.
+//! How a test runs a translation.
 
 use crate::tiny::TINY;
 use snmp_io::memory::{MemoryFiles, MemoryOutput};
@@ -8,41 +8,41 @@ use snmp_words::TranslateJob;
 use std::alloc::{AllocError, Global};
 use std::process::Abort;
 
-/// What the words of snmptranslate give: module files, letters of `-O`, letters of `-T` and names.
-/// There is a space between two files and between two names.
-pub type Given<'a> = (&'a str, &'a str, &'a str, &'a str);
+/// The arguments of snmptranslate: module files, letters of `-O`, letters of `-T` and names. There
+/// is a space between two files and between two names.
+pub type Arguments<'a> = (&'a str, &'a str, &'a str, &'a str);
 
-/// What a job is given, what it must print on standard output, which warnings on standard error,
-/// and how it must end: with this message after them at status 1, or with none at status 0.
-pub type Case<'a> = (Given<'a>, &'a str, &'a str, &'a str);
+/// The arguments of a job, what it must print on standard output, its warnings on standard error,
+/// and the message after them. With a message the status must be 1, and with an empty one 0.
+pub type Case<'a> = (Arguments<'a>, &'a str, &'a str, &'a str);
 
-/// How many octets standard output and standard error take before they fail.
+/// How many octets standard output and standard error accept before they fail.
 #[derive(Clone, Copy)]
 pub struct Limits {
     pub out: usize,
     pub err: usize,
 }
 
-/// Outputs that take as much as memory holds.
+/// Outputs that accept as much as memory holds.
 pub const NO_LIMITS: Limits = Limits {
     out: usize::MAX,
     err: usize::MAX,
 };
 
-/// The status of the job over the file `tiny.txt`.
+/// Runs the job over the file `tiny.txt`, and returns its status.
 fn status_of(
     alloc: Global,
     job: TranslateJob<'_>,
     out: &mut MemoryOutput,
     err: &mut MemoryOutput,
 ) -> u8 {
-    let held = [("tiny.txt", TINY)];
-    let files = MemoryFiles { files: &held };
+    let contents = [("tiny.txt", TINY)];
+    let files = MemoryFiles { files: &contents };
     let mut links = MemoryLinks::new(alloc, &[], &[]);
     run_job(alloc, &Job::Translate(job), &files, &mut links, out, err)
 }
 
-/// Whether the job prints these texts and has this status.
+/// Returns whether the job prints these texts, and has this status.
 fn job_prints(
     alloc: Global,
     job: TranslateJob<'_>,
@@ -57,7 +57,7 @@ fn job_prints(
     written && ended == status
 }
 
-/// Whether the job, over the file `tiny.txt`, prints and ends as the case says.
+/// Returns whether the job, over the file `tiny.txt`, prints and ends as the case says.
 pub fn ends(alloc: Global, limits: Limits, case: Case<'_>) -> Result<bool, AllocError> {
     let ((mibs, letters, details, names), lines, warnings, end) = case;
     let job = TranslateJob {
