@@ -1,4 +1,4 @@
-//! Values and tables.
+//! Checks of values and tables.
 
 use crate::Fault;
 use crate::room::Room;
@@ -7,13 +7,13 @@ use snmp_oid::{Oid, parse_numeric};
 use snmp_wire::{Value, ValueRef, decode};
 use std::alloc::Global;
 
-/// The agent's community and greatest message.
+/// The agent's community and greatest message size.
 pub(crate) const CONFIG: Config<'static> = Config {
     community: b"public",
     max_size: 1472,
 };
 
-/// `Value::from_ref`, for each value of a message: the names of its bindings.
+/// Checks `Value::from_ref`, for each value of a message. Appends the names of its bindings.
 pub fn values(alloc: Global, datagram: &[u8], room: &mut Room<'_>) -> Result<(), Fault> {
     let Ok(message) = decode(datagram) else {
         return Err(Fault::Wrong);
@@ -28,12 +28,12 @@ pub fn values(alloc: Global, datagram: &[u8], room: &mut Room<'_>) -> Result<(),
     Ok(())
 }
 
-/// The table that a text states.
+/// Returns the table of `text`.
 pub(crate) fn table_of(alloc: Global, text: &[u8]) -> Result<Table, Fault> {
     read(Table::read(alloc, text))
 }
 
-/// The table that was read.
+/// Returns the table that was read, or the fault.
 fn read(table: Result<Table, TableError>) -> Result<Table, Fault> {
     match table {
         Ok(table) => Ok(table),
@@ -42,14 +42,14 @@ fn read(table: Result<Table, TableError>) -> Result<Table, Fault> {
     }
 }
 
-/// `Table::read`: the reply to a request over the table.
+/// Checks `Table::read`. Appends the reply to `request` over the table.
 pub fn table(alloc: Global, text: &[u8], request: &[u8], room: &mut Room<'_>) -> Result<(), Fault> {
     let table = table_of(alloc, text)?;
     reply(&table, request, room);
     Ok(())
 }
 
-/// `Table::read`: the line at which a name stands that an earlier one has, as an identifier.
+/// Checks `Table::read`. Appends the number of the line that repeats a name, as an identifier.
 pub fn double(alloc: Global, text: &[u8], room: &mut Room<'_>) -> Result<(), Fault> {
     let line = match Table::read(alloc, text) {
         Err(TableError::Double { line }) => u32::try_from(line).unwrap_or(0),
@@ -65,7 +65,7 @@ pub fn double(alloc: Global, text: &[u8], room: &mut Room<'_>) -> Result<(), Fau
     }
 }
 
-/// `Table::read_with`: the reply to a request over the table.
+/// Checks `Table::read_with`. Appends the reply to `request` over the table.
 pub fn table_with(
     alloc: Global,
     text: &[u8],
@@ -77,7 +77,7 @@ pub fn table_with(
     Ok(())
 }
 
-/// Appends the reply to a request.
+/// Appends the reply to `request`.
 pub(crate) fn reply(table: &Table, request: &[u8], room: &mut Room<'_>) {
     let mut octets = [0; 65507];
     if let Outcome::Reply(size) = answer(table, &CONFIG, request, &mut octets) {
@@ -85,8 +85,8 @@ pub(crate) fn reply(table: &Table, request: &[u8], room: &mut Room<'_>) {
     }
 }
 
-/// `Table::put` of a string at 1.3.6.1.4.1.32473.1.5.0: the reply to a request then. Where it is
-/// refused, the reply is as before.
+/// Checks `Table::put` of a string at 1.3.6.1.4.1.32473.1.5.0. Appends the reply to `request` after
+/// that. If memory is refused, the reply must be as before.
 pub fn put(
     alloc: Global,
     text: &[u8],

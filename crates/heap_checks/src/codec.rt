@@ -1,4 +1,4 @@
-//! The calls that read and write messages, none of which asks the heap for anything.
+//! A check of the calls that read and write messages. None of them allocates.
 ghost use Rattle.std.specs.Prelude.{[], ◌∷◌, ◌≡◌, ◌≤◌, length, true};
 ghost use Rattle.snmp_wire.specs.Canon.{IsEncodable, canon_binding, canon_bindings};
 ghost use Rattle.snmp_wire.specs.Message.{var_bind};
@@ -12,10 +12,10 @@ use snmp_wire::{
 };
 use std::alloc::Global;
 
-/// The octets of a message of one binding, which is read: written whole by `encode`, and in pieces
-/// by `encode_head`, `encode_binding` and `seal`. Their sizes are those that `size`, `head_size` and
-/// `binding_size` return.
-pub fn written(alloc: Global, datagram: &[u8], room: &mut Room<'_>) -> Result<(), Fault> {
+/// Checks the calls that read and write messages. Reads a message of one binding, and appends it
+/// twice: written whole by `encode`, and in pieces by `encode_binding` and `seal`. The lengths of
+/// the message and of its head must be those that `size` and `head_size` return.
+pub fn check_codec(alloc: Global, datagram: &[u8], room: &mut Room<'_>) -> Result<(), Fault> {
     let _begun = mark(alloc)?;
     let Ok(message) = decode(datagram) else {
         return Err(Fault::Wrong);
@@ -28,7 +28,7 @@ pub fn written(alloc: Global, datagram: &[u8], room: &mut Room<'_>) -> Result<()
     ended
 }
 
-/// Whether a binding of a string or NULL can be written.
+/// Returns whether a binding of a string or NULL can be written. Returns false for other values.
 fn is_encodable(binding: &Binding<'_>) -> bool
     ensures { result ≡ true → IsEncodable (var_bind binding.now) }
 {
@@ -40,7 +40,7 @@ fn is_encodable(binding: &Binding<'_>) -> bool
         }
 }
 
-/// How many octets a list of one binding takes: not too many for a message.
+/// Returns the length of one binding, which is short enough for a message.
 #[tactic(auto, unfolding(snmp_wire::specs::Canon::canon_bindings))]
 fn size_of_one(binding: &Binding<'_>) -> u64
     requires { IsEncodable (var_bind binding.now) }
@@ -81,7 +81,7 @@ fn write_again(
     append_pieces(&parts, &bindings[0], room)
 }
 
-/// Writes the binding of a message and then its head, and appends them.
+/// Writes the binding of a message and then its head, and appends the message.
 fn append_pieces(parts: &Parts<'_>, binding: &Binding<'_>, room: &mut Room<'_>) -> Result<(), Fault>
     requires community { length parts.now.community.now ≤ 65535 }
     requires binding { IsEncodable (var_bind binding.now) }

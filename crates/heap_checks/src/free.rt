@@ -1,5 +1,5 @@
-//! Calls that ask the heap for nothing: each stands between two marks, by which `tests/heap.c`
-//! knows how many requests it makes.
+//! Checks of calls that don't allocate. Each call is between two marks, from which `tests/heap.c`
+//! knows how many allocations it makes.
 ghost use Rattle.std.specs.Prelude.{◌≡◌, All, true};
 ghost use Rattle.snmp_oid.specs.Identifier.{IsWire, wire};
 
@@ -16,10 +16,11 @@ use snmp_oid::Oid;
 use snmp_walk::{Link, Method, Sink, WalkEnd, run_get};
 use std::alloc::Global;
 
-/// So many octets only a mark asks for.
+/// The size of a mark. No other allocation has it.
 const MARK: usize = 77_777;
 
-/// A mark, which lasts as long as what is returned: so the compiler leaves it there.
+/// Returns a mark, an allocation of `MARK` octets. The caller holds it until after the call, so
+/// that the compiler doesn't remove it.
 #[inline(never)]
 pub(crate) fn mark(alloc: Global) -> Result<Vec<u8>, Fault> {
     match Vec::with_capacity(alloc, MARK) {
@@ -28,8 +29,8 @@ pub(crate) fn mark(alloc: Global) -> Result<Vec<u8>, Fault> {
     }
 }
 
-/// `answer` to a request.
-pub fn answered(
+/// Checks `answer` to a request. Appends the reply.
+pub fn check_answer(
     alloc: Global,
     text: &[u8],
     request: &[u8],
@@ -42,9 +43,9 @@ pub fn answered(
     Ok(())
 }
 
-/// `Table::remove` of the rows 1.3.6.1.4.1.32473.1.1.0 to 1.299.0, but for 1.150.0: so some rows of
-/// a page, and all of another. The reply to a request then.
-pub fn removed(
+/// Checks `Table::remove` of the rows 1.3.6.1.4.1.32473.1.1.0 to 1.299.0, but for 1.150.0: some
+/// rows of a page, and all of another. Appends the reply to `request` after that.
+pub fn check_remove(
     alloc: Global,
     text: &[u8],
     request: &[u8],
@@ -62,8 +63,8 @@ pub fn removed(
     Ok(())
 }
 
-/// `run_walk` over a link for which memory is reserved.
-pub fn walked(
+/// Checks `run_walk` over a link for which memory is reserved.
+pub fn check_walk(
     alloc: Global,
     text: &[u8],
     root: &[u8],
@@ -79,8 +80,9 @@ pub fn walked(
     is_done(&end)
 }
 
-/// `run_get` of 1.3.6.1.4.1.32473.1.4.0, 1.5.0 and 1.6.0 over a link for which memory is reserved.
-pub fn got(alloc: Global, text: &[u8], room: &mut Room<'_>) -> Result<(), Fault> {
+/// Checks `run_get` of 1.3.6.1.4.1.32473.1.4.0, 1.5.0 and 1.6.0 over a link for which memory is
+/// reserved.
+pub fn check_get(alloc: Global, text: &[u8], room: &mut Room<'_>) -> Result<(), Fault> {
     let table = table_of(alloc, text)?;
     let mut link = link_of(alloc, &table);
     reserve(&mut link)?;
@@ -91,7 +93,7 @@ pub fn got(alloc: Global, text: &[u8], room: &mut Room<'_>) -> Result<(), Fault>
     is_done(&end)
 }
 
-/// The name 1.3.6.1.4.1.32473.1.N.0.
+/// Returns the name 1.3.6.1.4.1.32473.1.`number`.0.
 fn instance(number: u32) -> Result<Oid, Fault> {
     match Oid::from_slice(&[1, 3, 6, 1, 4, 1, 32473, 1, number, 0]) {
         Ok(name) => Ok(name),
@@ -99,14 +101,14 @@ fn instance(number: u32) -> Result<Oid, Fault> {
     }
 }
 
-/// Whether each name can be sent.
+/// Returns whether each name can be sent.
 fn are_sendable(names: &[Oid]) -> bool
     ensures { result ≡ true → All (λ o. IsWire (wire o)) names.now }
 {
     names.iter().all(|name| name.to_wire().is_ok())
 }
 
-/// How the Get of these names ends; what it gives goes to the sink.
+/// Runs the Get of these names, and returns how it ends. Its bindings go to `sink`.
 fn get_over<L: Link, S: Sink>(link: &mut L, names: &[Oid], sink: &mut S) -> Result<WalkEnd, Fault> {
     if are_sendable(names) {
         Ok(run_get(link, names, b"public", 1, 0, sink))
@@ -115,7 +117,7 @@ fn get_over<L: Link, S: Sink>(link: &mut L, names: &[Oid], sink: &mut S) -> Resu
     }
 }
 
-/// What is told of a walk or a Get for which memory was reserved.
+/// Checks that a walk or a Get is done. Memory was reserved for it, so each other end is wrong.
 fn is_done(end: &WalkEnd) -> Result<(), Fault> {
     match end {
         WalkEnd::Done(_) => Ok(()),
@@ -123,8 +125,8 @@ fn is_done(end: &WalkEnd) -> Result<(), Fault> {
     }
 }
 
-/// `Lexer`: the tokens of a text, a line each, and its fault if it has one.
-pub fn lexed(alloc: Global, text: &[u8], room: &mut Room<'_>) -> Result<(), Fault> {
+/// Checks `Lexer`. Appends the tokens of a text, a line each, and its fault if it has one.
+pub fn check_lexer(alloc: Global, text: &[u8], room: &mut Room<'_>) -> Result<(), Fault> {
     let _begun = mark(alloc)?;
     'tokens: for token in Lexer::new(text) {
         room.append_line(match token {
@@ -137,9 +139,14 @@ pub fn lexed(alloc: Global, text: &[u8], room: &mut Room<'_>) -> Result<(), Faul
     Ok(())
 }
 
-/// `Module::define` and `Module::import` of a name, in each module of a text: the label of the
-/// definition, and the module that the name is imported from.
-pub fn found(alloc: Global, text: &[u8], name: &[u8], room: &mut Room<'_>) -> Result<(), Fault> {
+/// Checks `Module::define` and `Module::import` of a name, in each module of a text. Appends the
+/// label of the definition, and the module that the name is imported from.
+pub fn check_find(
+    alloc: Global,
+    text: &[u8],
+    name: &[u8],
+    room: &mut Room<'_>,
+) -> Result<(), Fault> {
     let modules = modules_of(alloc, text)?;
     let _begun = mark(alloc)?;
     'modules: for module in &modules {
@@ -154,9 +161,10 @@ pub fn found(alloc: Global, text: &[u8], name: &[u8], room: &mut Room<'_>) -> Re
     Ok(())
 }
 
-/// The look-ups in a loaded tree: of each node what stands for its label in its module and in all,
-/// for its identifier, and first below that; and whether it has a syntax and an index.
-pub fn look_ups(alloc: Global, text: &[u8], room: &mut Room<'_>) -> Result<(), Fault> {
+/// Checks the look-ups in a loaded tree. Appends, for each node, the nodes found for its label in
+/// its module and in all modules, for its identifier, and first below that; and whether it has a
+/// syntax and an INDEX.
+pub fn check_look_ups(alloc: Global, text: &[u8], room: &mut Room<'_>) -> Result<(), Fault> {
     let tree = tree_of(alloc, text)?;
     let _begun = mark(alloc)?;
     'nodes: for id in 0..tree.len() {
@@ -166,7 +174,7 @@ pub fn look_ups(alloc: Global, text: &[u8], room: &mut Room<'_>) -> Result<(), F
     Ok(())
 }
 
-/// Appends what is looked up of a node.
+/// Appends what is looked up for a node.
 fn append_look_ups(tree: &Tree, id: NodeId, room: &mut Room<'_>) {
     if id >= tree.len() {
         return;
@@ -203,7 +211,7 @@ fn append_node(tree: &Tree, found: Option<NodeId>, room: &mut Room<'_>) {
     }
 }
 
-/// Appends the identifier of a child, and that of the child of its label.
+/// Appends the identifier of a child, and the identifier of the child found for its label.
 fn append_child(tree: &Tree, parent: &Oid, child: NodeId, room: &mut Room<'_>) {
     append_node(tree, Some(child), room);
     if child < tree.len() {
@@ -211,8 +219,13 @@ fn append_child(tree: &Tree, parent: &Oid, child: NodeId, room: &mut Room<'_>) {
     }
 }
 
-/// `resolve` of a name, by a loaded tree.
-pub fn resolved(alloc: Global, text: &[u8], name: &[u8], room: &mut Room<'_>) -> Result<(), Fault> {
+/// Checks `resolve` of a name, with a loaded tree.
+pub fn check_resolve(
+    alloc: Global,
+    text: &[u8],
+    name: &[u8],
+    room: &mut Room<'_>,
+) -> Result<(), Fault> {
     let tree = tree_of(alloc, text)?;
     let _begun = mark(alloc)?;
     let meaning = resolve(&tree, name);
@@ -224,8 +237,9 @@ pub fn resolved(alloc: Global, text: &[u8], name: &[u8], room: &mut Room<'_>) ->
     Ok(())
 }
 
-/// `resolve_front` of a text up to its first `|`, by a loaded tree: the identifier, and what follows.
-pub fn front_resolved(
+/// Checks `resolve_front` of a text up to its first `|`, with a loaded tree. Appends the
+/// identifier, and what follows it.
+pub fn check_resolve_front(
     alloc: Global,
     modules: &[u8],
     text: &[u8],
@@ -245,8 +259,9 @@ pub fn front_resolved(
     Ok(())
 }
 
-/// `Letters::parse`: whether all octets of a text are letters, or the first that isn't one.
-pub fn letters_parsed(alloc: Global, text: &[u8], room: &mut Room<'_>) -> Result<(), Fault> {
+/// Checks `Letters::parse`. Appends whether all octets of a text are letters, or the first that
+/// isn't one.
+pub fn check_letters(alloc: Global, text: &[u8], room: &mut Room<'_>) -> Result<(), Fault> {
     let _begun = mark(alloc)?;
     let letters = Letters::parse(text);
     let _ended = mark(alloc)?;
@@ -257,8 +272,8 @@ pub fn letters_parsed(alloc: Global, text: &[u8], room: &mut Room<'_>) -> Result
     Ok(())
 }
 
-/// `Hint::parse`: whether a text is a hint, and whether it is one of integers.
-pub fn hint_parsed(alloc: Global, text: &[u8], room: &mut Room<'_>) -> Result<(), Fault> {
+/// Checks `Hint::parse`. Appends whether a text is a hint, and whether it is one of integers.
+pub fn check_hint(alloc: Global, text: &[u8], room: &mut Room<'_>) -> Result<(), Fault> {
     let _begun = mark(alloc)?;
     let hint = Hint::parse(text);
     let _ended = mark(alloc)?;

@@ -1,10 +1,10 @@
 //! The program `heap_checks CHECK FILE FILE`, which `tests/heap.py` runs over a heap that refuses
 //! memory.
 //!
-//! A check makes a call that takes memory, on the octets of the two files. It prints the call's
-//! whole answer, for which it takes none, with status 0; or nothing, with status 1, where memory
-//! was refused and it has seen that what was to be changed is as it was. Status 2: a wrong answer.
-//! Status 3: memory was refused, and again where what was refused was done once more.
+//! A check makes a call, on the octets of the two files. It prints the whole result of the call,
+//! without allocating for that, with status 0. If memory was refused, and it has seen that what was
+//! to be changed is unchanged, it prints nothing, with status 1. Status 2: a wrong result. Status
+//! 3: memory was refused, and refused again when the call was repeated.
 #![tactic(auto)]
 
 mod agents;
@@ -23,15 +23,16 @@ use std::env::Env;
 use std::process::ExitCode;
 use std::{env, rt};
 
-/// A string whose row takes memory of its own: 60 octets with its name.
+/// A string whose row is stored on the heap: 60 octets with its name.
 const LONG: &[u8] = b"a string of 43 octets, more than in a place";
 
-/// Why there is no whole answer.
+/// Why there is no whole result.
 #[derive(Clone, Copy, Debug)]
 pub(crate) enum Fault {
-    /// Memory was refused, and what was to be changed is as it was.
+    /// Memory was refused, and what was to be changed is unchanged.
     Refused,
-    /// The same, and memory was refused again where that was done once more.
+    /// Memory was refused, and refused again when the call was repeated. What was to be changed is
+    /// unchanged.
     Again,
     /// What was to be changed isn't as it was, or an error has no cause.
     Wrong,
@@ -55,7 +56,7 @@ fn main(rt: HostRuntime) -> ExitCode {
     ExitCode::from(status)
 }
 
-/// The check that the words name, on the files that they name.
+/// Runs the check that the arguments name, on the files that they name.
 fn run<R: Env + rt::Files + AllocGlobal>(rt: &R, room: &mut Room<'_>) -> Result<(), Fault> {
     let Ok(words) = env::args(rt) else {
         return Err(Fault::Refused);
@@ -71,7 +72,7 @@ fn run<R: Env + rt::Files + AllocGlobal>(rt: &R, room: &mut Room<'_>) -> Result<
     check_by(rt.alloc(), check, &first, &second, room)
 }
 
-/// The octets of a file.
+/// Returns the octets of a file.
 fn file<R: rt::Files + AllocGlobal>(rt: &R, path: &str) -> Result<Vec<u8>, Fault> {
     let files = MachineFiles { rt };
     match files.read(rt.alloc(), path) {
@@ -81,7 +82,7 @@ fn file<R: rt::Files + AllocGlobal>(rt: &R, path: &str) -> Result<Vec<u8>, Fault
     }
 }
 
-/// The check of this name.
+/// Runs the check with this name.
 fn check_by(
     alloc: Global,
     check: &str,
@@ -98,17 +99,19 @@ fn check_by(
         "put_long" => agents::put(alloc, first, LONG, second, room),
         "walk" => walks::walk(alloc, first, second, Method::Next, room),
         "bulk_walk" => walks::walk(alloc, first, second, Method::Bulk(10), room),
-        "reserved" => walks::reserved(alloc, first, second, room),
+        "reserved" => walks::check_reserve(alloc, first, second, room),
         "modules" => modules::modules(alloc, first, room),
         "tree" => modules::tree(alloc, first, room),
         "hint" => texts::hint(alloc, first, second, room),
         "lines" => texts::lines(alloc, first, second, room),
-        "name" | "value" | "line" | "detail" => texts::shown(alloc, check, first, second, room),
+        "name" | "value" | "line" | "detail" => texts::check_text(
+            alloc, check, first, second, room,
+        ),
         _ => free_by(alloc, check, first, second, room),
     }
 }
 
-/// The check of this name, of calls that ask the heap for nothing.
+/// Runs the check with this name, of calls that don't allocate.
 fn free_by(
     alloc: Global,
     check: &str,
@@ -117,19 +120,19 @@ fn free_by(
     room: &mut Room<'_>,
 ) -> Result<(), Fault> {
     match check {
-        "free_answer" => free::answered(alloc, first, second, room),
-        "free_remove" => free::removed(alloc, first, second, room),
-        "free_walk" => free::walked(alloc, first, second, Method::Next, room),
-        "free_bulk_walk" => free::walked(alloc, first, second, Method::Bulk(10), room),
-        "free_get" => free::got(alloc, first, room),
-        "free_codec" => codec::written(alloc, first, room),
-        "free_lexer" => free::lexed(alloc, first, room),
-        "free_found" => free::found(alloc, first, second, room),
-        "free_front" => free::front_resolved(alloc, first, second, room),
-        "free_letters" => free::letters_parsed(alloc, first, room),
-        "free_look_ups" => free::look_ups(alloc, first, room),
-        "free_resolve" => free::resolved(alloc, first, second, room),
-        "free_hint" => free::hint_parsed(alloc, first, room),
+        "free_answer" => free::check_answer(alloc, first, second, room),
+        "free_remove" => free::check_remove(alloc, first, second, room),
+        "free_walk" => free::check_walk(alloc, first, second, Method::Next, room),
+        "free_bulk_walk" => free::check_walk(alloc, first, second, Method::Bulk(10), room),
+        "free_get" => free::check_get(alloc, first, room),
+        "free_codec" => codec::check_codec(alloc, first, room),
+        "free_lexer" => free::check_lexer(alloc, first, room),
+        "free_found" => free::check_find(alloc, first, second, room),
+        "free_front" => free::check_resolve_front(alloc, first, second, room),
+        "free_letters" => free::check_letters(alloc, first, room),
+        "free_look_ups" => free::check_look_ups(alloc, first, room),
+        "free_resolve" => free::check_resolve(alloc, first, second, room),
+        "free_hint" => free::check_hint(alloc, first, room),
         _ => Err(Fault::Wrong),
     }
 }

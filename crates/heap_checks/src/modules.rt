@@ -1,4 +1,4 @@
-//! Module texts and their trees.
+//! Checks of module texts and their trees.
 
 use crate::Fault;
 use crate::room::Room;
@@ -6,7 +6,7 @@ use smi_text::{Module, ParseError, parse_modules};
 use smi_tree::Tree;
 use std::alloc::Global;
 
-/// The modules of a text.
+/// Returns the modules of a text.
 pub(crate) fn modules_of(alloc: Global, text: &[u8]) -> Result<Vec<Module>, Fault> {
     match parse_modules(alloc, text) {
         Ok(modules) => Ok(modules),
@@ -15,7 +15,7 @@ pub(crate) fn modules_of(alloc: Global, text: &[u8]) -> Result<Vec<Module>, Faul
     }
 }
 
-/// The tree of a text's modules.
+/// Returns the tree of a text's modules.
 pub fn tree_of(alloc: Global, text: &[u8]) -> Result<Tree, Fault> {
     let modules = modules_of(alloc, text)?;
     match Tree::load(alloc, modules) {
@@ -24,7 +24,7 @@ pub fn tree_of(alloc: Global, text: &[u8]) -> Result<Tree, Fault> {
     }
 }
 
-/// `parse_modules`: the names of a text's modules, each with its labels behind it.
+/// Checks `parse_modules`. Appends the names of a text's modules, each followed by its labels.
 pub fn modules(alloc: Global, text: &[u8], room: &mut Room<'_>) -> Result<(), Fault> {
     let modules = modules_of(alloc, text)?;
     'modules: for module in &modules {
@@ -36,7 +36,7 @@ pub fn modules(alloc: Global, text: &[u8], room: &mut Room<'_>) -> Result<(), Fa
     Ok(())
 }
 
-/// `Tree::load`: the identifiers of the nodes.
+/// Checks `Tree::load`. Appends the identifiers of the nodes.
 pub fn tree(alloc: Global, text: &[u8], room: &mut Room<'_>) -> Result<(), Fault> {
     let tree = tree_of(alloc, text)?;
     'nodes: for id in 0..tree.len() {

@@ -1,8 +1,8 @@
-//! A fixed room for octets.
+//! A buffer of fixed size.
 
 use snmp_oid::{Oid, write_numeric};
 
-/// Octets that are written to a slice, as far as it goes. That takes no memory.
+/// Octets that are appended to a slice, as far as it goes. This doesn't allocate.
 #[derive(Drop)]
 pub struct Room<'a> {
     octets: &'a mut [u8],
@@ -10,16 +10,16 @@ pub struct Room<'a> {
 }
 
 impl<'a> Room<'a> {
-    /// A room in which nothing is written.
+    /// Returns a room without octets.
     pub fn new(octets: &'a mut [u8]) -> Room<'a> {
         Room { octets, used: 0 }
     }
 
-    /// Appends octets.
+    /// Appends octets, as far as there is room.
     pub fn append(&mut self, text: &[u8]) {
         'octets: for octet in text {
-            if let Some(place) = self.octets.get_mut(self.used) {
-                *place = *octet;
+            if let Some(target) = self.octets.get_mut(self.used) {
+                *target = *octet;
                 self.used = self.used.saturating_add(1);
             }
         }
@@ -38,7 +38,7 @@ impl<'a> Room<'a> {
         self.append_line(text.get(..size).unwrap_or(&[]));
     }
 
-    /// What is written.
+    /// Returns what was appended.
     pub fn octets(&self) -> &[u8] {
         self.octets.get(..self.used).unwrap_or(&[])
     }

@@ -1,4 +1,4 @@
-//! Texts, each of which is appended to `before: `.
+//! Checks of calls that append a text, here to `before: `.
 
 use crate::Fault;
 use crate::modules::tree_of;
@@ -12,8 +12,13 @@ use std::alloc::{AllocError, Global};
 
 const BEFORE: &[u8] = b"before: ";
 
-/// Prints a text that was appended to; where that was refused, it is as before.
-fn told(ended: Result<(), AllocError>, text: &[u8], room: &mut Room<'_>) -> Result<(), Fault> {
+/// Appends the text to `room` if the call succeeded. If memory was refused, the text must be
+/// unchanged.
+fn append_result(
+    ended: Result<(), AllocError>,
+    text: &[u8],
+    room: &mut Room<'_>,
+) -> Result<(), Fault> {
     if ended.is_ok() {
         room.append(text);
         Ok(())
@@ -24,7 +29,7 @@ fn told(ended: Result<(), AllocError>, text: &[u8], room: &mut Room<'_>) -> Resu
     }
 }
 
-/// `write_hint`, of octets, or of -1234567 where the hint is one of integers.
+/// Checks `write_hint`, of octets, or of -1234567 if the hint is one of integers.
 pub fn hint(alloc: Global, hint: &[u8], octets: &[u8], room: &mut Room<'_>) -> Result<(), Fault> {
     let Ok(mut text) = Vec::from_slice(alloc, BEFORE) else {
         return Err(Fault::Refused);
@@ -37,11 +42,11 @@ pub fn hint(alloc: Global, hint: &[u8], octets: &[u8], room: &mut Room<'_>) -> R
     } else {
         write_hint(&hint, HintValue::Octets(octets), &mut text)
     };
-    told(ended, text.as_slice(), room)
+    append_result(ended, text.as_slice(), room)
 }
 
-/// `LineWriter::line`, by the modules of a text, of each binding of a message. A line that is
-/// refused is written once more, by the same writer.
+/// Checks `LineWriter::line`, with the modules of a text, of each binding of a message. A line for
+/// which memory is refused is written once more, by the same writer.
 pub fn lines(
     alloc: Global,
     modules: &[u8],
@@ -74,9 +79,9 @@ pub fn lines(
     Ok(())
 }
 
-/// `name_text`, `value_text`, `line` or `detail`, by the modules of a text, of the instance of this
-/// name, whose value has six octets.
-pub fn shown(
+/// Checks `name_text`, `value_text`, `line` or `detail`, with the modules of a text, of the
+/// instance with this name, whose value has six octets.
+pub fn check_text(
     alloc: Global,
     check: &str,
     modules: &[u8],
@@ -91,7 +96,7 @@ pub fn shown(
         return Err(Fault::Refused);
     };
     let ended = append(&tree, check, &name, &mut text);
-    told(ended, text.as_slice(), room)
+    append_result(ended, text.as_slice(), room)
 }
 
 fn append(tree: &Tree, check: &str, name: &Oid, text: &mut Vec<u8>) -> Result<(), AllocError> {

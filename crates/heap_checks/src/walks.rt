@@ -1,4 +1,4 @@
-//! Walks over an agent in memory.
+//! Checks of walks over an agent in memory.
 
 use crate::Fault;
 use crate::agents::{CONFIG, table_of};
@@ -9,12 +9,13 @@ use snmp_walk::{Link, MemoryLink, Method, Mode, Sink, SinkFault, WalkCore, WalkE
 use snmp_wire::{Binding, ValueRef};
 use std::alloc::Global;
 
-/// How many requests of a walk memory is reserved for, and how many octets each has at most.
+/// The number of requests of a walk for which memory is reserved.
 const REQUESTS: usize = 320;
 
+/// The greatest length of such a request.
 const REQUEST_SIZE: usize = 1000;
 
-/// Appends the name of each of its bindings, and its value where that is a string, as lines.
+/// A sink that appends the name of each binding, and its value if that is a string, as lines.
 #[derive(Drop)]
 pub struct Rows<'r, 'a> {
     pub room: &'r mut Room<'a>,
@@ -32,7 +33,7 @@ impl<'r, 'a> Sink for Rows<'r, 'a> {
     }
 }
 
-/// A link to the agent of a table, which brings each reply.
+/// Returns a link to the agent of `table`, which delivers each reply.
 pub(crate) fn link_of<'a>(alloc: Global, table: &'a Table) -> MemoryLink<'a> {
     MemoryLink::new(alloc, table, CONFIG, &[])
 }
@@ -45,7 +46,7 @@ pub(crate) fn reserve(link: &mut MemoryLink<'_>) -> Result<(), Fault> {
     }
 }
 
-/// How the walk below a root ends; what it gives is appended.
+/// Runs the walk below `root`, and returns how it ends. Its rows are appended.
 pub(crate) fn walk_over(
     link: &mut MemoryLink<'_>,
     root: &[u8],
@@ -66,8 +67,8 @@ pub(crate) fn walk_over(
     Ok(run_walk(link, core, 0, &mut rows))
 }
 
-/// `run_walk` over a `MemoryLink`. Where memory for a request is refused, the link has counted a
-/// fault, and serves another walk, of which what the first gave is a front.
+/// Checks `run_walk` over a `MemoryLink`. If memory for a request is refused, the link has counted
+/// a fault, and serves another walk, whose rows begin with those of the first.
 pub fn walk(
     alloc: Global,
     text: &[u8],
@@ -78,25 +79,30 @@ pub fn walk(
     let table = table_of(alloc, text)?;
     let mut link = link_of(alloc, &table);
     let mut octets = [0; 16384];
-    let mut front = Room::new(&mut octets);
-    match walk_over(&mut link, root, method, &mut front)? {
+    let mut first_rows = Room::new(&mut octets);
+    match walk_over(&mut link, root, method, &mut first_rows)? {
         WalkEnd::Done(_) => {
-            room.append(front.octets());
+            room.append(first_rows.octets());
             return Ok(());
         }
         WalkEnd::Link if link.faults() == 1 => {}
         _ => return Err(Fault::Wrong),
     }
     match walk_over(&mut link, root, method, room)? {
-        WalkEnd::Done(_) if room.octets().starts_with(front.octets()) => Ok(()),
+        WalkEnd::Done(_) if room.octets().starts_with(first_rows.octets()) => Ok(()),
         WalkEnd::Link if link.faults() == 2 => Err(Fault::Again),
         _ => Err(Fault::Wrong),
     }
 }
 
-/// `MemoryLink::reserve`: what is reserved is enough for a walk. Where that is refused, the link is
-/// as before, and serves one too.
-pub fn reserved(alloc: Global, text: &[u8], root: &[u8], room: &mut Room<'_>) -> Result<(), Fault> {
+/// Checks `MemoryLink::reserve`: what is reserved is enough for a walk. If memory is refused, the
+/// link is unchanged, and serves a walk too.
+pub fn check_reserve(
+    alloc: Global,
+    text: &[u8],
+    root: &[u8],
+    room: &mut Room<'_>,
+) -> Result<(), Fault> {
     let table = table_of(alloc, text)?;
     let mut link = link_of(alloc, &table);
     let ready = reserve(&mut link).is_ok();
