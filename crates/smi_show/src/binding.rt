@@ -19,8 +19,9 @@ use snmp_oid::Oid;
 use snmp_wire::ValueRef;
 use std::alloc::AllocError;
 
-/// Appends the text of the value of an instance: its type, a colon, a blank and the value, as the
-/// letters and the syntax of the object say. If memory runs out, `out` is unchanged.
+/// Appends the text of `value`, the value of the instance `name`: its type, a colon, a blank and
+/// the value, as `letters` and the syntax of the object say. Fails if memory runs out, and leaves
+/// `out` unchanged then.
 pub fn value_text(
     tree: &Tree,
     letters: &Letters,
@@ -39,8 +40,8 @@ pub fn value_text(
     draft.finish(out)
 }
 
-/// Appends the line of a binding: name, ` = `, value and a newline, as the letters say. If memory
-/// runs out, `out` is unchanged.
+/// Appends the line of a binding: name, ` = `, value and a newline, as `letters` say. Fails if
+/// memory runs out, and leaves `out` unchanged then.
 pub fn line(
     tree: &Tree,
     letters: &Letters,
@@ -59,7 +60,7 @@ pub fn line(
     draft.finish(out)
 }
 
-/// A value has one text, by the letters and the syntax of its object.
+/// A value has only one text under given letters and the syntax of its object.
 ///
 /// A law: the call does nothing, and its caller may use what it ensures.
 #[tactic(auto, using(crate::proofs::NamesStated::same_name))]
@@ -71,7 +72,7 @@ pub fn one_value()
     one_value_by_names();
 }
 
-/// A binding has one line, by the letters and the syntax of its object.
+/// A binding has only one line under given letters and the syntax of its object.
 ///
 /// A law: the call does nothing, and its caller may use what it ensures.
 pub fn one_line()
@@ -82,7 +83,7 @@ pub fn one_line()
     one_value();
 }
 
-/// Appends the line of a binding, by what the tree found for its name.
+/// Appends the line of a binding. `found` is what the tree found for `name`.
 pub(crate) fn append_line(
     tree: &Tree,
     letters: &Letters,
@@ -100,7 +101,7 @@ pub(crate) fn append_line(
     draft.octets(b"\n");
 }
 
-/// Appends the name and the value.
+/// Appends the line of a binding without its newline.
 fn append_parts(
     tree: &Tree,
     letters: &Letters,
@@ -119,7 +120,7 @@ fn append_parts(
     append_shown(tree, letters, found.syntax.as_ref(), value, draft);
 }
 
-/// Appends the name and what stands between it and the value, unless only the value is shown.
+/// Appends the name and the separator after it, or nothing if only the value is shown.
 fn append_front(
     tree: &Tree,
     letters: &Letters,
@@ -144,7 +145,7 @@ fn append_front(
     }
 }
 
-/// Appends what stands between a name and a value.
+/// Appends the separator between a name and a value.
 fn append_separator(types: TypeForm, draft: &mut Draft)
     ensures { Adds draft.old (separator types) draft.new }
 {
@@ -154,7 +155,7 @@ fn append_separator(types: TypeForm, draft: &mut Draft)
     }
 }
 
-/// Appends the value.
+/// Appends the text of `value`; `syntax` is that of its object.
 fn append_shown(
     tree: &Tree,
     letters: &Letters,

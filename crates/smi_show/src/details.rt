@@ -1,6 +1,6 @@
-//! Details of an identifier: what `snmptranslate -Td` prints.
+//! The details of an identifier: what `snmptranslate -Td` prints.
 //!
-//! Depends on names; the tree of loaded modules says which definition a node has.
+//! Uses the names of `crate::name`; the tree of loaded modules has the definition of a node.
 
 mod definition;
 mod detail;

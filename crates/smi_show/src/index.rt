@@ -1,7 +1,7 @@
-//! The instance part of a name: which numbers the index of a row takes, what values they stand for,
-//! and their text.
+//! The instance part of a name: the values of a row's index, their encoding as numbers, and their
+//! text.
 //!
-//! Names as text build on this module; a tree of modules says which parts an index has.
+//! `crate::name` builds on this module; the tree of loaded modules has the parts of an index.
 ghost use Rattle.std.specs.Prelude.{◌≡◌, ℕ, ◌↔◌, List, IsTrue};
 ghost use Rattle.smi_show.specs.{index.Index.ReadValues};
 ghost use Rattle.smi_tree.specs.declared.columns.index_part.IndexPart.{IndexPart};
@@ -13,7 +13,7 @@ pub use part::{one_part_reading, read_part};
 pub use shown::{index_text, is_quotable, numbers_text, pieces_stand_for_numbers};
 use smi_tree::IndexPart;
 
-/// Whether the whole list of numbers is the encodings of the parts of an index, one after the other
+/// Returns whether `numbers` consists of one encoded value for each of `parts`, one after the other
 /// (RFC 2578, section 7.7).
 pub fn reads(parts: &[IndexPart], numbers: &[u32]) -> bool
     ensures { IsTrue result
@@ -29,7 +29,7 @@ pub fn reads(parts: &[IndexPart], numbers: &[u32]) -> bool
     left.is_empty()
 }
 
-/// Numbers are the encodings of at most one list of values.
+/// A list of numbers encodes at most one list of values.
 ///
 /// A law: the call does nothing, and its caller may use what it ensures.
 #[tactic(auto, using(crate::proofs::ReadingLemmas::one_reading_of_all))]

@@ -1,12 +1,12 @@
-//! Names, values, lines and details as text, appended to a `Vec<u8>`, by a tree of loaded modules;
-//! and the identifier that a name means.
+//! The text of names, values, lines and details, appended to a `Vec<u8>`, by a tree of loaded
+//! modules; and the identifier that a name means.
 //!
 //! This is what the tools print of names and bindings. Each call appends its whole text, or leaves
 //! the `Vec<u8>` unchanged if memory runs out.
 //!
 //! # Examples
 //!
-//! A name is read, and the line of its instance is written:
+//! Reads a name, and writes the line of its instance:
 //!
 //! ```
 //! let text = b"A-MIB DEFINITIONS ::= BEGIN a OBJECT IDENTIFIER ::= { iso 5 } END";
@@ -31,7 +31,7 @@ pub use smi_value::{Hint, HintValue, Letters, NameForm, StringForm, TypeForm, wr
 pub use text::{detail, name_text};
 pub use writer::LineWriter;
 
-// One line, value or front by itself, which no tool asks for.
+// A single line, value or prefix of a text; no tool calls these.
 pub use crate::name::resolve_front;
 pub use binding::{line, value_text};
 

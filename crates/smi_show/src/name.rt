@@ -1,7 +1,7 @@
 //! Names of managed objects: the name of an identifier as text, and the identifier that a name
 //! means.
 //!
-//! Depends on the index of rows; the tree of loaded modules says which nodes there are.
+//! Uses `crate::index` for the numbers after a column; the tree of loaded modules has the nodes.
 ghost use Rattle.std.specs.Prelude.{◌≡◌, ◌≤◌, ◌++◌, [], length, option_map, codes};
 ghost use Rattle.std.specs.Prelude.{Some, None};
 ghost use Rattle.std.specs.Option.{option_copied};
@@ -27,7 +27,7 @@ use smi_value::NameForm;
 use snmp_io::Draft;
 use snmp_oid::Oid;
 
-/// Appends the name of an identifier.
+/// Appends the name of `oid` in the form `form`.
 ///
 /// With `numeric_index`, the letter `b`, the numbers after a column are shown as numbers.
 pub fn name_text(tree: &Tree, form: NameForm, numeric_index: bool, oid: &Oid, draft: &mut Draft)
@@ -40,8 +40,9 @@ pub fn name_text(tree: &Tree, form: NameForm, numeric_index: bool, oid: &Oid, dr
     }
 }
 
-/// Appends the name of an identifier by `node`, its deepest node, and what follows that; in numbers
-/// in the numeric form, or if there is no node.
+/// Does what [`name_text`] does. The caller must pass the deepest node that is at `oid` or above it
+/// as `node`. The name is the node and what follows it; it is in numbers in the numeric form, or if
+/// there is no node.
 pub fn name_by_node(
     tree: &Tree,
     form: NameForm,
@@ -63,7 +64,7 @@ pub fn name_by_node(
     }
 }
 
-/// Appends each number after a dot; a dot alone if there are no numbers.
+/// Appends each number after a dot, or only a dot if there are no numbers.
 pub fn numeric(oid: &Oid, draft: &mut Draft)
     ensures { Adds draft.old (numeric_text oid.now) draft.new }
 {
@@ -73,7 +74,7 @@ pub fn numeric(oid: &Oid, draft: &mut Draft)
     }
 }
 
-/// The deepest node in a form.
+/// Appends the name of `node` in the form `form`, or nothing in the numeric form.
 fn node_text(tree: &Tree, form: NameForm, oid: &Oid, node: NearestNode<'_>, draft: &mut Draft)
     requires { node.depth ≤ length oid.now }
     ensures { let text = node_text tree.now form oid.now (standing_of node.entry) in
@@ -87,7 +88,7 @@ fn node_text(tree: &Tree, form: NameForm, oid: &Oid, node: NearestNode<'_>, draf
     }
 }
 
-/// The label with its module before it, a root's alone.
+/// Appends `MODULE::label`, or only the label for a built-in root, which has no module.
 fn qualified(node: NearestNode<'_>, draft: &mut Draft)
     ensures { let text = qualified (option_copied node.entry.home) node.entry.label.now in
         Adds draft.old text draft.new }
@@ -99,7 +100,8 @@ fn qualified(node: NearestNode<'_>, draft: &mut Draft)
     draft.octets(node.label);
 }
 
-/// For each number the label of the node there, or the number, after a dot.
+/// Appends a dot and a label for each number: the label of the node at the numbers up to this one.
+/// If there is no such node, appends the number after the dot.
 fn path(tree: &Tree, numbers: &[u32], draft: &mut Draft)
     requires { length numbers.now ≤ 128 }
     ensures { Adds draft.old (path_text tree.now numbers.now) draft.new }
@@ -112,7 +114,7 @@ fn path(tree: &Tree, numbers: &[u32], draft: &mut Draft)
     }
 }
 
-/// The label of the node that stands for an identifier, or its last number, after a dot.
+/// Appends a dot and the label of the node at `here`, or a dot and `number` if there is none.
 fn arc(tree: &Tree, here: &Oid, number: u32, near: &mut Near, draft: &mut Draft)
     ensures { let standing = nearest_node tree.now here.now in
         Adds draft.old (codes "." ++ arc_text standing here.now number) draft.new }
@@ -124,7 +126,8 @@ fn arc(tree: &Tree, here: &Oid, number: u32, near: &mut Near, draft: &mut Draft)
     }
 }
 
-/// The numbers after a node, by its index unless they are to be shown as numbers.
+/// Appends the numbers of `oid` after `node`: by the node's index if it has one and `numeric_index`
+/// is `false`, otherwise as numbers.
 fn instance_text(numeric_index: bool, oid: &Oid, node: NearestNode<'_>, draft: &mut Draft)
     requires { node.depth ≤ length oid.now }
     ensures { let text = instance_text numeric_index oid.now (standing_of node.entry) in

@@ -1,4 +1,4 @@
-//! A name, and the details of an identifier.
+//! The name and the details of an identifier, appended to a `Vec<u8>`.
 ghost use Rattle.std.specs.Prelude.{◌≡◌, ◌++◌, Bool, List, ℕ, OnOk, OnErr};
 ghost use Rattle.smi_value.specs.declared.letters.NameForm.{NameForm};
 ghost use Rattle.smi_show.specs.{details.Detail.IsDetail, name.Name.IsName};
@@ -11,7 +11,8 @@ use snmp_io::Draft;
 use snmp_oid::Oid;
 use std::alloc::AllocError;
 
-/// Appends the name of an identifier, as the letters say. If memory runs out, `out` is unchanged.
+/// Appends the name of `oid`, as `letters` say. Fails if memory runs out, and leaves `out`
+/// unchanged then.
 pub fn name_text(
     tree: &Tree,
     letters: &Letters,
@@ -29,7 +30,7 @@ pub fn name_text(
     draft.finish(out)
 }
 
-/// An identifier has one name, by its form and by a tree.
+/// An identifier has only one name in a given form and tree.
 ///
 /// A law: the call does nothing, and its caller may use what it ensures.
 #[tactic(auto, using(crate::proofs::NamesStated::same_name))]
@@ -39,8 +40,8 @@ pub fn one_name()
         → text ≡ other }
 {}
 
-/// Appends the details of an identifier: what `snmptranslate -Td` prints. If memory runs out, `out`
-/// is unchanged.
+/// Appends the details of `oid`: what `snmptranslate -Td` prints. Fails if memory runs out, and
+/// leaves `out` unchanged then.
 pub fn detail(
     tree: &Tree,
     letters: &Letters,
@@ -59,7 +60,7 @@ pub fn detail(
     draft.finish(out)
 }
 
-/// An identifier has one text of its details, by the form of its name and by a tree.
+/// The details of an identifier have only one text in a given tree and form of its name.
 ///
 /// A law: the call does nothing, and its caller may use what it ensures.
 #[tactic(auto, using(std::proofs::lemmas::Grind::common_steps))]

@@ -1,4 +1,4 @@
-//! The lines of bindings, one after the other, by one tree.
+//! Writes the lines of many bindings by one tree.
 ghost use Rattle.std.specs.Prelude.{◌≡◌, ℕ, List, ◌++◌, ◌↔◌, OnOk, OnErr, IsTrue, MatchOption};
 ghost use Rattle.snmp_oid.specs.Identifier.{IsBelow};
 ghost use Rattle.snmp_wire.specs.ber.Value.{datum};
@@ -16,13 +16,14 @@ use std::marker::Model;
 
 /// Writes the lines of bindings by one tree, one after the other.
 ///
-/// It keeps what the tree found for the name of the last line, where that is found for other names
-/// too: lines of one column follow one another. A contract sees its tree.
+/// It stores what the tree found for the name of the last line. If this holds for all names below
+/// some identifier, lines of such names need no search: most lines follow one of their own column.
+/// In contracts the value of a writer is its tree.
 #[derive(Drop)]
 pub struct LineWriter<'t> {
     tree: &'t Tree,
     near: Near,
-    // What was found for the last name.
+    // What the tree found for the last name.
     found: Found<'t>,
 }
 
@@ -33,12 +34,12 @@ impl<'t> Model for LineWriter<'t> {
 
     ghost view = { λ w. w.tree.now };
 
-    // What it keeps was found by its tree for each name below one identifier.
+    // If `found.below` is an identifier, `found` is what the tree finds for each name below it.
     ghost invariant = { λ w. IsFoundBelow w.tree.now w.found };
 }
 
 impl<'t> LineWriter<'t> {
-    /// For lines by this tree.
+    /// Returns a writer of lines by `tree`.
     pub fn new(tree: &'t Tree) -> LineWriter<'t>
         ensures { result ≡ tree.now }
     {
@@ -53,8 +54,8 @@ impl<'t> LineWriter<'t> {
         }
     }
 
-    /// Appends the line of a binding, as [`line`](crate::line) does. If memory runs out, `out` is
-    /// unchanged.
+    /// Appends the line of a binding, as [`line`](crate::line) does. Fails if memory runs out, and
+    /// leaves `out` unchanged then.
     pub fn line(
         &mut self,
         letters: &Letters,
@@ -75,7 +76,7 @@ impl<'t> LineWriter<'t> {
     }
 }
 
-/// Finds a name, unless what was found for the last name holds for it too.
+/// Sets `found` to what the tree finds for `name`, unless what it holds is valid for `name` too.
 fn find<'t>(tree: &'t Tree, name: &Oid, near: &mut Near, found: &mut Found<'t>)
     requires { IsFoundBelow tree.now found.old }
     ensures found { IsFound tree.now name.now found.new }
@@ -86,7 +87,7 @@ fn find<'t>(tree: &'t Tree, name: &Oid, near: &mut Near, found: &mut Found<'t>)
     }
 }
 
-/// Whether what was found holds for a name too: whether it is below `found.below`.
+/// Returns whether `found` is valid for `name` too, which is so if `name` is below `found.below`.
 fn is_known(found: &Found<'_>, name: &Oid) -> bool
     ensures { IsTrue result ↔ MatchOption found.now.below ⊥ (λ root. IsBelow name.now root.now) }
 {

@@ -9,9 +9,9 @@ use crate::details::syntax_text;
 use smi_text::{DefKind, ObjectType, Status, Text};
 use snmp_io::Draft;
 
-/// Appends those of SYNTAX, UNITS, MAX-ACCESS, STATUS and DESCRIPTION that a definition has (RFC
-/// 2578, sections 5 to 8; RFC 2580, sections 3 and 4), one per line. Of a type it appends none, nor
-/// of a definition whose clauses are kept as tokens.
+/// Appends the clauses SYNTAX, UNITS, MAX-ACCESS, STATUS and DESCRIPTION, as far as a definition
+/// has them (RFC 2578, sections 5 to 8; RFC 2580, sections 3 and 4), one per line. Appends nothing
+/// for a type, or for a definition whose clauses are stored as tokens.
 pub fn definition_text(kind: &DefKind, draft: &mut Draft)
     ensures { Adds draft.old (definition_text kind.now) draft.new }
 {
@@ -26,7 +26,7 @@ pub fn definition_text(kind: &DefKind, draft: &mut Draft)
     }
 }
 
-/// The clauses of an OBJECT-TYPE.
+/// Appends the clauses of an OBJECT-TYPE.
 fn object_type_text(d: &ObjectType, draft: &mut Draft)
     ensures { Adds draft.old (object_type_text d.now) draft.new }
 {
@@ -40,7 +40,7 @@ fn object_type_text(d: &ObjectType, draft: &mut Draft)
     status_text(&d.status, draft);
 }
 
-/// STATUS and DESCRIPTION.
+/// Appends STATUS and DESCRIPTION.
 fn status_text(status: &Status, draft: &mut Draft)
     ensures { Adds draft.old (status_text status.now) draft.new }
 {
@@ -48,7 +48,7 @@ fn status_text(status: &Status, draft: &mut Draft)
     clause_text(b"DESCRIPTION", &status.description, draft);
 }
 
-/// A clause: its word and its text, on one line.
+/// Appends a clause, its word and its text, as one line.
 fn clause_text(word: &[u8], text: &Text, draft: &mut Draft)
     ensures { Adds draft.old (clause_text word.now text.now) draft.new }
 {

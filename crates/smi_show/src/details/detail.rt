@@ -15,8 +15,8 @@ use smi_value::NameForm;
 use snmp_io::Draft;
 use snmp_oid::Oid;
 
-/// Appends the details of an identifier: its name, the kind, module and clauses of its deepest
-/// node, and the identifier as a value.
+/// Appends the details of `oid`: its name; the label, kind, module and clauses of its deepest node;
+/// and `oid` as a value.
 pub fn detail_text(tree: &Tree, form: NameForm, numeric_index: bool, oid: &Oid, draft: &mut Draft)
     ensures { let text = detail_text tree.now form numeric_index oid.now in
         Adds draft.old text draft.new }
@@ -29,7 +29,7 @@ pub fn detail_text(tree: &Tree, form: NameForm, numeric_index: bool, oid: &Oid, 
     identifier_text(tree, oid, draft);
 }
 
-/// The lines of a node and its definition.
+/// Appends the lines of `node` and its definition.
 fn node_text(node: NearestNode<'_>, definition: Option<&Def>, draft: &mut Draft)
     ensures { let standing = Some (standing_of node.entry) in
         Adds draft.old (node_detail standing (option_copied definition.entry)) draft.new }
@@ -42,7 +42,7 @@ fn node_text(node: NearestNode<'_>, definition: Option<&Def>, draft: &mut Draft)
     clauses_text(definition, draft);
 }
 
-/// The module of a node, which a root doesn't have.
+/// Appends the line with the module of a node, or nothing for a root, which has none.
 fn from_text(home: Option<&[u8]>, draft: &mut Draft)
     ensures { Adds draft.old (from_text (option_copied home.entry)) draft.new }
 {
@@ -53,7 +53,7 @@ fn from_text(home: Option<&[u8]>, draft: &mut Draft)
     }
 }
 
-/// The clauses of a definition.
+/// Appends the clauses of a definition, if there is one.
 fn clauses_text(definition: Option<&Def>, draft: &mut Draft)
     ensures { Adds draft.old (clauses_text (option_copied definition.entry)) draft.new }
 {
@@ -62,7 +62,7 @@ fn clauses_text(definition: Option<&Def>, draft: &mut Draft)
     }
 }
 
-/// What kind of definition a node has; a root is an OBJECT IDENTIFIER.
+/// Appends the kind of a node's definition. A root has none and is an OBJECT IDENTIFIER.
 fn kind_text(definition: Option<&Def>, draft: &mut Draft)
     ensures { Adds draft.old (kind_text (option_copied definition.entry)) draft.new }
 {

@@ -1,4 +1,4 @@
-//! A type as text: its tokens, joined by one blank.
+//! A type as text: its tokens, with a blank between them.
 ghost use Rattle.std.specs.Prelude.{◌≡◌, [], ◌∷◌, ◌++◌, codes, take, List};
 ghost use Rattle.std.specs.List.{flat_map};
 ghost use Rattle.snmp_io.specs.Draft.{Adds};
@@ -11,11 +11,11 @@ ghost use Rattle.smi_text.specs.lexer.Token.{Lexeme};
 use smi_text::{Base, NamedNumber, Range, Refinement, Syntax};
 use snmp_io::Draft;
 
-/// Appends the tokens of a type, joined by one blank.
+/// Appends the tokens of a type, with a blank between each two.
 #[tactic(auto, using(crate::proofs::TokenTexts::own_tokens))]
 pub fn syntax_text(syntax: &Syntax, draft: &mut Draft)
     ensures added { Adds draft.old (syntax_text syntax.now) draft.new }
-    // They are the tokens that the spelling of modules has for the type.
+    // The tokens are those of the type in a module text.
     ensures own_tokens { (tokens : List Lexeme) → AreTokensOf syntax.now tokens
         → syntax_text syntax.now ≡ joined_by_blanks tokens }
 {
@@ -30,7 +30,7 @@ pub fn syntax_text(syntax: &Syntax, draft: &mut Draft)
     }
 }
 
-/// The tokens of a table's type.
+/// Appends the type of a table, whose rows have the type `row`.
 fn sequence_text(row: &[u8], draft: &mut Draft)
     ensures { Adds draft.old (codes "SEQUENCE OF " ++ row.now) draft.new }
 {
@@ -38,7 +38,7 @@ fn sequence_text(row: &[u8], draft: &mut Draft)
     draft.octets(row);
 }
 
-/// The tokens of a base type.
+/// Appends the tokens of a base type.
 fn base_text(base: &Base, draft: &mut Draft)
     ensures { Adds draft.old (base_text base.now) draft.new }
 {
@@ -51,7 +51,7 @@ fn base_text(base: &Base, draft: &mut Draft)
     }
 }
 
-/// What narrows a type, with a blank before each token.
+/// Appends the refinement of a type, with a blank before each token.
 fn refinement_text(refinement: &Refinement, draft: &mut Draft)
     ensures { Adds draft.old (refinement_text refinement.now) draft.new }
 {
@@ -74,7 +74,7 @@ fn refinement_text(refinement: &Refinement, draft: &mut Draft)
     }
 }
 
-/// Named numbers with commas between them.
+/// Appends named numbers with commas between them, or a blank if there are none.
 fn numbers_text(numbers: &[NamedNumber], draft: &mut Draft)
     ensures { Adds draft.old (numbers_text numbers.now) draft.new }
 {
@@ -87,7 +87,7 @@ fn numbers_text(numbers: &[NamedNumber], draft: &mut Draft)
     }
 }
 
-/// Further named numbers, each after a comma.
+/// Appends further named numbers, each after a comma.
 fn more_numbers(numbers: &[NamedNumber], draft: &mut Draft)
     ensures { Adds draft.old (flat_map more_numbers numbers.now) draft.new }
 {
@@ -97,7 +97,7 @@ fn more_numbers(numbers: &[NamedNumber], draft: &mut Draft)
     }
 }
 
-/// A name and its number in parentheses.
+/// Appends a name and its number in parentheses.
 fn named_number_text(number: &NamedNumber, draft: &mut Draft)
     ensures { Adds draft.old (named_number_text number.now) draft.new }
 {
@@ -108,7 +108,7 @@ fn named_number_text(number: &NamedNumber, draft: &mut Draft)
     draft.octets(b" )");
 }
 
-/// Ranges with bars between them.
+/// Appends ranges with bars between them, or a blank if there are none.
 fn ranges_text(ranges: &[Range], draft: &mut Draft)
     ensures { Adds draft.old (ranges_text ranges.now) draft.new }
 {
@@ -121,7 +121,7 @@ fn ranges_text(ranges: &[Range], draft: &mut Draft)
     }
 }
 
-/// Further ranges, each after a bar.
+/// Appends further ranges, each after a bar.
 fn more_ranges(ranges: &[Range], draft: &mut Draft)
     ensures { Adds draft.old (flat_map more_ranges ranges.now) draft.new }
 {
@@ -131,7 +131,7 @@ fn more_ranges(ranges: &[Range], draft: &mut Draft)
     }
 }
 
-/// A range, or one value.
+/// Appends a range, or its one value.
 fn range_text(range: &Range, draft: &mut Draft)
     ensures { Adds draft.old (range_text range.now) draft.new }
 {

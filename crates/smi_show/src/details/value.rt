@@ -1,4 +1,4 @@
-//! An identifier as the value of a definition.
+//! The value of a definition: an identifier in braces.
 ghost use Rattle.std.specs.Prelude.{◌≡◌, ◌≤◌, ℕ, List, [], ◌∷◌, ◌++◌, length, codes, decimal};
 ghost use Rattle.snmp_io.specs.Draft.{Adds};
 ghost use Rattle.smi_show.specs.details.Value.{identifier_text, labelled_number, labelled_parts};
@@ -9,7 +9,8 @@ use smi_tree::{Near, Tree};
 use snmp_io::Draft;
 use snmp_oid::Oid;
 
-/// Appends `::= { P }`, P being the numbers, each but the last with the label of the node there.
+/// Appends the line `::= { P }`. P is the numbers, each but the last with the label of the node at
+/// the numbers up to it, if there is one.
 pub fn identifier_text(tree: &Tree, oid: &Oid, draft: &mut Draft)
     ensures { Adds draft.old (identifier_text tree.now oid.now) draft.new }
 {
@@ -18,7 +19,7 @@ pub fn identifier_text(tree: &Tree, oid: &Oid, draft: &mut Draft)
     draft.octets(b"}\n");
 }
 
-/// The numbers, with a blank after each: all but the last with their labels.
+/// Appends the numbers with a blank after each; all but the last have their labels.
 fn parts_text(tree: &Tree, numbers: &[u32], draft: &mut Draft)
     requires { length numbers.now ≤ 128 }
     ensures { Adds draft.old (parts_text tree.now numbers.now) draft.new }
@@ -30,7 +31,7 @@ fn parts_text(tree: &Tree, numbers: &[u32], draft: &mut Draft)
     }
 }
 
-/// Numbers with the labels of the nodes there, and a blank after each.
+/// Appends the numbers with their labels, and a blank after each.
 fn labelled_parts(tree: &Tree, numbers: &[u32], draft: &mut Draft)
     requires { length numbers.now ≤ 128 }
     ensures { Adds draft.old (labelled_parts tree.now numbers.now) draft.new }
@@ -43,7 +44,7 @@ fn labelled_parts(tree: &Tree, numbers: &[u32], draft: &mut Draft)
     }
 }
 
-/// A number with the label of the node that stands there, and a blank.
+/// Appends what [`labelled_number`] does, and a blank.
 fn labelled_part(tree: &Tree, here: &Oid, number: u32, near: &mut Near, draft: &mut Draft)
     ensures { let standing = nearest_node tree.now here.now in
         Adds draft.old (labelled_number standing here.now number ++ codes " ") draft.new }
@@ -52,7 +53,8 @@ fn labelled_part(tree: &Tree, here: &Oid, number: u32, near: &mut Near, draft: &
     draft.octets(b" ");
 }
 
-/// A number with the label of the node that stands there, or alone.
+/// Appends `label(number)` with the label of the node at `here`, or only the number if there is no
+/// such node.
 fn labelled_number(tree: &Tree, here: &Oid, number: u32, near: &mut Near, draft: &mut Draft)
     ensures { let standing = nearest_node tree.now here.now in
         Adds draft.old (labelled_number standing here.now number) draft.new }

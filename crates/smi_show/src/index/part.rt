@@ -1,4 +1,4 @@
-//! One part of an index, read from the front of a list of numbers.
+//! Reads the value of one part of an index from the start of a list of numbers.
 ghost use Rattle.std.specs.Prelude.{◌≡◌, ℕ, ◌≤◌, ◌<◌, ◌↔◌, List, ◌++◌, length, Some, None};
 ghost use Rattle.std.specs.Prelude.{option_map, IfSome, IfNone, IsTrue};
 ghost use Rattle.std.specs.List.{list_all};
@@ -8,8 +8,9 @@ ghost use Rattle.smi_show.specs.private.index.Reading.{of_octets, in_extent, fro
 
 use smi_tree::{Extent, IndexPart};
 
-/// The value of a part at the front of the numbers, without its length, and the numbers after it;
-/// None if no encoding of a value stands there (RFC 2578, section 7.7).
+/// Returns the value of `part` that `numbers` begins with, without the length before it, and the
+/// numbers after the value. Returns `None` if `numbers` doesn't begin with the encoding of a value
+/// (RFC 2578, section 7.7).
 pub fn read_part<'a>(part: IndexPart, numbers: &'a [u32]) -> Option<(&'a [u32], &'a [u32])>
     ensures reads { option_map (λ r. (r.0.now, r.1.now)) result ≡ front_of part numbers.now }
     ensures found { IfSome result (λ r. ReadsValue part numbers.now r.0.now r.1.now) }
@@ -20,7 +21,7 @@ pub fn read_part<'a>(part: IndexPart, numbers: &'a [u32]) -> Option<(&'a [u32], 
     read
 }
 
-/// What `read_part` returns, by the cases of the part.
+/// Returns what `read_part` does, by the cases of `part`.
 fn front<'a>(part: IndexPart, numbers: &'a [u32]) -> Option<(&'a [u32], &'a [u32])>
     ensures { option_map (λ r. (r.0.now, r.1.now)) result ≡ front_of part numbers.now }
 {
@@ -35,7 +36,7 @@ fn front<'a>(part: IndexPart, numbers: &'a [u32]) -> Option<(&'a [u32], &'a [u32
     }
 }
 
-/// Numbers begin with the encoding of at most one value, and what remains after it is one list.
+/// A list of numbers begins with the encoding of at most one value, after which one list remains.
 ///
 /// A law: the call does nothing, and its caller may use what it ensures.
 #[inline]
@@ -45,7 +46,7 @@ pub fn one_part_reading()
         → (value ≡ other) × (rest ≡ left) }
 {}
 
-/// The numbers of a string and those after it.
+/// Splits off the numbers of a string, without the length before them.
 fn split_extent<'a>(extent: Extent, numbers: &'a [u32]) -> Option<(&'a [u32], &'a [u32])>
     ensures { option_map (λ r. (r.0.now, r.1.now)) result ≡ in_extent extent numbers.now }
 {
@@ -56,7 +57,7 @@ fn split_extent<'a>(extent: Extent, numbers: &'a [u32]) -> Option<(&'a [u32], &'
     }
 }
 
-/// The first `size` numbers and the rest, None if there are fewer.
+/// Returns the first `size` numbers and the rest, or `None` if there are fewer.
 fn split<'a>(numbers: &'a [u32], size: u64) -> Option<(&'a [u32], &'a [u32])>
     ensures { option_map (λ r. (r.0.now, r.1.now)) result ≡ front_and_rest size numbers.now }
 {
@@ -67,7 +68,8 @@ fn split<'a>(numbers: &'a [u32], size: u64) -> Option<(&'a [u32], &'a [u32])>
     }
 }
 
-/// The numbers that a length at the front counts, and the rest.
+/// Splits off a length and the numbers that it counts, and returns these and the rest. Returns
+/// `None` if there is no length, or there are fewer numbers after it.
 fn split_counted<'a>(numbers: &'a [u32]) -> Option<(&'a [u32], &'a [u32])>
     ensures { option_map (λ r. (r.0.now, r.1.now)) result ≡ counted numbers.now }
 {
@@ -77,7 +79,7 @@ fn split_counted<'a>(numbers: &'a [u32]) -> Option<(&'a [u32], &'a [u32])>
     }
 }
 
-/// All numbers, of which there is at least one, and none after them.
+/// Returns all numbers and an empty rest, or `None` if there are no numbers.
 fn split_all<'a>(numbers: &'a [u32]) -> Option<(&'a [u32], &'a [u32])>
     ensures { option_map (λ r. (r.0.now, r.1.now)) result ≡ remaining numbers.now }
 {
@@ -88,7 +90,7 @@ fn split_all<'a>(numbers: &'a [u32]) -> Option<(&'a [u32], &'a [u32])>
     }
 }
 
-/// What was read, if its value has only numbers up to 255.
+/// Returns `read`, or `None` if a number of its value is above 255.
 fn octets_alone<'a>(read: Option<(&'a [u32], &'a [u32])>) -> Option<(&'a [u32], &'a [u32])>
     ensures { option_map (λ r. (r.0.now, r.1.now)) result
         ≡ of_octets (option_map (λ r. (r.0.now, r.1.now)) read.entry) }
@@ -99,7 +101,7 @@ fn octets_alone<'a>(read: Option<(&'a [u32], &'a [u32])>) -> Option<(&'a [u32], 
     }
 }
 
-/// Whether each number is at most 255.
+/// Returns whether each number is at most 255.
 fn are_octets(numbers: &[u32]) -> bool
     ensures { result ≡ list_all is_octet numbers.now }
 {

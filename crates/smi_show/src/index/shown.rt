@@ -1,5 +1,5 @@
 //! The text of an instance: numbers with a dot before each, or the values of an index with strings
-//! in quotes.
+//! in quotes. Numbers are written into a buffer (`room`), and appended together.
 ghost use Rattle.std.specs.Prelude.{◌≡◌, ◌≢◌, ℕ, ◌<◌, ◌≤◌, ◌^◌, ◌∷◌, ◌++◌, [], List, All, length};
 ghost use Rattle.std.specs.Prelude.{codes, decimal, IsTrue, Option, Some, None, true, false, take};
 ghost use Rattle.std.specs.Prelude.{◌+◌, ◌*◌};
@@ -17,11 +17,11 @@ use crate::index::{read_part, reads};
 use smi_tree::{Extent, IndexPart};
 use snmp_io::Draft;
 
-/// How many octets are gathered before they are appended: those of eleven numbers at least.
+/// The size of the buffer of octets to append. It has room for any eleven numbers.
 const ROOM: usize = 128;
 
-/// The numbers below 256 as they are put, four octets for each: a dot, the digits and blanks. No
-/// digit has to be worked out, and there is no branch by how many there are.
+/// The texts of the numbers below 256, four octets each: a dot, the digits, and blanks. With them
+/// no digit is computed, and no branch depends on the number of digits.
 const SMALL: &[u8] = b"\
     .0  .1  .2  .3  .4  .5  .6  .7  .8  .9  .10 .11 .12 .13 .14 .15 \
     .16 .17 .18 .19 .20 .21 .22 .23 .24 .25 .26 .27 .28 .29 .30 .31 \
@@ -41,12 +41,12 @@ const SMALL: &[u8] = b"\
     .240.241.242.243.244.245.246.247.248.249.250.251.252.253.254.255\
     ";
 
-/// Appends numbers, with a dot before each. This takes 4 % of the instructions of a walk whose
-/// names are numbers, so the digits are put one by one and appended at once.
+/// Appends `numbers`, with a dot before each. This takes 4 % of the instructions of a walk that
+/// prints names in numbers, so the digits are written to a buffer and appended together.
 pub fn numbers_text(numbers: &[u32], draft: &mut Draft)
     ensures { Adds draft.old (shown_pieces (as_numbers numbers.now)) draft.new }
 {
-    // Most names are shorter than the room.
+    // Most names fit into the buffer.
     let mut room = [0; ROOM];
     let front = put_front(&mut room, numbers);
     let mut filled = 2 * front;
@@ -57,9 +57,9 @@ pub fn numbers_text(numbers: &[u32], draft: &mut Draft)
     draft.octets(&room[..filled]);
 }
 
-/// Appends the numbers after a column by its index: strings whose octets may stand between quotes
-/// as texts, anything else as numbers, with a dot before each. If the index doesn't read the whole
-/// list of numbers, all of it is shown as numbers.
+/// Appends the numbers after a column by its index `parts`, with a dot before each piece: strings
+/// whose octets may all appear between quotes as texts in quotes, other values as numbers. If the
+/// index doesn't read the whole list of numbers, appends all of it as numbers.
 pub fn index_text(parts: &[IndexPart], numbers: &[u32], draft: &mut Draft)
     ensures { let pieces = instance_pieces (Some parts.now) numbers.now in
         Adds draft.old (shown_pieces pieces) draft.new }
@@ -71,7 +71,8 @@ pub fn index_text(parts: &[IndexPart], numbers: &[u32], draft: &mut Draft)
     }
 }
 
-/// The pieces that show numbers stand for exactly these numbers, and each may stand in a name.
+/// The pieces that show a list of numbers stand for exactly this list, and each may be a part of a
+/// name.
 ///
 /// A law: the call does nothing, and its caller may use what it ensures.
 #[tactic(auto, using(crate::proofs::PieceLemmas::whole, crate::proofs::PieceLemmas::each))]
@@ -83,35 +84,35 @@ pub fn pieces_stand_for_numbers()
         → All (λ n. n < 2 ^ 32) numbers → All IsPiece (instance_pieces index numbers) }
 {}
 
-/// Whether all numbers are read, and one of the values may be shown as a text. If not, all of them
-/// are shown as numbers, and no value has to be shown by itself.
+/// Returns whether the index reads all of `numbers` and one of the values may be shown as a text.
+/// If not, all of `numbers` are shown as numbers, whatever their values.
 fn is_shown_by_values(parts: &[IndexPart], numbers: &[u32]) -> bool
     ensures read { OnTrue result (is_some (values_of parts.now numbers.now) ≡ true) }
     ensures numbers { let pieces = instance_pieces (Some parts.now) numbers.now in
         OnFalse result (as_numbers numbers.now ≡ pieces) }
 {
-    // Where no part may be shown as a text, nothing has to be read.
+    // If no part may be shown as a text, nothing has to be read.
     !are_few_and_plain(parts, numbers.len()) && reads_some_text(parts, numbers)
 }
 
-/// Whether an index has at most this many parts, and all are shown as numbers, whatever their
+/// Returns whether there are at most `most` parts, and all are shown as numbers, whatever their
 /// values.
 fn are_few_and_plain(parts: &[IndexPart], most: usize) -> bool
     ensures few { OnTrue result (length parts.now ≤ most) }
     ensures plain { OnTrue result (list_all is_plain parts.now ≡ true) }
 {
-    // Reading ends with the numbers of a name, 128 at most: further parts aren't looked at.
+    // With more parts than numbers, reading can end early, while testing all parts takes longer.
     parts.len() <= most && are_plain(parts)
 }
 
-/// Whether all parts of an index are shown as numbers, whatever their values.
+/// Returns whether all parts are shown as numbers, whatever their values.
 fn are_plain(parts: &[IndexPart]) -> bool
     ensures { result ≡ list_all is_plain parts.now }
 {
     parts.iter().all(|part| is_plain(*part))
 }
 
-/// Whether a part of an index is shown as numbers, whatever its value.
+/// Returns whether `part` is shown as numbers, whatever its value.
 fn is_plain(part: IndexPart) -> bool
     ensures { result ≡ is_plain part }
 {
@@ -121,7 +122,7 @@ fn is_plain(part: IndexPart) -> bool
     }
 }
 
-/// Whether the parts of an index read all numbers, and one of the values may be shown as a text.
+/// Returns whether the parts read all of `numbers`, and one of the values may be shown as a text.
 fn reads_some_text(parts: &[IndexPart], numbers: &[u32]) -> bool
     ensures read { OnTrue result (is_some (values_of parts.now numbers.now) ≡ true) }
     ensures none { OnFalse result (has_text parts.now numbers.now ≡ false) }
@@ -139,7 +140,7 @@ fn reads_some_text(parts: &[IndexPart], numbers: &[u32]) -> bool
     false
 }
 
-/// Whether a value may be shown as a text, by its first octet.
+/// Returns whether `value` may be shown as a text, judged by its first octet only.
 fn may_be_text(part: IndexPart, value: &[u32]) -> bool
     ensures { OnFalse result (is_text part value.now ≡ false) }
 {
@@ -149,7 +150,7 @@ fn may_be_text(part: IndexPart, value: &[u32]) -> bool
     }
 }
 
-/// The values that the parts of an index read, one after the other.
+/// Appends the values that the parts read from `numbers`, one after the other.
 fn values_text(parts: &[IndexPart], numbers: &[u32], draft: &mut Draft)
     ensures { (values : List (List ℕ)) → values_of parts.now numbers.now ≡ Some values
         → Adds draft.old (shown_pieces (index_pieces parts.now values)) draft.new }
@@ -164,7 +165,7 @@ fn values_text(parts: &[IndexPart], numbers: &[u32], draft: &mut Draft)
     }
 }
 
-/// One value of an index.
+/// Appends `value`, a value of `part`: as a text in quotes, or as its numbers.
 fn value_text(part: IndexPart, value: &[u32], draft: &mut Draft)
     ensures { Adds draft.old (shown_pieces (value_pieces part value.now)) draft.new }
 {
@@ -180,7 +181,7 @@ fn value_text(part: IndexPart, value: &[u32], draft: &mut Draft)
     }
 }
 
-/// A number after a dot.
+/// Appends a dot and `number`.
 fn number_text(number: u64, draft: &mut Draft)
     ensures { Adds draft.old (codes "." ++ decimal number) draft.new }
 {
@@ -188,8 +189,8 @@ fn number_text(number: u64, draft: &mut Draft)
     draft.number(number);
 }
 
-/// Puts the numbers at the front into the room, four at a time and 60 at most, as long as they have
-/// one digit, and returns how many these are. Most names begin with such numbers.
+/// Writes leading numbers of one digit to the start of `room`, four at a time and at most 60, and
+/// returns how many it wrote. Most names begin with such numbers.
 #[tactic(auto, using(std::proofs::lemmas::Bool::OnTrue_at, crate::proofs::FrontNumbers::four_digits_more))]
 #[inline(always)]
 fn put_front(room: &mut [u8; ROOM], numbers: &[u32]) -> usize
@@ -214,7 +215,7 @@ fn put_front(room: &mut [u8; ROOM], numbers: &[u32]) -> usize
     front
 }
 
-/// Whether all four numbers have one digit.
+/// Returns whether all four numbers have one digit.
 #[inline(always)]
 fn are_digits(first: u32, second: u32, third: u32, fourth: u32) -> bool
     ensures { OnTrue result ((first < 10) × (second < 10) × (third < 10) × (fourth < 10)) }
@@ -222,7 +223,7 @@ fn are_digits(first: u32, second: u32, third: u32, fourth: u32) -> bool
     first < 10 && second < 10 && third < 10 && fourth < 10
 }
 
-/// Puts two numbers of one digit behind what is gathered.
+/// Writes a dot and a number of one digit twice, after the first `filled` octets of `room`.
 #[inline(always)]
 fn put_digits(room: &mut [u8; ROOM], filled: usize, first: u32, second: u32)
     requires room { filled ≤ 124 }
@@ -237,8 +238,8 @@ fn put_digits(room: &mut [u8; ROOM], filled: usize, first: u32, second: u32)
     put(room, filled + 3, b'0' + second as u8);
 }
 
-/// Appends what is gathered, if there may be no room for one more number, and returns how much of
-/// the room is filled then.
+/// Appends the first `end` octets of `room` if the rest may be too short for one more number.
+/// Returns how many octets are still to be appended: 0 or `end`.
 #[inline(always)]
 fn with_room(room: &[u8; ROOM], end: usize, draft: &mut Draft) -> usize
     requires { end ≤ 128 }
@@ -253,8 +254,8 @@ fn with_room(room: &[u8; ROOM], end: usize, draft: &mut Draft) -> usize
     0
 }
 
-/// Puts a number after a dot behind what is gathered, and returns how much of the room is filled
-/// then.
+/// Writes a dot and `number` after the first `filled` octets of `room`, and returns the length of
+/// both together.
 #[inline(always)]
 fn put_number(room: &mut [u8; ROOM], filled: usize, number: u32) -> usize
     requires { filled ≤ 117 }
@@ -264,7 +265,7 @@ fn put_number(room: &mut [u8; ROOM], filled: usize, number: u32) -> usize
     if number >= 1000 {
         put_long(room, filled, number)
     } else if number < 256 {
-        // Most numbers are octets of addresses, or as small.
+        // Most numbers are octets of addresses, or as small as these.
         put_small(room, filled, number)
     } else {
         put_short(room, filled, number)
@@ -339,7 +340,7 @@ fn put_small(room: &mut [u8; ROOM], filled: usize, number: u32) -> usize
     ensures within { result ≤ filled + 4 }
     ensures text { take result room.new ≡ take filled room.old ++ (codes "." ++ decimal number) }
 {
-    // All four octets are put, blanks too: what is put next stands right after the digits.
+    // All four octets are written, blanks too: the next number overwrites the blanks.
     let at = number as usize * 4;
     let (first, second, third, fourth) = (SMALL[at], SMALL[at + 1], SMALL[at + 2], SMALL[at + 3]);
     put(room, filled, first);
@@ -349,7 +350,7 @@ fn put_small(room: &mut [u8; ROOM], filled: usize, number: u32) -> usize
     filled + small_len(number)
 }
 
-/// How many octets a number below 256 takes, with the dot before it.
+/// Returns the length of `number`, which is below 256, with a dot before it.
 #[tactic(auto, using(crate::proofs::SmallNumbers::small_len_is))]
 #[inline(always)]
 fn small_len(number: u32) -> usize
@@ -360,7 +361,8 @@ fn small_len(number: u32) -> usize
     2 + usize::from(number >= 10) + usize::from(number >= 100)
 }
 
-/// Puts the last three digits of a longer number behind what is gathered.
+/// Writes the three digits of `number`, the last ones of a longer number, after the first `filled`
+/// octets of `room`, and returns the length of both together.
 #[inline(always)]
 fn put_three(room: &mut [u8; ROOM], filled: usize, number: u32) -> usize
     requires room { filled ≤ 125 }
@@ -374,7 +376,7 @@ fn put_three(room: &mut [u8; ROOM], filled: usize, number: u32) -> usize
     filled + 3
 }
 
-/// Puts an octet at a place.
+/// Writes `octet` at the offset `place`.
 #[inline(always)]
 fn put(room: &mut [u8; ROOM], place: usize, octet: u8)
     requires { place < 128 }
@@ -383,8 +385,8 @@ fn put(room: &mut [u8; ROOM], place: usize, octet: u8)
     room[place] = octet;
 }
 
-/// A string between quotes, after a dot: double quotes if a length counts its octets, otherwise
-/// single ones.
+/// Appends a dot and a string in quotes: double ones if its encoding begins with its length,
+/// otherwise single ones.
 fn quoted_text(extent: Extent, value: &[u32], draft: &mut Draft)
     requires { is_shown_text value.now ≡ true }
     ensures { Adds draft.old (shown_pieces (as_text extent value.now ∷ [])) draft.new }
@@ -398,7 +400,7 @@ fn quoted_text(extent: Extent, value: &[u32], draft: &mut Draft)
     draft.octet(quote);
 }
 
-/// Octets, unchanged.
+/// Appends the numbers of `value` as octets.
 fn octets_text(value: &[u32], draft: &mut Draft)
     requires { list_all is_quotable value.now ≡ true }
     ensures { Adds draft.old value.now draft.new }
@@ -408,21 +410,22 @@ fn octets_text(value: &[u32], draft: &mut Draft)
     }
 }
 
-/// Whether the octets may stand between quotes, and there is at least one.
+/// Returns whether there is an octet, and each may appear between quotes.
 fn is_shown_text(value: &[u32]) -> bool
     ensures { result ≡ is_shown_text value.now }
 {
     !value.is_empty() && are_quotable(value)
 }
 
-/// Whether the octets may stand between quotes.
+/// Returns whether each octet may appear between quotes.
 fn are_quotable(value: &[u32]) -> bool
     ensures { result ≡ list_all is_quotable value.now }
 {
     value.iter().all(|octet| is_quotable(*octet))
 }
 
-/// Whether the octet may stand between quotes: printable, and neither a quote nor a backslash.
+/// Returns whether `octet` may appear between quotes: it is printable, and neither a quote nor a
+/// backslash.
 pub fn is_quotable(octet: u32) -> bool
     ensures { result ≡ is_quotable octet }
 {

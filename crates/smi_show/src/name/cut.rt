@@ -1,4 +1,4 @@
-//! A name cut at dots and at `::` outside quotes.
+//! Cuts a name at dots and at `::` outside quotes.
 ghost use Rattle.std.specs.Prelude.{◌≡◌, ◌&&◌, ◌∷◌, ◌<◌, IfSome, None, length, option_map};
 ghost use Rattle.smi_show.specs.name.Cutting.{is_double_colon, is_unquoted, module_after};
 ghost use Rattle.smi_show.specs.name.Cutting.{name_parts};
@@ -6,7 +6,8 @@ ghost use Rattle.smi_show.specs.private.name.Left.{parts_left};
 
 use snmp_io::{open_after, split_unquoted};
 
-/// The first part of a text, and what follows the dot that ends it, None if no dot does.
+/// Returns the first part of `text`, and the text after the dot that ends this part, or `None` if
+/// the part is the whole text.
 #[tactic(auto, using(crate::proofs::Parted::one_part, crate::proofs::Parted::part_before))]
 pub fn cut_part(text: &[u8]) -> (&[u8], Option<&[u8]>)
     ensures parts { let left = parts_left (option_map (λ rest. rest.now) result.1) in
@@ -19,11 +20,12 @@ pub fn cut_part(text: &[u8]) -> (&[u8], Option<&[u8]>)
     }
 }
 
-/// What stands before the first `::` outside quotes, and after it.
+/// Returns the text before the first `::` outside quotes and the text after it, or `None` if there
+/// is no such `::`.
 pub fn cut_module(text: &[u8]) -> Option<(&[u8], &[u8])>
     ensures { option_map (λ r. (r.0.now, r.1.now)) result ≡ module_after None text.now }
 {
-    // Most names have no other colon before it.
+    // In most names no other colon comes before `::`.
     let (home, after) = split_unquoted(text, b':')?;
     match after {
         [b':', rest @ ..] => Some((home, rest)),
@@ -31,7 +33,7 @@ pub fn cut_module(text: &[u8]) -> Option<(&[u8], &[u8])>
     }
 }
 
-/// What `cut_module` returns, of a name that may have other colons.
+/// Returns what [`cut_module`] does, octet by octet: other colons may come before `::`.
 #[tactic(auto, using(std::proofs::lemmas::List::take_rest, crate::proofs::CutLemmas::module_here, crate::proofs::CutLemmas::module_later))]
 fn cut_later_module(text: &[u8]) -> Option<(&[u8], &[u8])>
     ensures { option_map (λ r. (r.0.now, r.1.now)) result ≡ module_after None text.now }
@@ -46,7 +48,8 @@ fn cut_later_module(text: &[u8]) -> Option<(&[u8], &[u8])>
     None
 }
 
-/// Whether `::` stands at the front, outside quotes.
+/// Returns whether `text` begins with `::` outside quotes. `before` is the quote that is open
+/// before `text`, if any.
 fn ends_module(before: Option<u8>, text: &[u8]) -> bool
     ensures { result ≡ (is_unquoted before && is_double_colon text.now) }
 {

@@ -1,7 +1,7 @@
-//! Why a text is not a name.
+//! Why a text isn't a name.
 use thiserror::Error;
 
-/// Why a text means no identifier: the first fault from the left.
+/// Why a text doesn't name an identifier: its first fault from the left.
 #[derive(Clone, Copy, Debug, PartialEq, Eq, Error)]
 pub enum NameError {
     /// A label or a module is unknown, or the text is empty.
@@ -13,7 +13,7 @@ pub enum NameError {
     /// A part is empty, or begins with a digit and isn't a number up to 4294967295.
     #[error("bad number")]
     BadNumber,
-    /// There would be more than 128 numbers.
+    /// The identifier would have more than 128 numbers.
     #[error("name too long")]
     TooLong,
 }

@@ -1,5 +1,4 @@
-//! Laws of the meanings of names. Each is a call that does nothing, and its caller may use what it
-//! ensures.
+//! Laws of the meanings of names. Each call does nothing, and its caller may use what it ensures.
 ghost use Rattle.std.specs.Prelude.{◌≡◌, ℕ, List, Ok, Result};
 ghost use Rattle.snmp_oid.specs.{Identifier.IsIdentifier, Numeric.numeric_text};
 ghost use Rattle.smi_show.specs.{name.Meaning.meaning, name.Meant.TextMeans};
@@ -8,7 +7,7 @@ ghost use Rattle.smi_tree.specs.Tree.{Contents};
 
 use snmp_oid::names;
 
-/// A text means one thing as a name, an identifier or a fault.
+/// Each text means exactly one thing as a name: an identifier or a fault.
 pub fn one_meaning()
     ensures found { (tree : Contents) (text : List ℕ)
         → (result : Result (List ℕ) NameError) × TextMeans tree text result }
@@ -16,13 +15,13 @@ pub fn one_meaning()
         → TextMeans tree text a → TextMeans tree text b → a ≡ b }
 {}
 
-/// What a text means is computed by a function, for proofs that need one.
+/// `meaning` computes what a text means, for proofs that need a function.
 #[tactic(auto, using(crate::proofs::MeantTexts::means))]
 pub fn meanings_are_computed()
     ensures { (tree : Contents) (text : List ℕ) → TextMeans tree text (meaning tree text) }
 {}
 
-/// An identifier written in numbers means itself, whatever nodes there are.
+/// An identifier written in numbers means itself, whatever nodes the tree has.
 pub fn numbers_are_read()
     ensures { (tree : Contents) (o : List ℕ) → IsIdentifier o
         → TextMeans tree (numeric_text o) (Ok o) }

@@ -1,4 +1,4 @@
-//! The identifier that a name means, by its parts from the left.
+//! Reads the identifier that a name means, part by part from the left.
 ghost use Rattle.std.specs.Prelude.{◌≡◌, ◌<◌, ℕ, Bool, List, [], Ok, Err, IfErr, IfOk, IfSome, ◌≤◌};
 ghost use Rattle.std.specs.Prelude.{MatchResult, OnOk, length, option_map, true};
 ghost use Rattle.std.specs.Option.{option_copied};
@@ -21,16 +21,16 @@ use smi_tree::Tree;
 use snmp_io::unquoted_front;
 use snmp_oid::{Oid, StoredOid, front_number, names, read_numeric};
 
-/// The identifier that a name means, or the first fault from the left. Does not allocate.
+/// Returns the identifier that a name means, or the first fault from the left. Doesn't allocate.
 ///
 /// The name is `.`, or parts with dots between them, after `MODULE::`, a dot or neither. A number
-/// is itself, `"text"` its length and octets, `'text'` its octets alone; a label as the first part
-/// is found in the module named, anywhere, or after a leading dot among the roots, and one as a
-/// later part is that of a child. What [`crate::name::name_text`] shows by module and label, or in
-/// numbers, is read back.
+/// stands for itself, `"text"` for its length and octets, `'text'` for its octets only. A label as
+/// the first part is looked up in the module, among the roots after a leading dot, or in the whole
+/// tree; a label as a later part among the children of the node before it. What
+/// [`crate::name::name_text`] shows by module and label, or in numbers, is read back.
 pub fn resolve(tree: &Tree, text: &[u8]) -> Result<Oid, NameError>
     ensures stated { TextMeans tree.now text.now result }
-    // What is shown by module and label, or in numbers, means the identifier that it is shown for.
+    // A name shown by module and label, or in numbers, means the identifier that it is the name of.
     ensures reads_back { (form : NameForm) (numeric_index : Bool) (o : List ℕ)
         → ReadsBack form → IsIdentifier o
         → IsName tree.now form numeric_index o text.now → result ≡ Ok o }
@@ -40,9 +40,9 @@ pub fn resolve(tree: &Tree, text: &[u8]) -> Result<Oid, NameError>
     meaning_of(tree, text)
 }
 
-/// The identifier that the front of a text means, and the front's length, or the first fault, as
-/// [`resolve`] returns them. The front is what stands before the first `stop` outside
-/// quotes, or the whole text if there is none. Does not allocate.
+/// Returns the identifier that a prefix of `text` means, and the length of this prefix. It ends
+/// before the first `stop` outside quotes, or with `text` if there is none. Fails as [`resolve`]
+/// does. Doesn't allocate.
 pub fn resolve_front(tree: &Tree, text: &[u8], stop: u8) -> Result<(Oid, usize), NameError>
     ensures { FrontMeans tree.now stop text.now result }
 {
@@ -51,8 +51,8 @@ pub fn resolve_front(tree: &Tree, text: &[u8], stop: u8) -> Result<(Oid, usize),
     Ok((oid, size))
 }
 
-/// Reads the identifier that a name means into `oid`, as [`resolve`] returns it: to move an
-/// identifier takes as long as to read one. After a fault `oid` may have any numbers.
+/// Does what [`resolve`] does, but stores the identifier in `oid`: moving an identifier takes as
+/// long as reading one. After a fault `oid` may have any numbers.
 pub fn resolve_into(tree: &Tree, text: &[u8], oid: &mut Oid) -> Result<(), NameError>
     ensures found { OnOk result (TextMeans tree.now text.now (Ok oid.new)) }
     ensures fault { IfErr result (λ why. TextMeans tree.now text.now (Err why)) }
@@ -60,8 +60,8 @@ pub fn resolve_into(tree: &Tree, text: &[u8], oid: &mut Oid) -> Result<(), NameE
     read_meaning(tree, text, oid)
 }
 
-/// Reads the identifier that the front of a text means into `oid`, and returns the front's length,
-/// as [`resolve_front`] does. After a fault `oid` may have any numbers.
+/// Does what [`resolve_front`] does, but stores the identifier in `oid` and returns only the length
+/// of the prefix. After a fault `oid` may have any numbers.
 pub fn resolve_front_into(
     tree: &Tree,
     text: &[u8],
@@ -77,7 +77,7 @@ pub fn resolve_front_into(
     Ok(front.len())
 }
 
-/// What `resolve` returns.
+/// Returns what `resolve` does, by the computed meaning.
 fn meaning_of(tree: &Tree, text: &[u8]) -> Result<Oid, NameError>
     ensures { result ≡ meaning tree.now text.now }
 {
@@ -86,7 +86,7 @@ fn meaning_of(tree: &Tree, text: &[u8]) -> Result<Oid, NameError>
     Ok(oid)
 }
 
-/// Reads what a text means into `oid`.
+/// Reads the identifier that `text` means into `oid`.
 #[tactic(auto, using(crate::proofs::NumericMeaning::numeric_meaning))]
 fn read_meaning(tree: &Tree, text: &[u8], oid: &mut Oid) -> Result<(), NameError>
     ensures { read_to result oid.new ≡ meaning tree.now text.now }
@@ -97,7 +97,8 @@ fn read_meaning(tree: &Tree, text: &[u8], oid: &mut Oid) -> Result<(), NameError
     named_meaning(tree, text, oid)
 }
 
-/// Reads a text of numbers alone, and returns whether it is one. Such a name is read by one pass.
+/// Reads `text` into `oid` if it is an identifier in numbers, and returns whether it is. Such a
+/// name is read in one pass.
 fn numbers_alone(text: &[u8], oid: &mut Oid) -> bool
     ensures { result ≡ true → IsNumericName text.now oid.new × (length oid.new ≤ 128) }
 {
@@ -107,7 +108,7 @@ fn numbers_alone(text: &[u8], oid: &mut Oid) -> bool
     }
 }
 
-/// Reads what any text means.
+/// Does what `read_meaning` does, part by part, for any text.
 fn named_meaning(tree: &Tree, text: &[u8], oid: &mut Oid) -> Result<(), NameError>
     ensures { read_to result oid.new ≡ meaning tree.now text.now }
 {
@@ -121,7 +122,7 @@ fn named_meaning(tree: &Tree, text: &[u8], oid: &mut Oid) -> Result<(), NameErro
     }
 }
 
-/// Reads what a text of at least one part means, with or without a module before it.
+/// Reads a name that is neither empty nor `.`, with or without a module before its parts.
 fn scoped_meaning(tree: &Tree, text: &[u8], oid: &mut Oid) -> Result<(), NameError>
     ensures { read_to result oid.new
         ≡ scoped_meaning tree.now text.now (module_after None text.now) }
@@ -138,7 +139,7 @@ fn scoped_meaning(tree: &Tree, text: &[u8], oid: &mut Oid) -> Result<(), NameErr
     }
 }
 
-/// Reads what a text without a module means.
+/// Reads a name without a module.
 fn plain_meaning(tree: &Tree, text: &[u8], oid: &mut Oid) -> Result<(), NameError>
     ensures { read_to result oid.new ≡ plain_meaning tree.now text.now }
 {
@@ -153,13 +154,13 @@ fn plain_meaning(tree: &Tree, text: &[u8], oid: &mut Oid) -> Result<(), NameErro
 enum Scope<'a> {
     /// In the module before `::`.
     Module(&'a [u8]),
-    /// Anywhere, the roots before all others.
+    /// In the whole tree, the roots before all others.
     Anywhere,
     /// Among the roots, after a leading dot.
     Root,
 }
 
-/// Reads what parts mean, with the label of the first looked up in this scope.
+/// Reads the parts in `text` into `oid`, with the label of the first looked up in `scope`.
 fn parts_meaning(tree: &Tree, scope: Scope<'_>, text: &[u8], oid: &mut Oid) -> Result<(), NameError>
     ensures { let parts = name_parts text.now in
         read_to result oid.new
@@ -169,7 +170,7 @@ fn parts_meaning(tree: &Tree, scope: Scope<'_>, text: &[u8], oid: &mut Oid) -> R
     further_meaning(tree, left, oid)
 }
 
-/// Reads what further parts mean after the identifier so far.
+/// Reads further parts, if there are any, and appends them to the identifier in `oid`.
 fn further_meaning(tree: &Tree, parts: Option<&[u8]>, oid: &mut Oid) -> Result<(), NameError>
     ensures { let left = parts_left (option_map (λ rest. rest.now) parts.entry) in
         read_to result oid.new ≡ further_meaning tree.now oid.old left }
@@ -181,7 +182,8 @@ fn further_meaning(tree: &Tree, parts: Option<&[u8]>, oid: &mut Oid) -> Result<(
     Ok(())
 }
 
-/// Reads what the first part of a name means, and returns what follows the dot that ends it.
+/// Reads the first part of a name into `oid`, and returns the text after the dot that ends it, if
+/// one does.
 fn first_meaning<'b>(
     tree: &Tree,
     scope: Scope<'_>,
@@ -197,7 +199,8 @@ fn first_meaning<'b>(
     Ok(rest)
 }
 
-/// Reads what the first of further parts means, and returns what follows the dot that ends it.
+/// Reads the first of further parts after the identifier in `oid`, and returns the text after the
+/// dot that ends this part, if one does.
 fn next_meaning<'b>(
     tree: &Tree,
     text: &'b [u8],
@@ -221,7 +224,7 @@ fn next_meaning<'b>(
     Ok(rest)
 }
 
-/// Reads what the first part means.
+/// Reads `part`, the first of a name, into `oid`.
 fn head_meaning(tree: &Tree, scope: Scope<'_>, part: &[u8], oid: &mut Oid) -> Result<(), NameError>
     ensures { let look_up = found_in tree.now (scope_in scope.entry) in
         read_to result oid.new ≡ part_meaning look_up [] part.now }

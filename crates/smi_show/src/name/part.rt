@@ -1,4 +1,4 @@
-//! A part of a name, read on its own.
+//! Reads one part of a name by itself.
 ghost use Rattle.std.specs.Prelude.{◌≡◌, ℕ, option_map};
 ghost use Rattle.std.specs.{Option.option_copied, List.list_all};
 ghost use Rattle.smi_show.specs.{index.Pieces.is_quotable, private.name.Part.outcome_in};
@@ -8,27 +8,29 @@ use crate::index::is_quotable;
 use crate::name::NameError;
 use snmp_oid::parse_number;
 
-/// What a part of a name means on its own, without a tree.
+/// A part of a name, as it is read without a tree.
 #[derive(Clone, Copy)]
 pub enum Part<'a> {
-    /// Numbers.
+    /// A number, or a text in quotes.
     Piece(Piece<'a>),
     /// A label.
     Label(&'a [u8]),
 }
 
-/// A part that stands for numbers.
+/// A part that stands for numbers of the identifier.
 #[derive(Clone, Copy)]
 pub enum Piece<'a> {
     /// A number.
     Number(u32),
-    /// A text in double quotes: its length and its octets.
+    /// A text in double quotes: its length, then its octets.
     Counted(&'a [u8]),
-    /// A text in single quotes: its octets alone.
+    /// A text in single quotes: only its octets.
     Plain(&'a [u8]),
 }
 
-/// What a part says: a number, a text in quotes, or a label; or its own fault.
+/// Reads a part: a number, a text in quotes, or a label. Fails with `BadNumber` if it is empty, or
+/// begins with a digit and isn't a number; with `BadIndex` if it begins with a quote and isn't a
+/// text in quotes.
 #[tactic(auto, using(crate::proofs::NumeralLemmas::numeral_read))]
 pub fn read_part(part: &[u8]) -> Result<Part<'_>, NameError>
     ensures { outcome_in result ≡ word_of part.now }
@@ -51,7 +53,8 @@ pub fn read_part(part: &[u8]) -> Result<Part<'_>, NameError>
     }
 }
 
-/// The octets before the quote that ends a text, where each may stand between quotes.
+/// Returns the octets of `rest` before the quote that ends it, or `None` if it doesn't end with the
+/// quote, or one of these octets may not appear between quotes.
 fn quoted(quote: u8, rest: &[u8]) -> Option<&[u8]>
     ensures { option_map (λ octets. octets.now) result ≡ quoted_in quote rest.now }
 {
@@ -61,7 +64,7 @@ fn quoted(quote: u8, rest: &[u8]) -> Option<&[u8]>
     }
 }
 
-/// Whether the octets may stand between quotes.
+/// Returns whether each octet may appear between quotes.
 fn are_quotable(octets: &[u8]) -> bool
     ensures { result ≡ list_all is_quotable octets.now }
 {

@@ -1,4 +1,4 @@
-//! Numbers after an identifier, as a part of a name gives them.
+//! Appends the numbers that a part of a name stands for to an identifier.
 ghost use Rattle.std.specs.Prelude.{◌≡◌, ◌++◌, ◌∷◌, [], length};
 ghost use Rattle.smi_show.specs.{index.Pieces.piece_numbers, name.Meaning.fitting};
 ghost use Rattle.smi_show.specs.{private.name.Part.piece_in, private.name.Reading.read_to};
@@ -7,8 +7,8 @@ use crate::name::NameError;
 use crate::name::part::Piece;
 use snmp_oid::{MAX_LEN, Oid};
 
-/// Appends the numbers of a part to an identifier, or returns `TooLong`. After that it may have any
-/// numbers.
+/// Appends the numbers of `piece` to `oid`. Fails with `TooLong` if `oid` would have more than 128
+/// numbers; after that it may have any numbers.
 pub fn push_piece(oid: &mut Oid, piece: Piece<'_>) -> Result<(), NameError>
     ensures { read_to result oid.new ≡ fitting (oid.old ++ piece_numbers (piece_in piece.entry)) }
 {
@@ -19,8 +19,8 @@ pub fn push_piece(oid: &mut Oid, piece: Piece<'_>) -> Result<(), NameError>
     }
 }
 
-/// Appends a number.
-// Hot: each number of a name.
+/// Appends `number` to `oid`, or fails with `TooLong`.
+// `inline`: called for each number of a name.
 #[inline]
 pub fn push_number(oid: &mut Oid, number: u32) -> Result<(), NameError>
     ensures { read_to result oid.new ≡ fitting (oid.old ++ number ∷ []) }
@@ -28,7 +28,7 @@ pub fn push_number(oid: &mut Oid, number: u32) -> Result<(), NameError>
     oid.push(number).map_err(|_| NameError::TooLong)
 }
 
-/// Appends the number of octets and then the octets.
+/// Appends the number of octets and then the octets to `oid`, or fails with `TooLong`.
 fn push_counted(oid: &mut Oid, octets: &[u8]) -> Result<(), NameError>
     ensures { read_to result oid.new ≡ fitting (oid.old ++ length octets.now ∷ octets.now) }
 {
@@ -39,7 +39,7 @@ fn push_counted(oid: &mut Oid, octets: &[u8]) -> Result<(), NameError>
     push_octets(oid, octets)
 }
 
-/// Appends octets.
+/// Appends the octets to `oid`, each as a number, or fails with `TooLong`.
 fn push_octets(oid: &mut Oid, octets: &[u8]) -> Result<(), NameError>
     ensures { read_to result oid.new ≡ fitting (oid.old ++ octets.now) }
 {
