@@ -8,25 +8,25 @@ use Rattle.smi_show.specs.{name.Name.IsName, private.name.Shown.name_text}
 use Rattle.smi_value.specs.Value.{ShowsValue}
 use Rattle.smi_tree.specs.{Naming.nearest_syntax, Tree.Contents}
 
--- what stands between name and value: a blank if q is given
+-- the separator between name and value: a blank with the letter q, otherwise ` = `
 abbrev pub separator : TypeForm → List ℕ
 separator Typed = codes " = "
 separator Untyped = codes " = "
 separator Quick = codes " "
 
--- what stands before the value: the name, unless v is given
+-- the text before the value: the name and the separator, or nothing with the letter v
 abbrev pub front_text : Letters → List ℕ → List ℕ
 front_text letters name = if letters.value_alone then codes "" else name ++ separator letters.types
 
--- the text of a value of the instance of this name, by the letters and the syntax of its object;
--- `names` are the texts of identifiers, each its name by the letters
+-- `text` shows `value`, the value of the instance `name`, by `letters` and the syntax of its
+-- object. `names` maps each identifier to its name by `letters`.
 pub record IsValueText (tree : Contents) (letters : Letters) (name : List ℕ) (value : Datum)
     (text : List ℕ) : Type 0 where
   pub names : List ℕ → List ℕ
   pub are_names : (o : List ℕ) → IsName tree letters.names letters.numeric_index o (names o)
   pub shows : ShowsValue names letters (nearest_syntax tree name) value text
 
--- the text is the line of a binding: its name, its value and a newline, by the letters
+-- `text` is the line of a binding by `letters`: name and separator, `value`, and a newline
 pub record IsLine (tree : Contents) (letters : Letters) (name : List ℕ) (value : Datum)
     (text : List ℕ) : Type 0 where
   pub shown_name : List ℕ

@@ -22,8 +22,8 @@ object_type_text d =
     clause_text (codes "SYNTAX") (syntax_text d.syntax) ++ units_clause d.units
     ++ clause_text (codes "MAX-ACCESS") d.max_access ++ status_text d.status
 
--- those of SYNTAX, UNITS, MAX-ACCESS, STATUS and DESCRIPTION that the definition has, strings with
--- their quotes; none of a type, nor of a definition whose clauses are kept as tokens
+-- the clauses SYNTAX, UNITS, MAX-ACCESS, STATUS and DESCRIPTION as far as the definition has them,
+-- strings with their quotes; none for a type, or if the clauses are stored as tokens
 abbrev pub definition_text : DefKind → List ℕ
 definition_text (D.ObjectIdentifier value) = []
 definition_text (D.ModuleIdentity d) = clause_text (codes "DESCRIPTION") d.description

@@ -1,5 +1,5 @@
--- The details of an identifier: its name, the definition of its deepest node, and the identifier as
--- a value.
+-- The details of an identifier: its name, its deepest node and that one's definition, and the
+-- identifier as a value.
 use Rattle.std.specs.Prelude.{◌≡◌, ℕ, Bool, List, [], ◌++◌, codes, Option, Some, None}
 use Rattle.smi_value.specs.declared.letters.NameForm.{NameForm}
 use Rattle.smi_text.specs.{declared.trees.tree.Def.Def, trees.Lookup.kind_words}
@@ -9,7 +9,7 @@ use Rattle.smi_tree.specs.Naming.{Standing, nearest_definition, nearest_node}
 use Rattle.smi_show.specs.{private.name.Shown.name_text, details.Value.identifier_text}
 use Rattle.smi_show.specs.details.Definition.{definition_text}
 
--- a root is an OBJECT IDENTIFIER
+-- the kind of a node's definition; a root has none and is an OBJECT IDENTIFIER
 abbrev pub kind_text : Option Def → List ℕ
 kind_text None = codes "OBJECT IDENTIFIER"
 kind_text (Some d) = kind_words d.kind
@@ -28,7 +28,7 @@ node_detail (Some node) definition =
     node.label ++ codes " " ++ kind_text definition ++ codes "\n" ++ from_text node.home
     ++ clauses_text definition
 
--- the name, what is said of the deepest node, and the identifier as a value
+-- `text` is the details of `o`: its name, the lines of its deepest node, and `o` as a value
 pub record IsDetail (tree : Contents) (form : NameForm) (numeric_index : Bool)
     (o text : List ℕ) : Type 0 where
   pub name : List ℕ

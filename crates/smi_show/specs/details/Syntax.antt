@@ -1,4 +1,4 @@
--- A type as text: its tokens, joined by one blank (RFC 2578, sections 7.1 and 9).
+-- A type as text: its tokens, with a blank between each two (RFC 2578, sections 7.1 and 9).
 use Rattle.std.specs.Prelude.{ℕ, List, [], ◌∷◌, ◌++◌, codes, Option, Some, None}
 use Rattle.std.specs.List.{flat_map}
 use Rattle.smi_text.specs.{declared.trees.tree.TokenText.TokenText, declared.trees.tree.Range.Range}

@@ -6,23 +6,23 @@ use Rattle.smi_show.specs.name.Beginnings.{beginnings}
 use Rattle.smi_tree.specs.{Nodes.last_number, Tree.Contents}
 use Rattle.smi_tree.specs.Naming.{Standing, nearest_node}
 
--- a number with the label of the node that stands there, or alone
+-- `n`, the last number of `here`, with the label of the node at `here`; only `n` if there is none
 abbrev pub labelled_number : Option Standing → List ℕ → ℕ → List ℕ
 labelled_number None here n = decimal n
 labelled_number (Some node) here n =
     if node.depth == length here then node.label ++ codes "(" ++ decimal n ++ codes ")"
     else decimal n
 
--- the last number with its label, and a blank
+-- the last number of `here` with its label, and a blank
 abbrev pub labelled_part : Contents → List ℕ → List ℕ
 labelled_part tree here =
     labelled_number (nearest_node tree here) here (last_number here) ++ codes " "
 
--- all numbers with their labels, a blank after each: one for each beginning
+-- all numbers of `o` with their labels, and a blank after each: one for each beginning of `o`
 abbrev pub labelled_parts : Contents → List ℕ → List ℕ
 labelled_parts tree o = flat_map (labelled_part tree) (beginnings o)
 
--- each number but the last with its label, then the last
+-- each number but the last with its label, then the last one; a blank after each
 abbrev pub parts_text : Contents → List ℕ → List ℕ
 parts_text tree [] = []
 parts_text tree (n ∷ more) =

@@ -1,6 +1,6 @@
--- An index as numbers after a column's identifier: the encodings of its parts, one after the other
--- (RFC 2578, section 7.7). A contract sees the value of a part as the list of its numbers, without
--- a length before it.
+-- An index as numbers after a column's identifier: the encoded values of its parts, one after the
+-- other (RFC 2578, section 7.7). In contracts the value of a part is the list of its numbers,
+-- without a length before it.
 use Rattle.std.specs.Prelude.{◌≡◌, ◌≢◌, ℕ, Bool, true, false, nat_le, List, [], ◌∷◌, ◌++◌, length}
 use Rattle.std.specs.{Bool.OnTrue, List.list_all}
 use Rattle.smi_tree.specs.declared.columns.index_part.Extent.{Extent}
@@ -10,21 +10,21 @@ use Rattle.smi_tree.specs.declared.columns.index_part.IndexPart.TheVariants.{Num
 use Rattle.smi_tree.specs.declared.columns.index_part.IndexPart.TheVariants.{Octets, Identifier}
 use Rattle.smi_tree.specs.declared.columns.index_part.IndexPart.TheVariants.{ImpliedIdentifier}
 
--- a number that an octet has
+-- the number is that of an octet
 abbrev pub is_octet : ℕ → Bool
 is_octet n = nat_le n 255
 
 abbrev pub AreOctetNumbers : List ℕ → Type 0
 AreOctetNumbers value = list_all is_octet value ≡ true
 
--- a value as numbers (RFC 2578, 7.7): as many as are fixed, which is the SIZE of a string, one of
--- an INTEGER, four of an IpAddress; or a length, and then this many; or, implied, at least one
+-- `here` encodes the numbers `value` (RFC 2578, 7.7). `Fixed size`: the numbers, `size` of them.
+-- `Counted`: their count, then the numbers. `Implied`: the numbers, at least one.
 abbrev pub IsInExtent : Extent → List ℕ → List ℕ → Type 0
 IsInExtent (Fixed size) value here = (length value ≡ size) × (here ≡ value)
 IsInExtent Counted value here = here ≡ length value ∷ value
 IsInExtent Implied value here = (value ≢ []) × (here ≡ value)
 
--- how many numbers a part takes
+-- what decides how many numbers a value of a part has
 abbrev pub extent_of : IndexPart → Extent
 extent_of Number = Fixed 1
 extent_of Address = Fixed 4
@@ -33,31 +33,31 @@ extent_of (Octets extent) = extent
 extent_of Identifier = Counted
 extent_of ImpliedIdentifier = Implied
 
--- a part whose numbers are octets; those of an INTEGER or an OBJECT IDENTIFIER may be any
+-- the numbers of this part are octets; those of an INTEGER or an OBJECT IDENTIFIER may be any
 abbrev pub is_of_octets : IndexPart → Bool
 is_of_octets Address = true
 is_of_octets (Text extent) = true
 is_of_octets (Octets extent) = true
 is_of_octets _ = false
 
--- the encoding of a value under a part
+-- `here` encodes `value`, a value of `part`
 abbrev pub IsEncoding : IndexPart → List ℕ → List ℕ → Type 0
 IsEncoding part value here =
     OnTrue (is_of_octets part) (AreOctetNumbers value) × IsInExtent (extent_of part) value here
 
--- an implied part takes all numbers that remain, so none is left after it
+-- `rest` may follow a value: after an implied one it is empty
 abbrev pub LeavesIn : Extent → List ℕ → Type 0
 LeavesIn Implied rest = rest ≡ []
 LeavesIn _ rest = Unit {0}
 
--- the numbers are the encoding of a value, and then the rest
+-- `numbers` are the encoding of `value`, a value of `part`, and then `rest`
 pub record ReadsValue (part : IndexPart) (numbers value rest : List ℕ) : Type 0 where
   pub here : List ℕ
   pub whole : numbers ≡ here ++ rest
   pub encoding : IsEncoding part value here
   pub after : LeavesIn (extent_of part) rest
 
--- the whole list of numbers is the encodings of the values, one after the other
+-- `numbers` are the encodings of `values`, one value for each part, one after the other
 abbrev pub ReadValues : List IndexPart → List ℕ → List (List ℕ) → Type 0
 ReadValues [] numbers [] = numbers ≡ []
 ReadValues [] numbers (value ∷ values) = ⊥

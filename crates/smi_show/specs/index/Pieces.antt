@@ -1,5 +1,5 @@
 -- The instance part of a name as text: pieces, each after a dot. A piece is a number, or a text in
--- quotes: double ones stand for its length and its octets, single ones for its octets alone.
+-- quotes: in double quotes it stands for its length and its octets, in single ones for its octets.
 use Rattle.std.specs.Prelude.{◌≡◌, ◌≢◌, ℕ, ◌<◌, ◌^◌, Bool, true, false, not, ◌&&◌, ◌||◌, ◌==◌}
 use Rattle.std.specs.Prelude.{nat_le, ◌⊎◌, List, [], ◌∷◌, ◌++◌, length, map, decimal, codes, Option}
 use Rattle.std.specs.Prelude.{Some, None, if◌then◌else◌, IsTrue}
@@ -15,12 +15,12 @@ pub data Piece : Type 0 where
   counted_text : List ℕ → Piece
   plain_text : List ℕ → Piece
 
--- an octet that may stand between quotes: printable, and neither a quote nor a backslash
+-- the octet may appear between quotes: it is printable, and neither a quote nor a backslash
 abbrev pub is_quotable : ℕ → Bool
 is_quotable octet =
     nat_le 32 octet && nat_le octet 126 && not (octet == 34 || octet == 39 || octet == 92)
 
--- octets that may stand between quotes, at least one
+-- there is an octet, and each may appear between quotes
 abbrev pub is_shown_text : List ℕ → Bool
 is_shown_text value = not (length value == 0) && list_all is_quotable value
 
@@ -30,13 +30,13 @@ piece_numbers (plain_number n) = n ∷ []
 piece_numbers (counted_text octets) = length octets ∷ octets
 piece_numbers (plain_text octets) = octets
 
--- what a name may have as a piece; between single quotes there is at least one octet
+-- the piece may be a part of a name; between single quotes there is at least one octet
 abbrev pub IsPiece : Piece → Type 0
 IsPiece (plain_number n) = n < 2 ^ 32
 IsPiece (counted_text octets) = IsTrue (list_all is_quotable octets)
 IsPiece (plain_text octets) = (octets ≢ []) × IsTrue (list_all is_quotable octets)
 
--- a piece as it is written
+-- the text of a piece
 abbrev pub shown_piece : Piece → List ℕ
 shown_piece (plain_number n) = decimal n
 shown_piece (counted_text octets) = codes "\"" ++ octets ++ codes "\""
@@ -52,12 +52,13 @@ shown_pieces pieces = flat_map dotted_text pieces
 abbrev pub as_numbers : List ℕ → List Piece
 as_numbers numbers = map plain_number numbers
 
+-- a string as a text in quotes: in double ones if its encoding begins with its length
 abbrev pub as_text : Extent → List ℕ → Piece
 as_text (Fixed size) value = plain_text value
 as_text Counted value = counted_text value
 as_text Implied value = plain_text value
 
--- the numbers that stand for a value
+-- the encoding of a value
 abbrev pub extent_numbers : Extent → List ℕ → List ℕ
 extent_numbers (Fixed size) value = value
 extent_numbers Counted value = length value ∷ value
@@ -66,12 +67,13 @@ extent_numbers Implied value = value
 abbrev pub value_numbers : IndexPart → List ℕ → List ℕ
 value_numbers part value = extent_numbers (extent_of part) value
 
--- whether a value is shown as a text: an OCTET STRING, if its octets may stand between quotes
+-- whether a value is shown as a text: if it is an OCTET STRING that isn't empty, and its octets may
+-- appear between quotes
 abbrev pub is_text : IndexPart → List ℕ → Bool
 is_text (Text extent) value = is_shown_text value
 is_text _ value = false
 
--- a value of an index: as text, or as numbers
+-- the pieces of a value of an index: one text, or its numbers
 abbrev pub value_pieces : IndexPart → List ℕ → List Piece
 value_pieces part value =
     if is_text part value then as_text (extent_of part) value ∷ []
@@ -82,8 +84,8 @@ index_pieces [] values = []
 index_pieces (part ∷ parts) [] = []
 index_pieces (part ∷ parts) (value ∷ values) = value_pieces part value ++ index_pieces parts values
 
--- the numbers after a node: by the values that its index reads, if it reads all of the numbers;
--- otherwise each number by itself
+-- the pieces show the numbers after a node: by the values that its index reads, if it reads the
+-- whole list of numbers; otherwise each number by itself
 abbrev pub AreInstancePieces : Option (List IndexPart) → (numbers : List ℕ) → List Piece → Type 0
 AreInstancePieces None numbers pieces = pieces ≡ as_numbers numbers
 AreInstancePieces (Some parts) numbers pieces =
@@ -94,7 +96,7 @@ AreInstancePieces (Some parts) numbers pieces =
 
 -- ---- for private functions
 
--- a part whose values are never shown as texts
+-- values of this part are never shown as texts
 abbrev pub is_plain : IndexPart → Bool
 is_plain (Text extent) = false
 is_plain _ = true

@@ -1,19 +1,20 @@
--- A name cut at dots and at `::` outside quotes, computed, for private clauses and the law that the
--- computed meaning is the stated one.
+-- Computes what `Cut` defines, for private clauses and for the law that the computed meaning of a
+-- name is the defined one.
 use Rattle.std.specs.Prelude.{ℕ, Bool, true, false, ◌&&◌, ◌==◌, if◌then◌else◌, List, []}
 use Rattle.std.specs.Prelude.{◌∷◌, ◌++◌, drop, Option, Some, None, option_map}
 use Rattle.snmp_io.specs.Quotes.{open_after}
 
+-- no quote is open
 abbrev pub is_unquoted : Option ℕ → Bool
 is_unquoted None = true
 is_unquoted (Some quote) = false
 
--- octets before the first of some parts
+-- the parts with these octets before the first one
 abbrev pub with_prefix : List ℕ → List (List ℕ) → List (List ℕ)
 with_prefix front [] = front ∷ []
 with_prefix front (part ∷ parts) = (front ++ part) ∷ parts
 
--- the parts of octets, before which this quote is open, if any
+-- the parts of a text, before which the quote `state` is open, if any
 abbrev pub parts_after : Option ℕ → List ℕ → List (List ℕ)
 parts_after state [] = [] ∷ []
 parts_after state (octet ∷ more) =
@@ -23,7 +24,7 @@ parts_after state (octet ∷ more) =
 abbrev pub name_parts : List ℕ → List (List ℕ)
 name_parts text = parts_after None text
 
--- `::` stands at the front
+-- the text begins with `::`
 abbrev pub is_double_colon : List ℕ → Bool
 is_double_colon [] = false
 is_double_colon (first ∷ []) = false
@@ -32,7 +33,8 @@ is_double_colon (first ∷ second ∷ more) = (first == 58) && (second == 58)
 abbrev pub longer_module : List ℕ → List ℕ × List ℕ → List ℕ × List ℕ
 longer_module front (module_name, rest) = (front ++ module_name, rest)
 
--- what stands before the first `::` outside quotes, and after it
+-- the text before the first `::` outside quotes and the text after it; before the whole the quote
+-- `state` is open, if any
 abbrev pub module_after : Option ℕ → List ℕ → Option (List ℕ × List ℕ)
 module_after state [] = None
 module_after state (octet ∷ more) =

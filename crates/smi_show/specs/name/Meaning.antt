@@ -1,5 +1,5 @@
--- What a text means as a name, computed: for private clauses, and for the law that each text means
--- something.
+-- Computes what `Meant` defines, the meaning of a text as a name: for private clauses, and for the
+-- law that each text means something.
 use Rattle.std.specs.Prelude.{ℕ, ◌==◌, nat_le, if◌then◌else◌, List, [], ◌∷◌, ◌++◌, length, Option}
 use Rattle.std.specs.Prelude.{Some, None, Result, Ok, Err}
 use Rattle.smi_show.specs.{index.Pieces.piece_numbers, name.Cutting.name_parts}
@@ -15,7 +15,7 @@ abbrev pub and_then : {A B : Type 0} → Result A NameError → (A → Result B 
 and_then (Ok x) f = f x
 and_then (Err fault) f = Err fault
 
--- an identifier has at most 128 numbers
+-- the identifier, or `TooLong` if it has more than 128 numbers
 abbrev pub fitting : List ℕ → Result (List ℕ) NameError
 fitting o = if nat_le (length o) 128 then Ok o else Err TooLong
 
@@ -23,7 +23,7 @@ abbrev pub or_unknown : Option (List ℕ) → Result (List ℕ) NameError
 or_unknown None = Err Unknown
 or_unknown (Some o) = Ok o
 
--- a word after the identifier so far, where labels are looked up in this way
+-- the meaning of a word after the identifier `so_far`; `look_up` finds the identifier of a label
 abbrev pub word_meaning : (look_up : List ℕ → Option (List ℕ)) → List ℕ → Word
     → Result (List ℕ) NameError
 word_meaning look_up so_far (a_piece piece) = fitting (so_far ++ piece_numbers piece)
@@ -33,8 +33,8 @@ abbrev pub part_meaning : (look_up : List ℕ → Option (List ℕ)) → (so_far
     → Result (List ℕ) NameError
 part_meaning look_up so_far part = and_then (word_of part) (word_meaning look_up so_far)
 
--- what parts mean after the identifier so far: the label of the first is looked up by `look_up`,
--- that of a later one among the children of what stands before it
+-- the meaning of parts after the identifier `so_far`: `look_up` finds the label of the first part,
+-- and that of a later one is looked up among the children of what comes before it
 abbrev pub parts_meaning : Contents → (look_up : List ℕ → Option (List ℕ)) → List ℕ
     → List (List ℕ) → Result (List ℕ) NameError
 parts_meaning tree look_up so_far [] = Ok so_far
@@ -42,16 +42,16 @@ parts_meaning tree look_up so_far (part ∷ parts) =
     and_then (part_meaning look_up so_far part)
     (λ o. parts_meaning tree (oid_of_child tree o) o parts)
 
--- what parts mean in a scope whose module, if it names one, is loaded
+-- the meaning of parts in a scope; if it is a module, this is loaded
 abbrev pub meaning_in : Contents → Scope → List (List ℕ) → Result (List ℕ) NameError
 meaning_in tree scope parts = parts_meaning tree (found_in tree scope) [] parts
 
--- Unknown where the module of the scope isn't loaded
+-- the meaning of a text in a scope: `Unknown` if it is a module that isn't loaded
 abbrev pub scope_meaning : Contents → Scope → (rest : List ℕ) → Result (List ℕ) NameError
 scope_meaning tree scope rest =
     if is_loaded_in tree scope then meaning_in tree scope (name_parts rest) else Err Unknown
 
--- what a text without a module means: after a leading dot the first label is that of a root
+-- the meaning of a text without a module: after a leading dot the first label is that of a root
 abbrev pub plain_meaning : Contents → List ℕ → Result (List ℕ) NameError
 plain_meaning tree [] = scope_meaning tree anywhere []
 plain_meaning tree (octet ∷ more) =
@@ -62,7 +62,7 @@ abbrev pub scoped_meaning : Contents → List ℕ → Option (List ℕ × List �
 scoped_meaning tree text None = plain_meaning tree text
 scoped_meaning tree text (Some (home, rest)) = scope_meaning tree (in_module home) rest
 
--- a dot alone is the empty identifier, and the empty text is not a name
+-- the meaning of a text: `.` is the empty identifier, and the empty text isn't a name
 abbrev pub meaning : Contents → List ℕ → Result (List ℕ) NameError
 meaning tree [] = Err Unknown
 meaning tree (octet ∷ []) =

@@ -11,37 +11,38 @@ use Rattle.smi_value.specs.declared.letters.NameForm.{NameForm}
 use Rattle.smi_value.specs.declared.letters.NameForm.TheVariants.{Numeric, Full, Label}
 use Rattle.smi_value.specs.declared.letters.NameForm.TheVariants.{ModuleLabel}
 
--- the label with its module, a root's alone
+-- `MODULE::label`, or only the label for a built-in root, which has no module
 abbrev pub qualified : Option (List ℕ) → List ℕ → List ℕ
 qualified None label = label
 qualified (Some home) label = home ++ codes "::" ++ label
 
--- the name of the last number of an identifier: the label if a node stands for the identifier,
+-- the name of `n`, the last number of `o`: the label of the nearest node if this is at `o` itself,
 -- otherwise the number
 abbrev pub arc_text : Option Standing → List ℕ → ℕ → List ℕ
 arc_text None o n = decimal n
 arc_text (Some node) o n = if node.depth == length o then node.label else decimal n
 
--- the names of all numbers, each after a dot: one for each beginning
+-- the names of all numbers of `o`, each after a dot: one for each beginning of `o`
 abbrev pub path_text : Contents → List ℕ → List ℕ
 path_text tree o =
     flat_map (λ here. codes "." ++ arc_text (nearest_node tree here) here (last_number here))
     (beginnings o)
 
--- the deepest node in this form
+-- the name of `node`, the deepest one on the path to `o`, in a form
 abbrev pub node_text : Contents → NameForm → List ℕ → Standing → List ℕ
 node_text tree Numeric o node = []
 node_text tree Full o node = path_text tree (take node.depth o)
 node_text tree Label o node = node.label
 node_text tree ModuleLabel o node = qualified node.home node.label
 
--- the numbers after the node, by its index unless that is to be shown as numbers
+-- `text` shows the numbers after the node: by its index if it has one and `numeric_index` is false,
+-- otherwise as numbers
 abbrev pub IsInstanceText : Bool → List ℕ → Standing → (text : List ℕ) → Type 0
 IsInstanceText numeric_index o node text =
     (pieces : List Piece) × AreInstancePieces (if numeric_index then None else node.index)
     (drop node.depth o) pieces × (text ≡ shown_pieces pieces)
 
--- by the deepest node and what follows it, or in numbers if there is no node
+-- `text` shows `o` by its deepest node and what follows that, or in numbers if there is no node
 abbrev pub IsStandingText : Contents → NameForm → Bool → List ℕ → Option Standing
     → (text : List ℕ) → Type 0
 IsStandingText tree form numeric_index o None text = text ≡ numeric_text o
@@ -49,12 +50,12 @@ IsStandingText tree form numeric_index o (Some node) text =
     (instance : List ℕ) × IsInstanceText numeric_index o node instance
     × (text ≡ node_text tree form o node ++ instance)
 
--- the text is the name of an identifier: in numbers, or by its deepest node
+-- `text` is the name of `o`: in numbers in the numeric form, otherwise by its deepest node
 abbrev pub IsName : Contents → NameForm → Bool → List ℕ → (text : List ℕ) → Type 0
 IsName tree Numeric numeric_index o text = text ≡ numeric_text o
 IsName tree form numeric_index o text =
     IsStandingText tree form numeric_index o (nearest_node tree o) text
 
--- the forms whose texts are read back
+-- names of this form, read again, mean the identifier that they show
 abbrev pub ReadsBack : NameForm → Type 0
 ReadsBack form = (form ≡ Numeric) ⊎ (form ≡ ModuleLabel)

@@ -1,5 +1,5 @@
--- A part of a name, on its own: a number, a text in quotes, or a label; or why it is none of them.
--- Computed, for private clauses.
+-- Computes what a part of a name is: a number, a text in quotes or a label; or why it is none of
+-- these. For private clauses.
 use Rattle.std.specs.Prelude.{ℕ, ◌-◌, ◌^◌, ◌&&◌, ◌==◌, nat_lt, if◌then◌else◌, List, [], ◌∷◌, length}
 use Rattle.std.specs.Prelude.{take, slice_index, Option, Some, None, Result, Ok, Err}
 use Rattle.std.specs.{List.list_all, Char.is_ascii_digit, Str.all_ascii_digits}
@@ -18,7 +18,7 @@ numeral_of part =
     if all_ascii_digits part && nat_lt (decimal_value part) (2 ^ 32) then Some (decimal_value part)
     else None
 
--- the octets before the quote that ends a text, where each may stand between quotes
+-- the octets before the quote that ends `rest`, if each may appear between quotes
 abbrev pub quoted_in : ℕ → List ℕ → Option (List ℕ)
 quoted_in quote rest =
     let size = length rest - 1 in
@@ -30,18 +30,18 @@ abbrev pub number_word : Option ℕ → Result Word NameError
 number_word None = Err BadNumber
 number_word (Some n) = Ok (a_piece (plain_number n))
 
--- two double quotes stand for an empty text with its length
+-- the word of a part in double quotes; `""` is the empty text with its length
 abbrev pub counted_word : Option (List ℕ) → Result Word NameError
 counted_word None = Err BadIndex
 counted_word (Some octets) = Ok (a_piece (counted_text octets))
 
--- two single quotes alone are not a part
+-- the word of a part in single quotes; `''` isn't one
 abbrev pub plain_word : Option (List ℕ) → Result Word NameError
 plain_word None = Err BadIndex
 plain_word (Some []) = Err BadIndex
 plain_word (Some (octet ∷ more)) = Ok (a_piece (plain_text (octet ∷ more)))
 
--- what a part says
+-- the word of a part, or its fault
 abbrev pub word_of : List ℕ → Result Word NameError
 word_of [] = Err BadNumber
 word_of (octet ∷ more) =

@@ -1,6 +1,6 @@
 -- The last digits of a number, for private clauses.
 use Rattle.std.specs.Prelude.{ℕ, ◌+◌, ◌/◌, ◌%◌, List, [], ◌∷◌}
 
--- the three digits of a number below 1000, with zeros in front
+-- the three digits of a number below 1000, with leading zeros
 abbrev pub three_digits : ℕ → List ℕ
 three_digits n = (48 + n / 100) ∷ (48 + n / 10 % 10) ∷ (48 + n % 10) ∷ []

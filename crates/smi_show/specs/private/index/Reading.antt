@@ -1,5 +1,5 @@
--- An index computed from numbers, and its pieces, for private clauses: what the relations of Index
--- and Pieces determine.
+-- Computes what the relations of Index and Pieces define, for private clauses: the values that an
+-- index reads from numbers, and their pieces.
 use Rattle.std.specs.Prelude.{ℕ, nat_le, if◌then◌else◌, List, [], ◌∷◌, length, take, drop, Option}
 use Rattle.std.specs.Prelude.{Some, None, option_map, option_and_then, unwrap_or, Bool, false}
 use Rattle.std.specs.List.{list_all}
@@ -9,21 +9,22 @@ use Rattle.smi_tree.specs.declared.columns.index_part.Extent.{Extent}
 use Rattle.smi_tree.specs.declared.columns.index_part.IndexPart.{IndexPart}
 use Rattle.smi_tree.specs.declared.columns.index_part.Extent.TheVariants.{Fixed, Counted, Implied}
 
--- the first `size` numbers and the rest
+-- the first `size` numbers and the rest, if there are so many
 abbrev pub front_and_rest : ℕ → List ℕ → Option (List ℕ × List ℕ)
 front_and_rest size numbers =
     if nat_le size (length numbers) then Some (take size numbers, drop size numbers) else None
 
--- a length, and then this many numbers
+-- the numbers that a length before them counts, and the rest
 abbrev pub counted : List ℕ → Option (List ℕ × List ℕ)
 counted [] = None
 counted (size ∷ numbers) = front_and_rest size numbers
 
--- all of them, at least one
+-- all numbers and an empty rest, if there is a number
 abbrev pub remaining : List ℕ → Option (List ℕ × List ℕ)
 remaining [] = None
 remaining (n ∷ more) = Some (n ∷ more, [])
 
+-- what was read, if each number of the value is that of an octet
 abbrev pub of_octets : Option (List ℕ × List ℕ) → Option (List ℕ × List ℕ)
 of_octets read = option_and_then (λ r. if list_all is_octet r.0 then Some r else None) read
 
@@ -32,13 +33,13 @@ in_extent (Fixed size) numbers = front_and_rest size numbers
 in_extent Counted numbers = counted numbers
 in_extent Implied numbers = remaining numbers
 
--- the value of a part and the rest
+-- the value of `part` that `numbers` begins with, and the rest
 abbrev pub front_of : IndexPart → List ℕ → Option (List ℕ × List ℕ)
 front_of part numbers =
     if is_of_octets part then of_octets (in_extent (extent_of part) numbers)
     else in_extent (extent_of part) numbers
 
--- the values of all parts, if no number is left
+-- the values of all parts, if they use up the numbers
 abbrev pub values_of : List IndexPart → List ℕ → Option (List (List ℕ))
 values_of [] [] = Some []
 values_of [] (n ∷ more) = None
@@ -47,12 +48,12 @@ values_of (part ∷ parts) numbers =
     (λ (value, rest). option_map (λ values. value ∷ values) (values_of parts rest))
     (front_of part numbers)
 
--- whether one of the values that the numbers read is shown as a text
+-- whether the parts read all of `numbers`, and one of the values is shown as a text
 abbrev pub has_text : List IndexPart → List ℕ → Bool
 has_text parts numbers =
     unwrap_or (option_map (is_text_among parts) (values_of parts numbers)) false
 
--- the pieces of the numbers after a node
+-- the pieces that show the numbers after a node
 abbrev pub instance_pieces : Option (List IndexPart) → List ℕ → List Piece
 instance_pieces None numbers = as_numbers numbers
 instance_pieces (Some parts) numbers =

@@ -1,4 +1,4 @@
--- A part as the code reads it, and a scope as the code has it, for private clauses.
+-- The values of the code's types for parts and scopes, for private clauses.
 use Rattle.std.specs.Prelude.{Result, Ok, Err}
 use Rattle.smi_show.specs.index.Pieces as pieces
 use Rattle.smi_show.specs.{name.Word.Word, name.Word.a_piece, name.Word.a_label}

@@ -1,16 +1,17 @@
--- What a name, or its first part, was read to in an existing identifier, for private clauses.
+-- The result of a call that reads into an identifier of its caller, for private clauses.
 use Rattle.std.specs.Prelude.{ℕ, List, Option, option_map, Result, Ok, Err}
 use Rattle.std.specs.Borrow.{Bor}
 use Rattle.smi_show.specs.{private.name.Left.parts_left, name.Meaning.further_meaning}
 use Rattle.smi_show.specs.{declared.name.error.NameError.NameError}
 use Rattle.smi_tree.specs.Tree.{Contents}
 
--- the identifier, or the fault
+-- the identifier `o` that the call leaves, or its fault
 abbrev pub read_to : Result (Unit {0}) NameError → List ℕ → Result (List ℕ) NameError
 read_to (Ok done) o = Ok o
 read_to (Err fault) o = Err fault
 
--- what is meant, once the parts before what is left were read to an identifier, or had a fault
+-- the meaning of the whole name, after a call that read some parts into `o` and returned the text
+-- that is left, or failed
 abbrev pub meant_with : Contents → Result (Option (Bor (List ℕ))) NameError → List ℕ
     → Result (List ℕ) NameError
 meant_with tree (Ok left) o =
