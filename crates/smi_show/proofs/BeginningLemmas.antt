@@ -10,12 +10,12 @@ last_is [] n = refl
 last_is (m ∷ []) n = refl
 last_is (m ∷ next ∷ o) n = last_is (next ∷ o) n
 
--- those of the shorter one, and then the whole
+-- first those of the shorter one, then itself
 beginnings_more : (o : List ℕ) (n : ℕ) → beginnings (o ++ n ∷ []) ≡ beginnings o ++ (o ++ n ∷ []) ∷ []
 beginnings_more [] n = refl
 beginnings_more (m ∷ o) n = grind (arith, common_steps, beginnings_more o n, map-append)
 
--- what is shown of each beginning, by its last number
+-- if each beginning is shown by its last number, one number more appends one text
 pub text_more : (one : List ℕ → ℕ → List ℕ) (here next : List ℕ) (n : ℕ) → next ≡ here ++ n ∷ []
     → flat_map (λ o. one o (last_number o)) (beginnings here) ++ one next n ≡ flat_map (λ o. one o (last_number o)) (beginnings next)
 text_more one here next n is = grind (arith, common_steps, flat_map-append, beginnings_more, append-nil, last_is)

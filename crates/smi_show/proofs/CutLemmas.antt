@@ -1,4 +1,4 @@
--- A text read for its module, octet by octet: what stands before a place, and what is after it.
+-- The loop of `cut_later_module`: it passes an octet, or finds `::` at an offset.
 use Rattle.std.proofs.Common.{◌≡◌, ℕ, ◌+◌, ◌<◌, true, false, List, [], ◌∷◌, length, take, drop, get_or, Option, Some, None, refl, sym, ◌∙◌, ap, subst, arith}
 use Rattle.std.proofs.lemmas.List.{drop_more, append-nil, drop-drop}
 use Rattle.snmp_io.specs.Quotes.{open_after}

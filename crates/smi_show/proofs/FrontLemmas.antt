@@ -8,7 +8,7 @@ use Rattle.smi_show.specs.name.Meaning.{and_then, fitting, further_meaning, part
 use Rattle.smi_tree.specs.{Naming.oid_of_child, Tree.Contents}
 use Rattle.smi_show.proofs.{PlainLemmas.plain_digits, ShownLemmas.IsWhole, ShownLemmas.cuts, ShownLemmas.plain_is_whole, WordLemmas.digits_word}
 
--- a number in front of further parts
+-- a number at the start is appended first, then the parts after it
 pub number_next : (tree : Contents) (look_up : List ℕ → Option (List ℕ)) (o text part : List ℕ) (n : ℕ) (after : Option (List ℕ)) → IsNumeral part n
     → MatchOption after (text ≡ part) (λ rest. text ≡ part ++ dot ∷ rest)
     → parts_meaning tree look_up o (name_parts text)

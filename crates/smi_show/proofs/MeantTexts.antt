@@ -1,4 +1,4 @@
--- What parts mean from the left, and what a text means.
+-- The computed meaning of parts and of a text is the one that `Meant` defines.
 use Rattle.std.proofs.Common.{arith, ◌≡◌, ◌≢◌, ℕ, Bool, true, false, eqb, cond, List, [], ◌∷◌, ◌++◌, length, Option, Some, None, Result, Ok, Err}
 use Rattle.std.proofs.Common.{refl, sym, ◌∙◌, ap, subst, inl, inr}
 use Rattle.std.proofs.lemmas.Grind.{common_steps}
@@ -90,7 +90,7 @@ module _ (tree : Contents) where
   scope_only scope rest result (inl missing) = rw missing.0 missing.1
   scope_only scope rest result (inr (there, (parts, are, h))) = grind (arith, common_steps, parts_only, only_parts)
 
-  -- the scope that a text states
+  -- the scope of a text
   plain_at : (octet : ℕ) (more : List ℕ) (dotted : Bool) → eqb octet 46 ≡ dotted → module_after None (octet ∷ more) ≡ None
       → (scope : Scope) × (rest : List ℕ) × IsScoped (octet ∷ more) scope rest
       × (scope_meaning tree scope rest ≡ cond dotted (scope_meaning tree among_roots more) (scope_meaning tree anywhere (octet ∷ more)))

@@ -1,4 +1,4 @@
--- A text of numbers alone means these numbers, whatever nodes there are.
+-- A text of numbers only means these numbers, whatever nodes the tree has.
 use Rattle.std.proofs.{lemmas.Grind.common_steps, lemmas.Bool.and_parts, lemmas.Bool.le-leb, lemmas.Bool.ne_eqb, lemmas.List.append-nil}
 use Rattle.std.proofs.Common.{◌≡◌, ◌≢◌, ℕ, ◌≤◌, true, false, eqb, List, [], ◌∷◌, ◌++◌, length, inl, inr, Option, Some, None, Result, Ok, refl, sym}
 use Rattle.std.proofs.Common.{◌∙◌, ap, subst, append_assoc, arith, length-append}
@@ -11,20 +11,20 @@ use Rattle.smi_show.proofs.{FrontLemmas.number_next, PlainLemmas.apart, PlainLem
 use Rattle.smi_tree.specs.{Naming.oid_of_child, Naming.oid_anywhere, Naming.oid_of_root, Tree.Contents}
 use Rattle.smi_show.proofs.ShownLemmas.{dot_module, plain_is_whole, scopes}
 
--- numbers that fit
+-- 128 numbers fit
 pub fits : (o : List ℕ) → length o ≤ 128 → fitting o ≡ Ok o
 fits o low = rw (le-leb (length o) 128 low) refl
 
 pub shorter : (front rest : List ℕ) → length (front ++ rest) ≤ 128 → length front ≤ 128
 shorter front rest h = omega (arith, length-append front rest)
 
--- a text of more than a dot is read by its module and parts
+-- a text that is neither empty nor `.` is read by its module and parts
 pub scoped : (tree : Contents) (text : List ℕ) → text ≢ [] → text ≢ 46 ∷ [] → meaning tree text ≡ scoped_meaning tree text (module_after None text)
 scoped tree [] some more = absurd (some refl)
 scoped tree (octet ∷ []) some more = rw (ne_eqb octet 46 (λ e. more (ap (λ (n : ℕ). n ∷ []) e))) refl
 scoped tree (octet ∷ next ∷ rest) some more = refl
 
--- parts that are numbers
+-- parts that are numbers mean these
 dotted_parts : (tree : Contents) (look_up : List ℕ → Option (List ℕ)) (so_far text o : List ℕ) → IsDotted text o → length (so_far ++ o) ≤ 128
     → parts_meaning tree look_up so_far (name_parts text) ≡ Ok (so_far ++ o)
 dotted_parts tree look_up so_far text [] h low = absurd h
@@ -40,12 +40,13 @@ dotted_parts tree look_up so_far text (n ∷ m ∷ more) (first, rest, is, numer
     ∙ dotted_parts tree (oid_of_child tree next) next rest (m ∷ more) dotted low_all
     ∙ ap (λ (t : List ℕ). Ok t) grouped
 
--- there is no module before it
+-- it has no module
 dotted_module : (text o : List ℕ) → IsDotted text o → module_after None text ≡ None
 dotted_module text [] h = absurd h
 dotted_module text (n ∷ []) h =
     ap (module_after None) (sym (append-nil text)) ∙ scopes text [] (plain_is_whole text (plain_digits text h.digits))
-dotted_module text (n ∷ m ∷ more) (first, rest, is, numeral, dotted) = grind (arith, common_steps, dotted_module rest (m ∷ more) dotted, scopes, plain_is_whole, plain_digits, before_module, dot_module)
+dotted_module text (n ∷ m ∷ more) (first, rest, is, numeral, dotted) =
+    grind (arith, common_steps, dotted_module rest (m ∷ more) dotted, scopes, plain_is_whole, plain_digits, before_module, dot_module)
 
 -- it begins with a digit
 digit_no_dot : (octet : ℕ) (more : List ℕ) → all_ascii_digits (octet ∷ more) ≡ true → eqb octet 46 ≡ false

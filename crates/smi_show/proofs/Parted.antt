@@ -1,7 +1,7 @@
--- A text's parts and its module are what the relations of Cut say, and there are no others.
+-- The computed parts of a text and its module are those that `Cut` defines, and there are no others.
 use Rattle.std.proofs.{lemmas.Grind.common_steps, lemmas.List.drop_at, lemmas.List.take_at}
-use Rattle.std.proofs.Common.{◌≡◌, ℕ, ◌+◌, ◌<◌, ◌≤◌, ◌⊎◌, inl, inr, suc, true, false, nat_eq, List, [], ◌∷◌, ◌++◌, take, drop, length, Option, Some, None, refl, sym, ◌∙◌, ap}
-use Rattle.std.proofs.Common.{subst, arith, length-append}
+use Rattle.std.proofs.Common.{◌≡◌, ℕ, ◌+◌, ◌<◌, ◌≤◌, ◌⊎◌, inl, inr, suc, true, false, nat_eq, List, [], ◌∷◌, ◌++◌, take, drop, length}
+use Rattle.std.proofs.Common.{Option, Some, None, refl, sym, ◌∙◌, ap, subst, arith, length-append}
 use Rattle.std.proofs.lemmas.Bool.{and_parts, both_ways, cond_both, eqb-true}
 use Rattle.snmp_io.specs.Quotes.{HasNoneOutside, IsClosed, IsCut, open_after}
 use Rattle.snmp_io.specs.QuoteLaws.{cut_once, is_closed, none_open, none_outside, quote_after}
@@ -9,7 +9,7 @@ use Rattle.smi_show.specs.name.Cut.{AreParts, HasNoModule, IsModuleCut}
 use Rattle.smi_show.specs.name.Cutting.{is_double_colon, module_after, name_parts, parts_after, with_prefix}
 use Rattle.smi_show.proofs.Readers.{at_colons, at_dot, before_module}
 
--- wherever these octets stand in the text outside quotes, after this quote, this holds of what stands before them
+-- wherever `text`, before which `quote` is open, has the octets `stop` outside quotes, `P` holds of the text before them
 abbrev Wherever : List ℕ → Option ℕ → List ℕ → (List ℕ → Type 0) → Type 0
 Wherever stop quote text P = (before after : List ℕ) → text ≡ before ++ (stop ++ after) → quote_after quote before ≡ None → P before
 
@@ -29,7 +29,7 @@ later stop quote octet text P Q here more h (o ∷ before) after e q = grind (ar
 
 -- ---- parts
 
--- the parts of what stands after this quote
+-- `parts` are the parts of `text`, before which `quote` is open
 abbrev PartsFrom : Option ℕ → List ℕ → List (List ℕ) → Type 0
 PartsFrom quote text [] = ⊥
 PartsFrom quote text (part ∷ []) = Nowhere (46 ∷ []) quote text × (part ≡ text)
@@ -52,14 +52,25 @@ parts_more quote octet text (part ∷ []) other h = (nowhere_later quote octet t
 parts_more quote octet text (part ∷ next ∷ more) other (rest, is, closed, first, h) =
     (rest, ap (λ (t : List ℕ). octet ∷ t) is, closed, nowhere_later quote octet part other first, h)
 
--- a cut at the first octet
+-- a dot at the start makes an empty first part
 parts_here : (octet : ℕ) (text : List ℕ) (parts : List (List ℕ)) → octet ≡ 46 → PartsFrom None text parts → PartsFrom None (octet ∷ text) ([] ∷ parts)
 parts_here octet text [] is h = absurd h
 parts_here octet text (part ∷ more) is h = grind (arith, common_steps, nothing)
 
 parts_from : (quote : Option ℕ) (text : List ℕ) → PartsFrom quote text (parts_after quote text)
 parts_from quote [] = (λ before after e q. nothing 46 before after e, refl)
-parts_from None (octet ∷ more) = grind (arith, common_steps, parts_from None more, parts_from (open_after None octet) more, later, cond_both, nat_eq, parts_here, eqb-true, parts_more)
+parts_from None (octet ∷ more) = grind (
+  arith,
+  common_steps,
+  parts_from None more,
+  parts_from (open_after None octet) more,
+  later,
+  cond_both,
+  nat_eq,
+  parts_here,
+  eqb-true,
+  parts_more,
+)
 parts_from (Some q) (octet ∷ more) = grind (arith, common_steps, parts_from (open_after (Some q) octet) more, parts_more)
 
 plain_parts : (text : List ℕ) (parts : List (List ℕ)) → PartsFrom None text parts → AreParts text parts
@@ -88,7 +99,7 @@ same_parts text (part ∷ next ∷ more) (other ∷ second ∷ others) (rest, cu
 pub only_parts : (text : List ℕ) (parts : List (List ℕ)) → AreParts text parts → parts ≡ name_parts text
 only_parts text parts h = same_parts text parts (name_parts text) h (are_parts text)
 
--- a part and those after its dot; and a text of one part
+-- the part before the first dot, then those after it; without a dot, one part
 parts_by : (text part rest : List ℕ) (parts : List (List ℕ)) → IsCut 46 text part rest → AreParts rest parts → AreParts text (part ∷ parts)
 parts_by text part rest [] cut h = absurd h
 parts_by text part rest (next ∷ more) cut h = (rest, cut, h)
@@ -103,7 +114,7 @@ one_part text none = only_parts text (text ∷ []) (none, refl)
 
 -- ---- the module
 
--- what is found after this quote
+-- what is found in `text`, before which `quote` is open
 abbrev FoundFrom : Option ℕ → List ℕ → Option (List ℕ × List ℕ) → Type 0
 FoundFrom quote text None = Nowhere (58 ∷ 58 ∷ []) quote text
 FoundFrom quote text (Some (home, rest)) = (text ≡ home ++ 58 ∷ 58 ∷ rest) × (quote_after quote home ≡ None)
@@ -122,7 +133,7 @@ module_here : (quote : Option ℕ) (octet : ℕ) (more : List ℕ) → at_colons
 module_here None octet more e = (colons (octet ∷ more) e, refl, λ before after f q. omega arith)
 module_here (Some q) octet more e = let no : ⊥ = cc in absurd no
 
--- one more octet before a module that is read later
+-- one more octet before a module that is found later
 module_more : (quote : Option ℕ) (octet : ℕ) (more : List ℕ) (read : Option (List ℕ × List ℕ)) → at_colons quote (octet ∷ more) ≡ false
     → FoundFrom (open_after quote octet) more read → FoundFrom quote (octet ∷ more) (before_module (octet ∷ []) read)
 module_more quote octet more read other = at read
@@ -141,7 +152,8 @@ module_more quote octet more read other = at read
 
 found_from : (quote : Option ℕ) (text : List ℕ) → FoundFrom quote text (module_after quote text)
 found_from quote [] = λ before after e q. nothing 58 before (58 ∷ after) e
-found_from quote (octet ∷ more) = grind (arith, common_steps, found_from (open_after quote octet) more, cond_both, at_colons, before_module, module_here, module_more)
+found_from quote (octet ∷ more) =
+    grind (arith, common_steps, found_from (open_after quote octet) more, cond_both, at_colons, before_module, module_here, module_more)
 
 pub has_module : (text : List ℕ) (home rest : List ℕ) → module_after None text ≡ Some (home, rest) → IsModuleCut text home rest
 has_module text home rest is = grind (arith, common_steps, found_from, is_closed, none_open)
@@ -149,7 +161,7 @@ has_module text home rest is = grind (arith, common_steps, found_from, is_closed
 pub has_no_module : (text : List ℕ) → module_after None text ≡ None → HasNoModule text
 has_no_module text is before after e closed = grind (arith, common_steps, found_from, none_open)
 
--- fronts of one text that are as long as each other are the same
+-- two prefixes of one text that are equally long are the same
 same_fronts : (a b x y : List ℕ) → length a ≡ length b → a ++ x ≡ b ++ y → (a ≡ b) × (x ≡ y)
 same_fronts a b x y same e = (
   sym (take_at a x (length b) same) ∙ ap (take (length b)) e ∙ take_at b y (length b) refl,
@@ -162,12 +174,11 @@ one_module text home rest h = grind (arith, common_steps, found_from, none_open,
 pub no_module : (text : List ℕ) → HasNoModule text → module_after None text ≡ None
 no_module text none = grind (arith, common_steps, found_from, is_closed)
 
--- the first colon outside quotes
-
+-- without a colon outside quotes
 pub no_colon_outside : (text : List ℕ) → HasNoneOutside 58 text → None ≡ module_after None text
 no_colon_outside text none = sym (no_module text (λ before after e closed. none before (58 ∷ after) e closed))
 
--- what stands before one octet is as long as what stands before another, or has that octet in it
+-- `front` is at most as long as `before`, or begins with `before` and `c`
 abbrev IsBeforeOrIn : ℕ → (front before : List ℕ) → Type 0
 IsBeforeOrIn c front before = (length front ≤ length before) ⊎ ((more : List ℕ) × (front ≡ before ++ c ∷ more))
 

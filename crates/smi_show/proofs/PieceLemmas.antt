@@ -1,4 +1,4 @@
--- The pieces that show numbers: what one more value adds, and that the pieces stand for the numbers shown.
+-- The pieces that show numbers: what one more value adds, and that they stand for the numbers shown.
 use Rattle.std.proofs.Common.{arith, ◌≡◌, ◌≢◌, ℕ, ◌+◌, ◌<◌, ◌^◌, Bool, true, false, not, cond, nat_eq, List, [], ◌∷◌, ◌++◌, length, drop, get_or}
 use Rattle.std.proofs.Common.{Option, Some, None, option_map, unwrap_or, All, inl, inr, refl, sym, ◌∙◌, ap, subst}
 use Rattle.std.proofs.{lemmas.Grind.common_steps, lemmas.Grind.flat_map-append, lemmas.List.at_drop_more, lemmas.List.append-nil}
@@ -14,7 +14,7 @@ use Rattle.smi_show.specs.index.Pieces.{Piece, plain_number, is_quotable, is_sho
 use Rattle.smi_show.specs.index.Pieces.{as_numbers, as_text, extent_numbers, value_numbers, value_pieces, index_pieces, AreInstancePieces}
 use Rattle.smi_show.proofs.ReadingLemmas.{all_found, all_only, first_value}
 
--- the first of the values that are left
+-- `value` is the first of the values `ahead`
 pub record IsNextValue (parts : List IndexPart) (i : ℕ) (value rest : List ℕ) (ahead : List (List ℕ)) : Type 0 where
   pub more : List (List ℕ)
   pub left : values_of (drop (i + 1) parts) rest ≡ Some more
@@ -78,7 +78,7 @@ pub whole : (index : Option (List IndexPart)) (numbers : List ℕ) → flat_map 
 whole None numbers = numbers_of_numbers numbers
 whole (Some parts) numbers = either_whole parts numbers (values_of parts numbers) refl
 
--- each piece may stand in a name
+-- each piece may be a part of a name
 abbrev pub IsNumber : ℕ → Type 0
 IsNumber n = n < 2 ^ 32
 
@@ -126,7 +126,7 @@ pub each : (index : Option (List IndexPart)) (numbers : List ℕ) → All IsNumb
 each None numbers all = are_numbers numbers all
 each (Some parts) numbers all = either_each parts numbers (values_of parts numbers) refl all
 
--- the pieces that are computed are those of the numbers, and there are no others
+-- the computed pieces are those of the numbers, and there are no others
 abbrev pieces_by : List IndexPart → List ℕ → Option (List (List ℕ)) → List Piece
 pieces_by parts numbers read = unwrap_or (option_map (index_pieces parts) read) (as_numbers numbers)
 

@@ -1,4 +1,4 @@
--- An index without strings, or of which none is shown as a text, is shown as its numbers.
+-- An index of which no value is shown as a text is shown as its numbers.
 use Rattle.std.proofs.Common.{arith, ◌≡◌, ℕ, true, false, ◌++◌, List, [], ◌∷◌, Option, Some, None, option_map, unwrap_or, refl, ap, ◌∙◌}
 use Rattle.std.proofs.{lemmas.Grind.common_steps, lemmas.Bool.and_parts, lemmas.Bool.or_from, lemmas.Bool.or_parts, lemmas.List.map-append}
 use Rattle.std.specs.List.{list_all}

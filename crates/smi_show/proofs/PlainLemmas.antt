@@ -10,7 +10,7 @@ or_weaker true b d h = refl
 or_weaker false true d h = refl
 or_weaker false false d h = h
 
--- a number that fails a test isn't one that passes it
+-- an octet that passes a test isn't one that fails it
 pub apart : (test : ℕ → Bool) (octet bad : ℕ) → test octet ≡ true → test bad ≡ false → eqb octet bad ≡ false
 apart test octet bad good fails = ne_eqb octet bad (λ e. both_ways (test bad) fails (sym (ap test e) ∙ good))
 

@@ -1,4 +1,4 @@
--- What a name shows by module and label, or in numbers, means the identifier again.
+-- A name shown by module and label, or in numbers, means the identifier that it shows.
 use Rattle.std.proofs.Common.{arith, ◌≡◌, ◌≢◌, ℕ, ◌≤◌, Bool, true, cond, List, [], ◌∷◌, ◌++◌, length, map, take, drop, All, inl, inr, Option, Some}
 use Rattle.std.proofs.Common.{None, Result, Ok, refl, sym, ◌∙◌, ap, subst, append_assoc}
 use Rattle.std.proofs.{lemmas.Grind.common_steps, lemmas.List.append-nil, lemmas.List.take-append-drop}
@@ -19,7 +19,7 @@ use Rattle.smi_show.proofs.{NumericMeaning.fits, NumericMeaning.numeric_meaning,
 use Rattle.smi_show.proofs.{PieceLemmas.each, PieceLemmas.whole, PlainLemmas.plain_word, PlainLemmas.plain_word_begins, ShownLemmas.joined_module}
 use Rattle.smi_show.proofs.{ShownLemmas.joined_parts, ShownLemmas.plain_is_whole, ShownLemmas.scopes, WordLemmas.piece_word, WordLemmas.label_word}
 
--- pieces after what stands so far
+-- pieces after the identifier so far
 further_pieces : (tree : Contents) (so_far : List ℕ) (pieces : List Piece) → All IsPiece pieces → length (so_far ++ flat_map piece_numbers pieces) ≤ 128
     → further_meaning tree so_far (map shown_piece pieces) ≡ Ok (so_far ++ flat_map piece_numbers pieces)
 further_pieces tree so_far [] all low = ap (λ (t : List ℕ). Ok t) (sym (append-nil so_far))
@@ -35,14 +35,14 @@ further_pieces tree so_far (piece ∷ pieces) all low =
     ∙ further_pieces tree next pieces (All-tail IsPiece piece pieces all) low_here
     ∙ ap (λ (t : List ℕ). Ok t) grouped
 
--- a label, and pieces after it
+-- a label and pieces after it
 label_and_pieces : (tree : Contents) (scope : Scope) (label front : List ℕ) (pieces : List Piece) → is_word label ≡ true
     → found_in tree scope label ≡ Some front → All IsPiece pieces → length (front ++ flat_map piece_numbers pieces) ≤ 128
     → meaning_in tree scope (name_parts (label ++ shown_pieces pieces)) ≡ Ok (front ++ flat_map piece_numbers pieces)
 label_and_pieces tree scope label front pieces word found all low =
     grind (arith, common_steps, label_word, joined_parts, plain_is_whole, plain_word, further_pieces)
 
--- a text that begins with a word is more than a dot
+-- a text that begins with a word is neither empty nor `.`
 begins_some : (word rest : List ℕ) → is_word word ≡ true → word ++ rest ≢ []
 begins_some [] rest h same = let wrong : ⊥ = cc in absurd wrong
 begins_some (octet ∷ more) rest h same = let none : octet ∷ (more ++ rest) ≡ [] = same in let wrong : ⊥ = cc in absurd wrong
@@ -57,7 +57,7 @@ plain_label : (tree : Contents) (label rest : List ℕ) → is_word label ≡ tr
 plain_label tree [] rest h = let wrong : ⊥ = cc in absurd wrong
 plain_label tree (octet ∷ more) rest h = rw ((plain_word_begins octet more h).dot) refl
 
--- a label, with its module or alone as a root's, and what follows it
+-- `MODULE::label`, or only the label of a root, and pieces after it
 qualified_back : (tree : Contents) (home : Option (List ℕ)) (label front : List ℕ) (pieces : List Piece) → is_word label ≡ true
     → LabelLeadsTo tree home label front → All IsPiece pieces → length (front ++ flat_map piece_numbers pieces) ≤ 128
     → meaning tree (qualified home label ++ shown_pieces pieces) ≡ Ok (front ++ flat_map piece_numbers pieces)

@@ -1,4 +1,4 @@
--- Readings of a text octet by octet, its parts and its module: an octet that ends nothing stands before what the rest gives.
+-- Functions that read a text octet by octet: its parts (`parts_reader`) and its module (`module_reader`).
 use Rattle.std.proofs.Common.{arith, ◌≡◌, ℕ, ◌+◌, ◌<◌, Bool, false, ◌&&◌, nat_eq, List, [], ◌∷◌, ◌++◌, length, take, drop, get_or, Option, Some, None}
 use Rattle.std.proofs.Common.{option_map, refl, sym, ap, append_assoc}
 use Rattle.std.proofs.{lemmas.Grind.common_steps, lemmas.Bool.cond_both, lemmas.List.drop_more, lemmas.List.take_more}
@@ -17,7 +17,7 @@ pub record IsReader {X : Type 0} (before : List ℕ → X → X) (read : Option 
       → read state (octet ∷ more) ≡ before (octet ∷ []) (read (open_after state octet) more)
   pub passes : (state : Option ℕ) (octet : ℕ) (more : List ℕ) → Passes state octet → ends state (octet ∷ more) ≡ false
 
--- octets that pass, one after the other
+-- each octet passes
 abbrev pub Passing : Option ℕ → List ℕ → Type 0
 Passing state [] = Unit {0}
 Passing state (octet ∷ more) = Passes state octet × Passing (open_after state octet) more
@@ -27,7 +27,7 @@ module _ {X : Type 0} {before : List ℕ → X → X} {read : Option ℕ → Lis
   all_pass state [] rest h = r.none state rest
   all_pass state (octet ∷ word) rest h = grind (arith, common_steps, all_pass (open_after state octet) word rest h.1, quote_after)
 
-  -- at a place of a text, before which this quote is open
+  -- at an offset, before which the quote `state` is open
   pub one_more : (text : List ℕ) (at : ℕ) (state : Option ℕ) → at < length text → ends state (drop at text) ≡ false
       → read None text ≡ before (take at text) (read state (drop at text))
       → read None text ≡ before (take (at + 1) text) (read (open_after state (get_or text at 0)) (drop (at + 1) text))

@@ -1,4 +1,4 @@
--- What is computed at the front of the numbers is an encoding of a part, and each encoding is computed.
+-- What is computed from the start of the numbers is an encoding of a part, and each encoding is computed.
 use Rattle.std.proofs.{lemmas.Grind.common_steps, Math.Seq.take-append_seam, Math.Seq.drop-append_seam, lemmas.Bool.leb-true, lemmas.Bool.le-leb}
 use Rattle.std.proofs.{lemmas.Bool.false_from_ne_true, lemmas.List.take-append-drop, lemmas.List.length-take-le, lemmas.List.append-nil}
 use Rattle.std.proofs.Common.{◌≡◌, ◌≢◌, ℕ, Bool, true, false, cond, List, [], ◌∷◌, ◌++◌, length, Option, Some, None, option_map, option_and_then}
@@ -20,19 +20,19 @@ pub chosen : {A : Type 0} (b : Bool) (x y : A) → cond b (Some x) None ≡ Some
 chosen true x y h = (refl, cc)
 chosen false x y h = let no : ⊥ = cc in absurd no
 
--- a front_and_rest
+-- a fixed size
 cut_found : (size : ℕ) (numbers value rest : List ℕ) → front_and_rest size numbers ≡ Some (value, rest) → (numbers ≡ value ++ rest) × (length value ≡ size)
 cut_found size numbers value rest h = grind (arith, common_steps, chosen, take-append-drop, length-take-le, leb-true)
 
 cut_only : (value rest : List ℕ) → front_and_rest (length value) (value ++ rest) ≡ Some (value, rest)
 cut_only value rest = grind (arith, common_steps, le-leb, length-append, take-append_seam, drop-append_seam)
 
--- what a length counts
+-- a length
 counted_found : (numbers value rest : List ℕ) → counted numbers ≡ Some (value, rest) → numbers ≡ (length value ∷ value) ++ rest
 counted_found [] value rest h = let no : ⊥ = cc in absurd no
 counted_found (size ∷ numbers) value rest h = grind (arith, common_steps, cut_found)
 
--- what remains
+-- implied
 remaining_found : (numbers value rest : List ℕ) → remaining numbers ≡ Some (value, rest) → (numbers ≡ value ++ rest) × (value ≢ []) × (rest ≡ [])
 remaining_found [] value rest h = let no : ⊥ = cc in absurd no
 remaining_found (n ∷ more) value rest h = grind (arith, common_steps, same_pair, append-nil)
@@ -46,7 +46,7 @@ octets_found : (read : Option Pair) (value rest : List ℕ) → of_octets read �
 octets_found None value rest h = let no : ⊥ = cc in absurd no
 octets_found (Some (first, more)) value rest h = grind (arith, common_steps, chosen)
 
--- octets alone, or any numbers
+-- only octets, or any numbers
 either_found : (octets : Bool) (read : Option Pair) (value rest : List ℕ) → cond octets (of_octets read) read ≡ Some (value, rest)
     → (read ≡ Some (value, rest)) × OnTrue octets (AreOctetNumbers value)
 either_found true read value rest h = octets_found read value rest h
@@ -137,7 +137,7 @@ pub if_read : (parts : List IndexPart) (numbers : List ℕ) → is_some (values_
     → (values : List (List ℕ)) × ReadValues parts numbers values
 if_read parts numbers h = let e = some_of (values_of parts numbers) h in (e.0, all_found parts numbers e.0 e.1)
 
--- what is stated of all parts, and what is computed
+-- the same of a `Bool` in place of a proposition
 pub as_stated : (b : Bool) (parts : List IndexPart) (numbers : List ℕ) → b ≡ is_some (values_of parts numbers)
     → IsTrue b ↔ ((values : List (List ℕ)) × ReadValues parts numbers values)
 as_stated b parts numbers h = (λ t. if_read parts numbers (sym h ∙ t), λ read. h ∙ read_if parts numbers read)

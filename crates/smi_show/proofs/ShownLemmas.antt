@@ -9,7 +9,7 @@ use Rattle.smi_show.specs.name.Cutting.{with_prefix, parts_after, name_parts, mo
 use Rattle.smi_show.proofs.{NumeralLemmas.written_numeral, PlainLemmas.ArePlain, PlainLemmas.apart, PlainLemmas.plain_digits}
 use Rattle.smi_show.proofs.Readers.{Passing, all_pass, before_module, module_reader, no_colon, parts_reader}
 
--- octets that are neither cut nor hold a module's end, and after which no quote is open
+-- no dot or colon is outside quotes, and no quote is open after `word`
 pub record IsWhole (word : List ℕ) : Type 0 where
   pub passing : Passing None word
   pub closed : quote_after None word ≡ None
@@ -25,7 +25,7 @@ unfolding ArePlain
 plain_is_whole [] h = record { passing = tt; closed = refl }
 plain_is_whole (octet ∷ more) h = grind (arith, common_steps, plain_is_whole more h.1)
 
--- octets that may stand between quotes, and the quote that closes them
+-- octets that may appear between quotes, and the quote that closes them
 quoted : (quote : ℕ) (octets : List ℕ) → is_quotable quote ≡ false → list_all is_quotable octets ≡ true
     → Passing (Some quote) (octets ++ quote ∷ []) × (quote_after (Some quote) (octets ++ quote ∷ []) ≡ None)
 quoted quote [] bad h = ((tt, tt), rw (eq-eqb quote quote refl) refl)
@@ -46,12 +46,31 @@ piece_is_whole (plain_text octets) h =
 pub joined_parts : (word : List ℕ) (pieces : List Piece) → IsWhole word → All IsPiece pieces
     → name_parts (word ++ shown_pieces pieces) ≡ word ∷ map shown_piece pieces
 joined_parts word [] whole all = cuts word [] whole ∙ ap (λ (t : List ℕ). t ∷ []) (append-nil word)
-joined_parts word (piece ∷ pieces) whole all = grind (arith, common_steps, joined_parts (shown_piece piece) pieces (piece_is_whole piece (All-head IsPiece piece pieces all)) (All-tail IsPiece piece pieces all), cuts, append-nil, piece_is_whole, All-head, All-tail)
+joined_parts word (piece ∷ pieces) whole all = grind (
+  arith,
+  common_steps,
+  joined_parts (shown_piece piece) pieces (piece_is_whole piece (All-head IsPiece piece pieces all)) (All-tail IsPiece piece pieces all),
+  cuts,
+  append-nil,
+  piece_is_whole,
+  All-head,
+  All-tail,
+)
 
--- there is no module behind a dot, if there is none without it
+-- a text without a module has none with a dot before it
 pub dot_module : (rest : List ℕ) → module_after None rest ≡ None → module_after None (46 ∷ rest) ≡ None
 dot_module rest none = rw (no_colon 46 rest refl, none) refl
 
 pub joined_module : (word : List ℕ) (pieces : List Piece) → IsWhole word → All IsPiece pieces → module_after None (word ++ shown_pieces pieces) ≡ None
 joined_module word [] whole all = scopes word [] whole
-joined_module word (piece ∷ pieces) whole all = grind (arith, common_steps, joined_module (shown_piece piece) pieces (piece_is_whole piece (All-head IsPiece piece pieces all)) (All-tail IsPiece piece pieces all), scopes, before_module, dot_module, piece_is_whole, All-head, All-tail)
+joined_module word (piece ∷ pieces) whole all = grind (
+  arith,
+  common_steps,
+  joined_module (shown_piece piece) pieces (piece_is_whole piece (All-head IsPiece piece pieces all)) (All-tail IsPiece piece pieces all),
+  scopes,
+  before_module,
+  dot_module,
+  piece_is_whole,
+  All-head,
+  All-tail,
+)

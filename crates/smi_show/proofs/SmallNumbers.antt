@@ -23,7 +23,7 @@ abbrev pub octets_of : ℕ → List ℕ
 octets_of n =
     get_or SMALL.now (n * 4) 0 ∷ get_or SMALL.now (n * 4 + 1) 0 ∷ get_or SMALL.now (n * 4 + 2) 0 ∷ get_or SMALL.now (n * 4 + 3) 0 ∷ []
 
--- as many of them as a number takes after its dot, with it
+-- as many of them as the dot and the number have
 abbrev entry : ℕ → List ℕ
 entry n = take (length (dotted n)) (octets_of n)
 
@@ -42,11 +42,11 @@ matched =
 pub small_entry : (n : ℕ) → n < 256 → take (length (46 ∷ decimal n)) (octets_of n) ≡ 46 ∷ decimal n
 small_entry n small = ap (λ t. take (length t) (octets_of n)) (sym (dotted_is n small)) ∙ matched n small ∙ dotted_is n small
 
--- how many octets that is, by two tests
+-- the length of a dot and a number, by two tests
 pub small_len_is : (n a b : ℕ) → n < 256 → a ≡ bool_byte (leb 10 n) → b ≡ bool_byte (leb 100 n) → 2 + a + b ≡ length (46 ∷ decimal n)
 small_len_is n a b small tens hundreds = grind (arith, common_steps, cases_lt, lt-leb, decimal_digit, le-leb, two_digits, digits_of_three)
 
--- the front of what is put behind a text
+-- a prefix of the octets written after the first `a`
 pub front_behind : (a k m : ℕ) (room now part : List ℕ) → a ≤ length room → k ≤ length part → k ≤ m → take (a + m) now ≡ take a room ++ part
     → take (a + k) now ≡ take a room ++ take k part
 front_behind a k m room now part within fits fewer is =

@@ -1,4 +1,4 @@
--- The text of a type is that of the tokens of its spelling, joined by blanks.
+-- The text of a type is that of its tokens in a module text, with blanks between them.
 use Rattle.std.proofs.Common.{arith, ◌≡◌, ℕ, List, [], ◌∷◌, ◌++◌, codes, Option, Some, None, refl, sym, ◌∙◌, ap, append_assoc, append-nil}
 use Rattle.std.proofs.lemmas.Grind.{common_steps, flat_map-append}
 use Rattle.std.specs.List.{flat_map}
@@ -13,7 +13,7 @@ use Rattle.smi_show.specs.details.Syntax.{named_number_text, numbers_text, high_
 use Rattle.smi_show.specs.details.Syntax.{syntax_text}
 use Rattle.smi_show.specs.private.Tokens.{AreTokensOf, joined_by_blanks}
 
--- the text that a mark asks of its token
+-- the text that a mark demands of its token
 abbrev text_of : Mark → List ℕ
 text_of (spelled k x ok) = x
 text_of (on_line n m) = text_of m

@@ -2,6 +2,6 @@ use Rattle.std.proofs.Common.{◌≡◌, drop, is_some}
 use Rattle.smi_show.specs.private.index.Reading.{values_of}
 use Rattle.smi_show.proofs.index.reads.Given as goal
 
--- the parts that are left read the numbers that are left exactly where all read all
+-- the parts left read the numbers left if and only if all read all
 abbrev pub invariant-parts : goal.invariant-parts
 invariant-parts l = is_some (values_of (drop l.part-index l.parts) l.left) ≡ is_some (values_of l.fn.parts l.fn.numbers)

@@ -2,7 +2,7 @@ use Rattle.std.proofs.Common.{◌≡◌, ◌≤◌, ◌*◌, ◌-◌, length, ta
 use Rattle.smi_show.specs.index.Pieces.{as_numbers, shown_pieces}
 use Rattle.smi_show.proofs.index.shown.put_front.Given as goal
 
--- what is put is the text of the numbers so far
+-- the buffer begins with the text of the numbers so far
 abbrev pub invariant-fours : goal.invariant-fours
 invariant-fours l = record {
   within : l.front ≤ length l.numbers;

@@ -2,7 +2,7 @@ use Rattle.std.proofs.Common.{◌≡◌, drop, is_some}
 use Rattle.smi_show.specs.private.index.Reading.{has_text, values_of}
 use Rattle.smi_show.proofs.index.shown.reads_some_text.Given as goal
 
--- the parts that are left read the numbers that are left exactly where all read all, and have a text where all have one
+-- the parts left read the numbers left if and only if all read all, and have a text if and only if all have one
 abbrev pub invariant-parts : goal.invariant-parts
 invariant-parts l = record {
   read : is_some (values_of (drop l.at l.parts) l.left) ≡ is_some (values_of l.fn.parts l.fn.numbers);

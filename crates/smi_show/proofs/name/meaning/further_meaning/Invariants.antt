@@ -2,7 +2,7 @@ use Rattle.std.proofs.Common.{◌≡◌, ℕ, ◌+◌, List, length, Option, Som
 use Rattle.smi_show.specs.{private.name.Left.parts_left, name.Meaning.further_meaning}
 use Rattle.smi_show.proofs.name.meaning.further_meaning.Given as goal
 
--- what is left means, after what stands so far, what the whole means
+-- the parts left mean after `oid` what all parts meant at the start
 abbrev pub invariant-parts : goal.invariant-parts
 invariant-parts l =
     further_meaning l.tree l.oid (parts_left (option_map (λ s. s.now) l.left))
