@@ -8,7 +8,7 @@ use Rattle.smi_show.specs.{name.Name.IsName, private.name.Shown.name_text}
 use Rattle.smi_value.specs.Value.{ShowsValue}
 use Rattle.smi_tree.specs.{Naming.nearest_syntax, Tree.Contents}
 
--- the separator between name and value: a blank with the letter q, otherwise ` = `
+-- the separator between name and value: a blank with the letter q
 abbrev pub separator : TypeForm → List ℕ
 separator Typed = codes " = "
 separator Untyped = codes " = "

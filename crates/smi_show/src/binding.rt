@@ -20,8 +20,8 @@ use snmp_wire::ValueRef;
 use std::alloc::AllocError;
 
 /// Appends the text of `value`, the value of the instance `name`: its type, a colon, a blank and
-/// the value, as `letters` and the syntax of the object say. Fails if memory runs out, and leaves
-/// `out` unchanged then.
+/// the value, as `letters` and the syntax of the object say. If memory runs out, `out` is
+/// unchanged.
 pub fn value_text(
     tree: &Tree,
     letters: &Letters,
@@ -40,8 +40,8 @@ pub fn value_text(
     draft.finish(out)
 }
 
-/// Appends the line of a binding: name, ` = `, value and a newline, as `letters` say. Fails if
-/// memory runs out, and leaves `out` unchanged then.
+/// Appends the line of a binding: name, ` = `, value and a newline, as `letters` say. If memory
+/// runs out, `out` is unchanged.
 pub fn line(
     tree: &Tree,
     letters: &Letters,
@@ -155,7 +155,7 @@ fn append_separator(types: TypeForm, draft: &mut Draft)
     }
 }
 
-/// Appends the text of `value`; `syntax` is that of its object.
+/// Appends the text of the value.
 fn append_shown(
     tree: &Tree,
     letters: &Letters,

@@ -40,9 +40,8 @@ pub fn name_text(tree: &Tree, form: NameForm, numeric_index: bool, oid: &Oid, dr
     }
 }
 
-/// Does what [`name_text`] does. The caller must pass the deepest node that is at `oid` or above it
-/// as `node`. The name is the node and what follows it; it is in numbers in the numeric form, or if
-/// there is no node.
+/// Does what [`name_text`] does. The caller must pass the deepest node at `oid` or above as `node`.
+/// Without a node the name is in numbers.
 pub fn name_by_node(
     tree: &Tree,
     form: NameForm,
@@ -100,8 +99,7 @@ fn qualified(node: NearestNode<'_>, draft: &mut Draft)
     draft.octets(node.label);
 }
 
-/// Appends a dot and a label for each number: the label of the node at the numbers up to this one.
-/// If there is no such node, appends the number after the dot.
+/// Appends, for each number, a dot and the label of the node there, or the number if there is none.
 fn path(tree: &Tree, numbers: &[u32], draft: &mut Draft)
     requires { length numbers.now ≤ 128 }
     ensures { Adds draft.old (path_text tree.now numbers.now) draft.new }
@@ -114,7 +112,7 @@ fn path(tree: &Tree, numbers: &[u32], draft: &mut Draft)
     }
 }
 
-/// Appends a dot and the label of the node at `here`, or a dot and `number` if there is none.
+/// Appends a dot and the label of the node at `here`, or `number` if there is none.
 fn arc(tree: &Tree, here: &Oid, number: u32, near: &mut Near, draft: &mut Draft)
     ensures { let standing = nearest_node tree.now here.now in
         Adds draft.old (codes "." ++ arc_text standing here.now number) draft.new }
@@ -126,8 +124,7 @@ fn arc(tree: &Tree, here: &Oid, number: u32, near: &mut Near, draft: &mut Draft)
     }
 }
 
-/// Appends the numbers of `oid` after `node`: by the node's index if it has one and `numeric_index`
-/// is `false`, otherwise as numbers.
+/// Appends the numbers after `node`: by its index, or as numbers if it has none or `numeric_index`.
 fn instance_text(numeric_index: bool, oid: &Oid, node: NearestNode<'_>, draft: &mut Draft)
     requires { node.depth ≤ length oid.now }
     ensures { let text = instance_text numeric_index oid.now (standing_of node.entry) in

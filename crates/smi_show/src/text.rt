@@ -1,4 +1,4 @@
-//! The name and the details of an identifier, appended to a `Vec<u8>`.
+//! The name and the details of an identifier.
 ghost use Rattle.std.specs.Prelude.{◌≡◌, ◌++◌, Bool, List, ℕ, OnOk, OnErr};
 ghost use Rattle.smi_value.specs.declared.letters.NameForm.{NameForm};
 ghost use Rattle.smi_show.specs.{details.Detail.IsDetail, name.Name.IsName};
@@ -11,8 +11,7 @@ use snmp_io::Draft;
 use snmp_oid::Oid;
 use std::alloc::AllocError;
 
-/// Appends the name of `oid`, as `letters` say. Fails if memory runs out, and leaves `out`
-/// unchanged then.
+/// Appends the name of `oid`, as `letters` say. If memory runs out, `out` is unchanged.
 pub fn name_text(
     tree: &Tree,
     letters: &Letters,
@@ -40,8 +39,8 @@ pub fn one_name()
         → text ≡ other }
 {}
 
-/// Appends the details of `oid`: what `snmptranslate -Td` prints. Fails if memory runs out, and
-/// leaves `out` unchanged then.
+/// Appends the details of `oid`: what `snmptranslate -Td` prints. If memory runs out, `out` is
+/// unchanged.
 pub fn detail(
     tree: &Tree,
     letters: &Letters,

@@ -16,9 +16,8 @@ use std::marker::Model;
 
 /// Writes the lines of bindings by one tree, one after the other.
 ///
-/// It stores what the tree found for the name of the last line. If this holds for all names below
-/// some identifier, lines of such names need no search: most lines follow one of their own column.
-/// In contracts the value of a writer is its tree.
+/// It stores what the tree found for the last name, and uses it for the next one if it holds there
+/// too: most lines follow one of their own column. A contract sees its tree.
 #[derive(Drop)]
 pub struct LineWriter<'t> {
     tree: &'t Tree,
@@ -54,8 +53,8 @@ impl<'t> LineWriter<'t> {
         }
     }
 
-    /// Appends the line of a binding, as [`line`](crate::line) does. Fails if memory runs out, and
-    /// leaves `out` unchanged then.
+    /// Appends the line of a binding, as [`line`](crate::line) does. If memory runs out, `out` is
+    /// unchanged.
     pub fn line(
         &mut self,
         letters: &Letters,
@@ -76,7 +75,7 @@ impl<'t> LineWriter<'t> {
     }
 }
 
-/// Sets `found` to what the tree finds for `name`, unless what it holds is valid for `name` too.
+/// Sets `found` to what the tree finds for `name`, unless it holds for `name` already.
 fn find<'t>(tree: &'t Tree, name: &Oid, near: &mut Near, found: &mut Found<'t>)
     requires { IsFoundBelow tree.now found.old }
     ensures found { IsFound tree.now name.now found.new }
@@ -87,7 +86,7 @@ fn find<'t>(tree: &'t Tree, name: &Oid, near: &mut Near, found: &mut Found<'t>)
     }
 }
 
-/// Returns whether `found` is valid for `name` too, which is so if `name` is below `found.below`.
+/// Returns whether `found` holds for `name` too: whether `name` is below `found.below`.
 fn is_known(found: &Found<'_>, name: &Oid) -> bool
     ensures { IsTrue result ↔ MatchOption found.now.below ⊥ (λ root. IsBelow name.now root.now) }
 {

@@ -1,5 +1,5 @@
--- The details of an identifier: its name, its deepest node and that one's definition, and the
--- identifier as a value.
+-- The details of an identifier: its name, its deepest node with its definition, and the identifier
+-- as a value.
 use Rattle.std.specs.Prelude.{◌≡◌, ℕ, Bool, List, [], ◌++◌, codes, Option, Some, None}
 use Rattle.smi_value.specs.declared.letters.NameForm.{NameForm}
 use Rattle.smi_text.specs.{declared.trees.tree.Def.Def, trees.Lookup.kind_words}
@@ -9,7 +9,7 @@ use Rattle.smi_tree.specs.Naming.{Standing, nearest_definition, nearest_node}
 use Rattle.smi_show.specs.{private.name.Shown.name_text, details.Value.identifier_text}
 use Rattle.smi_show.specs.details.Definition.{definition_text}
 
--- the kind of a node's definition; a root has none and is an OBJECT IDENTIFIER
+-- a root is an OBJECT IDENTIFIER
 abbrev pub kind_text : Option Def → List ℕ
 kind_text None = codes "OBJECT IDENTIFIER"
 kind_text (Some d) = kind_words d.kind

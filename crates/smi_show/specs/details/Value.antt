@@ -6,7 +6,7 @@ use Rattle.smi_show.specs.name.Beginnings.{beginnings}
 use Rattle.smi_tree.specs.{Nodes.last_number, Tree.Contents}
 use Rattle.smi_tree.specs.Naming.{Standing, nearest_node}
 
--- `n`, the last number of `here`, with the label of the node at `here`; only `n` if there is none
+-- the number with the label of the node at `here`, or only the number if there is none
 abbrev pub labelled_number : Option Standing → List ℕ → ℕ → List ℕ
 labelled_number None here n = decimal n
 labelled_number (Some node) here n =

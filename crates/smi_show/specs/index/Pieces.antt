@@ -52,7 +52,6 @@ shown_pieces pieces = flat_map dotted_text pieces
 abbrev pub as_numbers : List ℕ → List Piece
 as_numbers numbers = map plain_number numbers
 
--- a string as a text in quotes: in double ones if its encoding begins with its length
 abbrev pub as_text : Extent → List ℕ → Piece
 as_text (Fixed size) value = plain_text value
 as_text Counted value = counted_text value
@@ -67,8 +66,8 @@ extent_numbers Implied value = value
 abbrev pub value_numbers : IndexPart → List ℕ → List ℕ
 value_numbers part value = extent_numbers (extent_of part) value
 
--- whether a value is shown as a text: if it is an OCTET STRING that isn't empty, and its octets may
--- appear between quotes
+-- whether a value is shown as a text: an OCTET STRING, if it isn't empty and its octets may appear
+-- between quotes
 abbrev pub is_text : IndexPart → List ℕ → Bool
 is_text (Text extent) value = is_shown_text value
 is_text _ value = false

@@ -1,5 +1,5 @@
--- The beginnings of an identifier. In a text with a label for each number, the label of a number is
--- that of the node at the beginning which ends with this number.
+-- The beginnings of an identifier. A text with labels for its numbers looks up each beginning, for
+-- the number that it ends with.
 use Rattle.std.specs.Prelude.{ℕ, List, [], ◌∷◌, map}
 
 -- all beginnings, from that of one number to the whole identifier

@@ -1,10 +1,9 @@
--- Computes what `Cut` defines, for private clauses and for the law that the computed meaning of a
--- name is the defined one.
+-- Computes what `Cut` defines, for private clauses and the law that the computed meaning is the
+-- defined one.
 use Rattle.std.specs.Prelude.{ℕ, Bool, true, false, ◌&&◌, ◌==◌, if◌then◌else◌, List, []}
 use Rattle.std.specs.Prelude.{◌∷◌, ◌++◌, drop, Option, Some, None, option_map}
 use Rattle.snmp_io.specs.Quotes.{open_after}
 
--- no quote is open
 abbrev pub is_unquoted : Option ℕ → Bool
 is_unquoted None = true
 is_unquoted (Some quote) = false
@@ -14,7 +13,7 @@ abbrev pub with_prefix : List ℕ → List (List ℕ) → List (List ℕ)
 with_prefix front [] = front ∷ []
 with_prefix front (part ∷ parts) = (front ++ part) ∷ parts
 
--- the parts of a text, before which the quote `state` is open, if any
+-- the parts of a text, before which this quote is open, if any
 abbrev pub parts_after : Option ℕ → List ℕ → List (List ℕ)
 parts_after state [] = [] ∷ []
 parts_after state (octet ∷ more) =
@@ -33,8 +32,7 @@ is_double_colon (first ∷ second ∷ more) = (first == 58) && (second == 58)
 abbrev pub longer_module : List ℕ → List ℕ × List ℕ → List ℕ × List ℕ
 longer_module front (module_name, rest) = (front ++ module_name, rest)
 
--- the text before the first `::` outside quotes and the text after it; before the whole the quote
--- `state` is open, if any
+-- the text before the first `::` outside quotes and the text after it
 abbrev pub module_after : Option ℕ → List ℕ → Option (List ℕ × List ℕ)
 module_after state [] = None
 module_after state (octet ∷ more) =

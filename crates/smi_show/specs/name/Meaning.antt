@@ -1,5 +1,5 @@
--- Computes what `Meant` defines, the meaning of a text as a name: for private clauses, and for the
--- law that each text means something.
+-- Computes what `Meant` defines, the meaning of a text: for private clauses, and for the law that
+-- each text means something.
 use Rattle.std.specs.Prelude.{ℕ, ◌==◌, nat_le, if◌then◌else◌, List, [], ◌∷◌, ◌++◌, length, Option}
 use Rattle.std.specs.Prelude.{Some, None, Result, Ok, Err}
 use Rattle.smi_show.specs.{index.Pieces.piece_numbers, name.Cutting.name_parts}
@@ -23,7 +23,7 @@ abbrev pub or_unknown : Option (List ℕ) → Result (List ℕ) NameError
 or_unknown None = Err Unknown
 or_unknown (Some o) = Ok o
 
--- the meaning of a word after the identifier `so_far`; `look_up` finds the identifier of a label
+-- the meaning of a word after the identifier `so_far`; `look_up` finds labels
 abbrev pub word_meaning : (look_up : List ℕ → Option (List ℕ)) → List ℕ → Word
     → Result (List ℕ) NameError
 word_meaning look_up so_far (a_piece piece) = fitting (so_far ++ piece_numbers piece)
@@ -62,7 +62,7 @@ abbrev pub scoped_meaning : Contents → List ℕ → Option (List ℕ × List �
 scoped_meaning tree text None = plain_meaning tree text
 scoped_meaning tree text (Some (home, rest)) = scope_meaning tree (in_module home) rest
 
--- the meaning of a text: `.` is the empty identifier, and the empty text isn't a name
+-- the meaning of a text: `.` is the empty identifier; the empty text isn't a name
 abbrev pub meaning : Contents → List ℕ → Result (List ℕ) NameError
 meaning tree [] = Err Unknown
 meaning tree (octet ∷ []) =

@@ -1,5 +1,5 @@
--- The meaning of a text as a name (`TextMeans`): a relation between the text and its identifier, or
--- its first fault from the left.
+-- The meaning of a text as a name: a relation between the text and its identifier, or its first
+-- fault from the left.
 use Rattle.std.specs.Prelude.{◌≡◌, ◌≢◌, ◌<◌, ◌≤◌, ◌⊎◌, ◌++◌, ℕ, true, false, List, [], ◌∷◌, length}
 use Rattle.std.specs.Prelude.{Bool, Option, Some, None, Result, Ok, Err}
 use Rattle.std.specs.Char.{is_ascii_digit}
@@ -109,8 +109,8 @@ ScopeMeans tree scope rest result =
     ⊎ ((is_loaded_in tree scope ≡ true) × ((parts : List (List ℕ)) × AreParts rest parts
     × PartsMean tree (found_in tree scope) [] parts result))
 
--- `text` means `result`: `Unknown` if it is empty, the empty identifier if it is `.`, otherwise
--- what its parts mean in its scope.
+-- `text` means `result`: the empty text is `Unknown`, `.` is the empty identifier, and any other
+-- text means what its parts mean in its scope.
 abbrev pub TextMeans : Contents → (text : List ℕ) → Result (List ℕ) NameError → Type 0
 TextMeans tree text result =
     ((text ≡ []) × (result ≡ Err Unknown))
@@ -118,8 +118,7 @@ TextMeans tree text result =
     ⊎ ((text ≢ []) × (text ≢ 46 ∷ []) × ((scope : Scope) × (rest : List ℕ)
     × IsScoped text scope rest × ScopeMeans tree scope rest result)))
 
--- the prefix of `text` before the first `stop` outside quotes means the identifier or the fault;
--- with the identifier comes the length of the prefix
+-- the meaning of the prefix of `text` before the first `stop` outside quotes, with its length
 abbrev pub FrontMeans : Contents → (stop : ℕ) → (text : List ℕ) → Result (List ℕ × ℕ) NameError
     → Type 0
 FrontMeans tree stop text (Ok (o, size)) = (front : List ℕ) × IsFrontOf stop text front

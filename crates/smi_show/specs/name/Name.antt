@@ -11,13 +11,13 @@ use Rattle.smi_value.specs.declared.letters.NameForm.{NameForm}
 use Rattle.smi_value.specs.declared.letters.NameForm.TheVariants.{Numeric, Full, Label}
 use Rattle.smi_value.specs.declared.letters.NameForm.TheVariants.{ModuleLabel}
 
--- `MODULE::label`, or only the label for a built-in root, which has no module
+-- `MODULE::label`, or only the label of a root
 abbrev pub qualified : Option (List ℕ) → List ℕ → List ℕ
 qualified None label = label
 qualified (Some home) label = home ++ codes "::" ++ label
 
--- the name of `n`, the last number of `o`: the label of the nearest node if this is at `o` itself,
--- otherwise the number
+-- the name of `n`, the last number of `o`: the label of the deepest node if it is at `o`, otherwise
+-- the number
 abbrev pub arc_text : Option Standing → List ℕ → ℕ → List ℕ
 arc_text None o n = decimal n
 arc_text (Some node) o n = if node.depth == length o then node.label else decimal n
@@ -28,15 +28,14 @@ path_text tree o =
     flat_map (λ here. codes "." ++ arc_text (nearest_node tree here) here (last_number here))
     (beginnings o)
 
--- the name of `node`, the deepest one on the path to `o`, in a form
+-- the deepest node in a form
 abbrev pub node_text : Contents → NameForm → List ℕ → Standing → List ℕ
 node_text tree Numeric o node = []
 node_text tree Full o node = path_text tree (take node.depth o)
 node_text tree Label o node = node.label
 node_text tree ModuleLabel o node = qualified node.home node.label
 
--- `text` shows the numbers after the node: by its index if it has one and `numeric_index` is false,
--- otherwise as numbers
+-- `text` shows the numbers after the node, by its index unless that is to be shown as numbers
 abbrev pub IsInstanceText : Bool → List ℕ → Standing → (text : List ℕ) → Type 0
 IsInstanceText numeric_index o node text =
     (pieces : List Piece) × AreInstancePieces (if numeric_index then None else node.index)

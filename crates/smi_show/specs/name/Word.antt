@@ -30,12 +30,12 @@ abbrev pub number_word : Option ℕ → Result Word NameError
 number_word None = Err BadNumber
 number_word (Some n) = Ok (a_piece (plain_number n))
 
--- the word of a part in double quotes; `""` is the empty text with its length
+-- `""` is the empty text with its length
 abbrev pub counted_word : Option (List ℕ) → Result Word NameError
 counted_word None = Err BadIndex
 counted_word (Some octets) = Ok (a_piece (counted_text octets))
 
--- the word of a part in single quotes; `''` isn't one
+-- `''` isn't a part
 abbrev pub plain_word : Option (List ℕ) → Result Word NameError
 plain_word None = Err BadIndex
 plain_word (Some []) = Err BadIndex

@@ -9,9 +9,9 @@ use crate::details::syntax_text;
 use smi_text::{DefKind, ObjectType, Status, Text};
 use snmp_io::Draft;
 
-/// Appends the clauses SYNTAX, UNITS, MAX-ACCESS, STATUS and DESCRIPTION, as far as a definition
-/// has them (RFC 2578, sections 5 to 8; RFC 2580, sections 3 and 4), one per line. Appends nothing
-/// for a type, or for a definition whose clauses are stored as tokens.
+/// Appends SYNTAX, UNITS, MAX-ACCESS, STATUS and DESCRIPTION, as far as a definition has them (RFC
+/// 2578, sections 5 to 8; RFC 2580, sections 3 and 4), one per line. Appends nothing for a type, or
+/// for a definition whose clauses are stored as tokens.
 pub fn definition_text(kind: &DefKind, draft: &mut Draft)
     ensures { Adds draft.old (definition_text kind.now) draft.new }
 {

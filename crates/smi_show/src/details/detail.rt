@@ -15,7 +15,7 @@ use smi_value::NameForm;
 use snmp_io::Draft;
 use snmp_oid::Oid;
 
-/// Appends the details of `oid`: its name; the label, kind, module and clauses of its deepest node;
+/// Appends the details of `oid`: its name, the label, kind, module and clauses of its deepest node,
 /// and `oid` as a value.
 pub fn detail_text(tree: &Tree, form: NameForm, numeric_index: bool, oid: &Oid, draft: &mut Draft)
     ensures { let text = detail_text tree.now form numeric_index oid.now in
@@ -42,7 +42,7 @@ fn node_text(node: NearestNode<'_>, definition: Option<&Def>, draft: &mut Draft)
     clauses_text(definition, draft);
 }
 
-/// Appends the line with the module of a node, or nothing for a root, which has none.
+/// Appends the line with the module of a node; a root has none.
 fn from_text(home: Option<&[u8]>, draft: &mut Draft)
     ensures { Adds draft.old (from_text (option_copied home.entry)) draft.new }
 {
@@ -62,7 +62,7 @@ fn clauses_text(definition: Option<&Def>, draft: &mut Draft)
     }
 }
 
-/// Appends the kind of a node's definition. A root has none and is an OBJECT IDENTIFIER.
+/// Appends the kind of a node's definition; a root is an OBJECT IDENTIFIER.
 fn kind_text(definition: Option<&Def>, draft: &mut Draft)
     ensures { Adds draft.old (kind_text (option_copied definition.entry)) draft.new }
 {

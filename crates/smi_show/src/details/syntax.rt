@@ -30,7 +30,7 @@ pub fn syntax_text(syntax: &Syntax, draft: &mut Draft)
     }
 }
 
-/// Appends the type of a table, whose rows have the type `row`.
+/// Appends the tokens of a table's type.
 fn sequence_text(row: &[u8], draft: &mut Draft)
     ensures { Adds draft.old (codes "SEQUENCE OF " ++ row.now) draft.new }
 {
@@ -74,7 +74,7 @@ fn refinement_text(refinement: &Refinement, draft: &mut Draft)
     }
 }
 
-/// Appends named numbers with commas between them, or a blank if there are none.
+/// Appends named numbers with commas between them.
 fn numbers_text(numbers: &[NamedNumber], draft: &mut Draft)
     ensures { Adds draft.old (numbers_text numbers.now) draft.new }
 {
@@ -108,7 +108,7 @@ fn named_number_text(number: &NamedNumber, draft: &mut Draft)
     draft.octets(b" )");
 }
 
-/// Appends ranges with bars between them, or a blank if there are none.
+/// Appends ranges with bars between them.
 fn ranges_text(ranges: &[Range], draft: &mut Draft)
     ensures { Adds draft.old (ranges_text ranges.now) draft.new }
 {

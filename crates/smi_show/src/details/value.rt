@@ -9,8 +9,7 @@ use smi_tree::{Near, Tree};
 use snmp_io::Draft;
 use snmp_oid::Oid;
 
-/// Appends the line `::= { P }`. P is the numbers, each but the last with the label of the node at
-/// the numbers up to it, if there is one.
+/// Appends the line `::= { P }`, P being the numbers, each but the last with its label.
 pub fn identifier_text(tree: &Tree, oid: &Oid, draft: &mut Draft)
     ensures { Adds draft.old (identifier_text tree.now oid.now) draft.new }
 {
@@ -19,7 +18,7 @@ pub fn identifier_text(tree: &Tree, oid: &Oid, draft: &mut Draft)
     draft.octets(b"}\n");
 }
 
-/// Appends the numbers with a blank after each; all but the last have their labels.
+/// Appends the numbers, a blank after each, all but the last with their labels.
 fn parts_text(tree: &Tree, numbers: &[u32], draft: &mut Draft)
     requires { length numbers.now ≤ 128 }
     ensures { Adds draft.old (parts_text tree.now numbers.now) draft.new }
@@ -53,8 +52,7 @@ fn labelled_part(tree: &Tree, here: &Oid, number: u32, near: &mut Near, draft: &
     draft.octets(b" ");
 }
 
-/// Appends `label(number)` with the label of the node at `here`, or only the number if there is no
-/// such node.
+/// Appends the label of the node at `here` and `number` in parentheses, or only `number`.
 fn labelled_number(tree: &Tree, here: &Oid, number: u32, near: &mut Near, draft: &mut Draft)
     ensures { let standing = nearest_node tree.now here.now in
         Adds draft.old (labelled_number standing here.now number) draft.new }

@@ -8,9 +8,8 @@ ghost use Rattle.smi_show.specs.private.index.Reading.{of_octets, in_extent, fro
 
 use smi_tree::{Extent, IndexPart};
 
-/// Returns the value of `part` that `numbers` begins with, without the length before it, and the
-/// numbers after the value. Returns `None` if `numbers` doesn't begin with the encoding of a value
-/// (RFC 2578, section 7.7).
+/// Returns the value of `part` at the start of `numbers`, without its length, and the numbers after
+/// it. Returns `None` if `numbers` doesn't begin with an encoded value (RFC 2578, section 7.7).
 pub fn read_part<'a>(part: IndexPart, numbers: &'a [u32]) -> Option<(&'a [u32], &'a [u32])>
     ensures reads { option_map (λ r. (r.0.now, r.1.now)) result ≡ front_of part numbers.now }
     ensures found { IfSome result (λ r. ReadsValue part numbers.now r.0.now r.1.now) }
@@ -46,7 +45,7 @@ pub fn one_part_reading()
         → (value ≡ other) × (rest ≡ left) }
 {}
 
-/// Splits off the numbers of a string, without the length before them.
+/// Returns the numbers of a string, without a length, and those after it.
 fn split_extent<'a>(extent: Extent, numbers: &'a [u32]) -> Option<(&'a [u32], &'a [u32])>
     ensures { option_map (λ r. (r.0.now, r.1.now)) result ≡ in_extent extent numbers.now }
 {
@@ -68,8 +67,7 @@ fn split<'a>(numbers: &'a [u32], size: u64) -> Option<(&'a [u32], &'a [u32])>
     }
 }
 
-/// Splits off a length and the numbers that it counts, and returns these and the rest. Returns
-/// `None` if there is no length, or there are fewer numbers after it.
+/// Splits off a length, and returns the numbers that it counts and the rest.
 fn split_counted<'a>(numbers: &'a [u32]) -> Option<(&'a [u32], &'a [u32])>
     ensures { option_map (λ r. (r.0.now, r.1.now)) result ≡ counted numbers.now }
 {

@@ -1,5 +1,5 @@
 //! The text of an instance: numbers with a dot before each, or the values of an index with strings
-//! in quotes. Numbers are written into a buffer (`room`), and appended together.
+//! in quotes.
 ghost use Rattle.std.specs.Prelude.{◌≡◌, ◌≢◌, ℕ, ◌<◌, ◌≤◌, ◌^◌, ◌∷◌, ◌++◌, [], List, All, length};
 ghost use Rattle.std.specs.Prelude.{codes, decimal, IsTrue, Option, Some, None, true, false, take};
 ghost use Rattle.std.specs.Prelude.{◌+◌, ◌*◌};
@@ -57,9 +57,9 @@ pub fn numbers_text(numbers: &[u32], draft: &mut Draft)
     draft.octets(&room[..filled]);
 }
 
-/// Appends the numbers after a column by its index `parts`, with a dot before each piece: strings
-/// whose octets may all appear between quotes as texts in quotes, other values as numbers. If the
-/// index doesn't read the whole list of numbers, appends all of it as numbers.
+/// Appends the numbers after a column by its index: strings whose octets may all appear between
+/// quotes as texts, anything else as numbers, with a dot before each. If the index doesn't read the
+/// whole list of numbers, appends all of it as numbers.
 pub fn index_text(parts: &[IndexPart], numbers: &[u32], draft: &mut Draft)
     ensures { let pieces = instance_pieces (Some parts.now) numbers.now in
         Adds draft.old (shown_pieces pieces) draft.new }
@@ -85,7 +85,7 @@ pub fn pieces_stand_for_numbers()
 {}
 
 /// Returns whether the index reads all of `numbers` and one of the values may be shown as a text.
-/// If not, all of `numbers` are shown as numbers, whatever their values.
+/// If not, all of them are shown as numbers.
 fn is_shown_by_values(parts: &[IndexPart], numbers: &[u32]) -> bool
     ensures read { OnTrue result (is_some (values_of parts.now numbers.now) ≡ true) }
     ensures numbers { let pieces = instance_pieces (Some parts.now) numbers.now in
@@ -140,7 +140,7 @@ fn reads_some_text(parts: &[IndexPart], numbers: &[u32]) -> bool
     false
 }
 
-/// Returns whether `value` may be shown as a text, judged by its first octet only.
+/// Returns whether `value` may be shown as a text, by its first octet.
 fn may_be_text(part: IndexPart, value: &[u32]) -> bool
     ensures { OnFalse result (is_text part value.now ≡ false) }
 {
@@ -238,8 +238,8 @@ fn put_digits(room: &mut [u8; ROOM], filled: usize, first: u32, second: u32)
     put(room, filled + 3, b'0' + second as u8);
 }
 
-/// Appends the first `end` octets of `room` if the rest may be too short for one more number.
-/// Returns how many octets are still to be appended: 0 or `end`.
+/// Appends the first `end` octets of `room` if the rest may be too short for one more number, and
+/// returns how many are filled then: 0 or `end`.
 #[inline(always)]
 fn with_room(room: &[u8; ROOM], end: usize, draft: &mut Draft) -> usize
     requires { end ≤ 128 }
@@ -254,8 +254,8 @@ fn with_room(room: &[u8; ROOM], end: usize, draft: &mut Draft) -> usize
     0
 }
 
-/// Writes a dot and `number` after the first `filled` octets of `room`, and returns the length of
-/// both together.
+/// Writes a dot and `number` after the first `filled` octets of `room`, and returns how many are
+/// filled then.
 #[inline(always)]
 fn put_number(room: &mut [u8; ROOM], filled: usize, number: u32) -> usize
     requires { filled ≤ 117 }
@@ -265,7 +265,7 @@ fn put_number(room: &mut [u8; ROOM], filled: usize, number: u32) -> usize
     if number >= 1000 {
         put_long(room, filled, number)
     } else if number < 256 {
-        // Most numbers are octets of addresses, or as small as these.
+        // Most numbers are octets of addresses, or as small.
         put_small(room, filled, number)
     } else {
         put_short(room, filled, number)
@@ -340,7 +340,7 @@ fn put_small(room: &mut [u8; ROOM], filled: usize, number: u32) -> usize
     ensures within { result ≤ filled + 4 }
     ensures text { take result room.new ≡ take filled room.old ++ (codes "." ++ decimal number) }
 {
-    // All four octets are written, blanks too: the next number overwrites the blanks.
+    // All four octets are written; the next number overwrites the blanks.
     let at = number as usize * 4;
     let (first, second, third, fourth) = (SMALL[at], SMALL[at + 1], SMALL[at + 2], SMALL[at + 3]);
     put(room, filled, first);
@@ -361,8 +361,8 @@ fn small_len(number: u32) -> usize
     2 + usize::from(number >= 10) + usize::from(number >= 100)
 }
 
-/// Writes the three digits of `number`, the last ones of a longer number, after the first `filled`
-/// octets of `room`, and returns the length of both together.
+/// Writes `number` as the last three digits of a longer number, and returns how many octets of
+/// `room` are filled then.
 #[inline(always)]
 fn put_three(room: &mut [u8; ROOM], filled: usize, number: u32) -> usize
     requires room { filled ≤ 125 }

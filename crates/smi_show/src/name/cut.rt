@@ -6,8 +6,7 @@ ghost use Rattle.smi_show.specs.private.name.Left.{parts_left};
 
 use snmp_io::{open_after, split_unquoted};
 
-/// Returns the first part of `text`, and the text after the dot that ends this part, or `None` if
-/// the part is the whole text.
+/// Returns the first part of `text`, and the text after the dot that ends it, if one does.
 #[tactic(auto, using(crate::proofs::Parted::one_part, crate::proofs::Parted::part_before))]
 pub fn cut_part(text: &[u8]) -> (&[u8], Option<&[u8]>)
     ensures parts { let left = parts_left (option_map (λ rest. rest.now) result.1) in
@@ -20,8 +19,7 @@ pub fn cut_part(text: &[u8]) -> (&[u8], Option<&[u8]>)
     }
 }
 
-/// Returns the text before the first `::` outside quotes and the text after it, or `None` if there
-/// is no such `::`.
+/// Returns the text before the first `::` outside quotes and the text after it, if there is one.
 pub fn cut_module(text: &[u8]) -> Option<(&[u8], &[u8])>
     ensures { option_map (λ r. (r.0.now, r.1.now)) result ≡ module_after None text.now }
 {
@@ -33,7 +31,7 @@ pub fn cut_module(text: &[u8]) -> Option<(&[u8], &[u8])>
     }
 }
 
-/// Returns what [`cut_module`] does, octet by octet: other colons may come before `::`.
+/// Returns what `cut_module` does, for a name that may have other colons.
 #[tactic(auto, using(std::proofs::lemmas::List::take_rest, crate::proofs::CutLemmas::module_here, crate::proofs::CutLemmas::module_later))]
 fn cut_later_module(text: &[u8]) -> Option<(&[u8], &[u8])>
     ensures { option_map (λ r. (r.0.now, r.1.now)) result ≡ module_after None text.now }
@@ -48,8 +46,7 @@ fn cut_later_module(text: &[u8]) -> Option<(&[u8], &[u8])>
     None
 }
 
-/// Returns whether `text` begins with `::` outside quotes. `before` is the quote that is open
-/// before `text`, if any.
+/// Returns whether `text` begins with `::` and no quote is open before it.
 fn ends_module(before: Option<u8>, text: &[u8]) -> bool
     ensures { result ≡ (is_unquoted before && is_double_colon text.now) }
 {

@@ -108,7 +108,7 @@ fn numbers_alone(text: &[u8], oid: &mut Oid) -> bool
     }
 }
 
-/// Does what `read_meaning` does, part by part, for any text.
+/// Reads what any text means, part by part.
 fn named_meaning(tree: &Tree, text: &[u8], oid: &mut Oid) -> Result<(), NameError>
     ensures { read_to result oid.new ≡ meaning tree.now text.now }
 {
@@ -122,7 +122,7 @@ fn named_meaning(tree: &Tree, text: &[u8], oid: &mut Oid) -> Result<(), NameErro
     }
 }
 
-/// Reads a name that is neither empty nor `.`, with or without a module before its parts.
+/// Reads a name of at least one part, with or without a module before it.
 fn scoped_meaning(tree: &Tree, text: &[u8], oid: &mut Oid) -> Result<(), NameError>
     ensures { read_to result oid.new
         ≡ scoped_meaning tree.now text.now (module_after None text.now) }
@@ -170,7 +170,7 @@ fn parts_meaning(tree: &Tree, scope: Scope<'_>, text: &[u8], oid: &mut Oid) -> R
     further_meaning(tree, left, oid)
 }
 
-/// Reads further parts, if there are any, and appends them to the identifier in `oid`.
+/// Reads further parts, if there are any, after the identifier in `oid`.
 fn further_meaning(tree: &Tree, parts: Option<&[u8]>, oid: &mut Oid) -> Result<(), NameError>
     ensures { let left = parts_left (option_map (λ rest. rest.now) parts.entry) in
         read_to result oid.new ≡ further_meaning tree.now oid.old left }
@@ -182,8 +182,7 @@ fn further_meaning(tree: &Tree, parts: Option<&[u8]>, oid: &mut Oid) -> Result<(
     Ok(())
 }
 
-/// Reads the first part of a name into `oid`, and returns the text after the dot that ends it, if
-/// one does.
+/// Reads the first part of a name, and returns the text after the dot that ends it, if one does.
 fn first_meaning<'b>(
     tree: &Tree,
     scope: Scope<'_>,
@@ -199,8 +198,7 @@ fn first_meaning<'b>(
     Ok(rest)
 }
 
-/// Reads the first of further parts after the identifier in `oid`, and returns the text after the
-/// dot that ends this part, if one does.
+/// Reads the first of further parts, and returns the text after the dot that ends it, if one does.
 fn next_meaning<'b>(
     tree: &Tree,
     text: &'b [u8],

@@ -28,9 +28,8 @@ pub enum Piece<'a> {
     Plain(&'a [u8]),
 }
 
-/// Reads a part: a number, a text in quotes, or a label. Fails with `BadNumber` if it is empty, or
-/// begins with a digit and isn't a number; with `BadIndex` if it begins with a quote and isn't a
-/// text in quotes.
+/// Reads a part: a number, a text in quotes, or a label. Fails if it is empty, or begins with a
+/// digit or a quote and is neither a number nor a text in quotes.
 #[tactic(auto, using(crate::proofs::NumeralLemmas::numeral_read))]
 pub fn read_part(part: &[u8]) -> Result<Part<'_>, NameError>
     ensures { outcome_in result ≡ word_of part.now }
@@ -53,8 +52,7 @@ pub fn read_part(part: &[u8]) -> Result<Part<'_>, NameError>
     }
 }
 
-/// Returns the octets of `rest` before the quote that ends it, or `None` if it doesn't end with the
-/// quote, or one of these octets may not appear between quotes.
+/// Returns the octets before the quote that ends `rest`, if each may appear between quotes.
 fn quoted(quote: u8, rest: &[u8]) -> Option<&[u8]>
     ensures { option_map (λ octets. octets.now) result ≡ quoted_in quote rest.now }
 {

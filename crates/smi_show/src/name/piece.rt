@@ -19,7 +19,7 @@ pub fn push_piece(oid: &mut Oid, piece: Piece<'_>) -> Result<(), NameError>
     }
 }
 
-/// Appends `number` to `oid`, or fails with `TooLong`.
+/// Appends a number.
 // `inline`: called for each number of a name.
 #[inline]
 pub fn push_number(oid: &mut Oid, number: u32) -> Result<(), NameError>
@@ -28,7 +28,7 @@ pub fn push_number(oid: &mut Oid, number: u32) -> Result<(), NameError>
     oid.push(number).map_err(|_| NameError::TooLong)
 }
 
-/// Appends the number of octets and then the octets to `oid`, or fails with `TooLong`.
+/// Appends the number of octets and then the octets.
 fn push_counted(oid: &mut Oid, octets: &[u8]) -> Result<(), NameError>
     ensures { read_to result oid.new ≡ fitting (oid.old ++ length octets.now ∷ octets.now) }
 {
@@ -39,7 +39,7 @@ fn push_counted(oid: &mut Oid, octets: &[u8]) -> Result<(), NameError>
     push_octets(oid, octets)
 }
 
-/// Appends the octets to `oid`, each as a number, or fails with `TooLong`.
+/// Appends octets, each as a number.
 fn push_octets(oid: &mut Oid, octets: &[u8]) -> Result<(), NameError>
     ensures { read_to result oid.new ≡ fitting (oid.old ++ octets.now) }
 {

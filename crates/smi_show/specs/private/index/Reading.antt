@@ -24,7 +24,6 @@ abbrev pub remaining : List ℕ → Option (List ℕ × List ℕ)
 remaining [] = None
 remaining (n ∷ more) = Some (n ∷ more, [])
 
--- what was read, if each number of the value is that of an octet
 abbrev pub of_octets : Option (List ℕ × List ℕ) → Option (List ℕ × List ℕ)
 of_octets read = option_and_then (λ r. if list_all is_octet r.0 then Some r else None) read
 

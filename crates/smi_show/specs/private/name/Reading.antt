@@ -10,8 +10,7 @@ abbrev pub read_to : Result (Unit {0}) NameError → List ℕ → Result (List �
 read_to (Ok done) o = Ok o
 read_to (Err fault) o = Err fault
 
--- the meaning of the whole name, after a call that read some parts into `o` and returned the text
--- that is left, or failed
+-- the meaning of a name, if a call read parts into `o` and returned the text left, or failed
 abbrev pub meant_with : Contents → Result (Option (Bor (List ℕ))) NameError → List ℕ
     → Result (List ℕ) NameError
 meant_with tree (Ok left) o =
