@@ -1,8 +1,8 @@
-//! Chains of names, followed without recursion: the places whose chains end, in order, and which
-//! numbers come along them.
+//! Chains of names, followed without recursion: the indices whose chains end, in order, and the
+//! numbers along the chains.
 //!
-//! Depends on object identifiers alone. Meanings follow definitions and imports with it: each name
-//! has a place, a number.
+//! Depends only on object identifiers. Meanings follow definitions and imports with it: each name
+//! has an index.
 
 mod order;
 mod shared;

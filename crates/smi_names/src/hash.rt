@@ -8,17 +8,17 @@ use std::hash::{BuildHasher, DefaultHasher, RandomState};
 /// How the maps of names hash them: by SipHash-1-3, with a key from the system or with a fixed one.
 ///
 /// Names come from files that others wrote. Someone who doesn't know the key can't choose names
-/// that a map would keep in one long chain.
+/// that all have one hash.
 #[derive(Clone, Copy, Debug)]
 pub enum NameHash {
     /// With a key from the system.
     Keyed(RandomState),
-    /// With the key 0: for a run that is to be repeated, and where the system gives no key.
+    /// With the key 0: for a run that is to be repeated, or if the system provides no key.
     Fixed,
 }
 
 impl NameHash {
-    /// Hashes by this key, or by the fixed key if it is None.
+    /// Returns `Keyed` with this key, or `Fixed` if there is none.
     pub fn of_key(key: Option<RandomState>) -> NameHash
         ensures { MatchOption key (result ≡ by.Fixed) (λ key. result ≡ by.Keyed key) }
     {

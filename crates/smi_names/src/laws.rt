@@ -1,5 +1,5 @@
-//! Laws of meanings, nodes and warnings, for any modules. Each is a call that does nothing, and its
-//! caller may use what it ensures.
+//! Laws of meanings, nodes and warnings, for any modules. Each call does nothing, and its caller
+//! may use what it ensures.
 ghost use Rattle.std.specs.Prelude.{◌≡◌, ℕ, List};
 ghost use Rattle.smi_names.specs.{chains.Resolution.ComesTo, nodes.Nodes.Loads, nodes.Nodes.Node};
 ghost use Rattle.smi_names.specs.declared.chains.shared.Resolution.{Resolution};
@@ -22,7 +22,7 @@ pub fn one_resolution()
         → one ≡ other }
 {}
 
-/// Modules bring one list of nodes, with one list of warnings.
+/// Modules load as one list of nodes, with one list of warnings.
 pub fn one_loading()
     ensures { (modules before : List Module) (nodes others : List Node)
         (warnings more : List Warning) → Loads modules before nodes warnings

@@ -1,11 +1,11 @@
 //! What names mean in loaded modules (RFC 2578, section 3), and the nodes that modules define, each
 //! with its identifier, with the warnings for what refers to nothing.
 //!
-//! Stands on module trees and on identifiers. The tree of names keeps the nodes, and finds them.
+//! Builds on module trees and identifiers. The tree of names stores the nodes, and finds them.
 //!
 //! # Examples
 //!
-//! Which modules are loaded:
+//! Asks which modules are loaded:
 //!
 //! ```
 //! let text = b"A-MIB DEFINITIONS ::= BEGIN IMPORTS b FROM B-MIB;\n\

@@ -1,4 +1,4 @@
-//! What names mean in modules: each name of each module is decided once, and its chain is resolved.
+//! What names mean in modules: what decides each name is found once, and its chain is resolved.
 //!
 //! Depends on module trees and on chains. The nodes are made from what is resolved here, and the
 //! tree of names follows names to types and to definitions.

@@ -1,7 +1,7 @@
 //! Names as the keys of maps, borrowed and owned.
 //!
-//! A key gives its octets to the hasher in one write, so that they are hashed eight at a time. A
-//! list of octets as a key would give them one by one.
+//! A key passes its octets to the hasher in one write, so that they are hashed eight at a time. A
+//! list of octets as a key would pass them one by one.
 ghost use Rattle.std.specs.{Prelude.◌≡◌, Prelude.IfOk, Str.bytes_eq, Cmp.partial_equiv_from_equiv};
 ghost use Rattle.std.specs.Cmp.Lexicographic.{bytes_decides, nat_list_eq_equiv};
 ghost use Rattle.std.proofs.Common.{ap};
@@ -13,7 +13,7 @@ use std::alloc::{AllocError, Global};
 use std::hash::{Hash, Hasher};
 use std::marker::Model;
 
-/// A name of modules, which borrows its octets. Names are equal where their octets are.
+/// A name in modules, which borrows its octets. Names are equal if their octets are.
 ///
 /// By a `&NameRef` a map also finds a [`NameBuf`].
 #[derive(Drop)]
@@ -30,14 +30,14 @@ impl<'a> Model for NameRef<'a> {
 }
 
 impl<'a> NameRef<'a> {
-    /// The name of these octets.
+    /// Returns the name of these octets.
     pub fn new(octets: &'a [u8]) -> NameRef<'a>
         ensures { result ≡ octets.now }
     {
         NameRef { octets }
     }
 
-    /// The octets.
+    /// Returns the octets.
     pub fn as_bytes(&self) -> &'a [u8]
         ensures { result.now ≡ self.now }
     {
@@ -69,7 +69,7 @@ impl<'a> Hash for NameRef<'a> {
     }
 }
 
-/// A name of modules, which owns its octets. Names are equal where their octets are.
+/// A name in modules, which owns its octets. Names are equal if their octets are.
 #[derive(Drop)]
 pub struct NameBuf {
     octets: Text,
@@ -84,7 +84,7 @@ impl Model for NameBuf {
 }
 
 impl NameBuf {
-    /// The name of these octets, which are copied.
+    /// Returns the name of these octets, which are copied.
     pub fn new(alloc: Global, octets: &[u8]) -> Result<NameBuf, AllocError>
         ensures { IfOk result (λ name. name ≡ octets.now) }
     {
@@ -92,7 +92,7 @@ impl NameBuf {
         Ok(NameBuf { octets })
     }
 
-    /// The octets.
+    /// Returns the octets.
     pub fn as_bytes(&self) -> &[u8]
         ensures { result.now ≡ self.now }
     {

@@ -1,4 +1,4 @@
-//! Maps from names to places.
+//! Maps from names to indices.
 ghost use Rattle.std.specs.Prelude.{◌≡◌, Some, None, IfOk, OnOk, if◌then◌else◌, unwrap_or};
 ghost use Rattle.indexmap.specs.IndexMap.{get, hasher_of};
 ghost use Rattle.smi_names.specs.{meaning.Meaning.or_else, meaning.Scopes.place_in};
@@ -9,10 +9,10 @@ use indexmap::IndexMap;
 use std::alloc::AllocError;
 use std::hash::Hash;
 
-/// Names, each with its place.
+/// Names, each with its index.
 pub(crate) type NamePlaces<'a> = IndexMap<NameRef<'a>, usize, NameHash>;
 
-/// Inserts a place under a key unless the key has one, and returns the place that it has then.
+/// Inserts `place` under `key` unless the key has an index, and returns the index that it has then.
 pub fn insert_if_absent<K: Eq + Hash + Drop>(
     places: &mut IndexMap<K, usize, NameHash>,
     key: K,
@@ -26,7 +26,7 @@ pub fn insert_if_absent<K: Eq + Hash + Drop>(
     Ok(*places.entry(key)?.or_insert(place))
 }
 
-/// The place of a name.
+/// Returns the index of `name`.
 pub(crate) fn find<'b>(places: &NamePlaces<'b>, name: &'b [u8]) -> Option<usize>
     ensures { result ≡ place_in places.now name.now }
 {

@@ -1,4 +1,4 @@
-//! The places of chains in an order in which each comes after the one that it leads to.
+//! The indices whose chains end, in an order in which each comes after the one that it refers to.
 ghost use Rattle.std.specs.Prelude.{◌≡◌, ◌≢◌, ◌⊎◌, ℕ, ◌<◌, ◌↔◌, List, [], ◌∷◌, length, All};
 ghost use Rattle.std.specs.Prelude.{Contains, Option, IfOk, IsTrue, Some, true, false, vec_len};
 ghost use Rattle.smi_names.specs.chains.Chain.{HasEnd};
@@ -7,32 +7,31 @@ ghost use Rattle.smi_names.specs.private.Search.{Keeps, Leads, mark_at};
 
 use std::alloc::{AllocError, Global};
 
-/// The state of a place in the search.
+/// The state of an index in the search.
 #[derive(Clone, Copy, Debug)]
 enum Mark {
     /// Not reached.
     New,
     /// Reached by a climb.
     Met,
-    /// Among the places in order.
+    /// Part of the order.
     Settled,
 }
 
-/// The search for the places whose chains end.
+/// The search for the indices whose chains end.
 #[derive(Drop)]
 struct Search {
-    /// How far the search is with each place.
+    /// The state of each index.
     marks: Vec<Mark>,
-    /// The places whose chains end, so far, each after the one that it leads to.
+    /// The indices found so far whose chains end, each after the one that it refers to.
     order: Vec<usize>,
-    /// The places of a climb, from its start on.
+    /// The indices of a climb, from its start on.
     path: Vec<usize>,
 }
 
-/// The places whose chains end, each after the one that it leads to. A chain ends where it leads
-/// beyond the last place.
-///
-/// Each place is visited once, without recursion.
+/// Returns the indices whose chains end, each after the index that it refers to. Index `i` refers
+/// to `next[i]`; a chain ends at an index that refers to `None` or past the end of `next`. Visits
+/// each index once, without recursion.
 pub fn ordered(alloc: Global, next: &[Option<usize>]) -> Result<Vec<usize>, AllocError>
     ensures within { IfOk result (λ order. All (λ p. p < length next.now) order.items) }
     ensures only_ended { IfOk result (λ order. All (HasEnd (next_at next.now)) order.items) }
@@ -52,7 +51,8 @@ pub fn ordered(alloc: Global, next: &[Option<usize>]) -> Result<Vec<usize>, Allo
 }
 
 impl Search {
-    /// Follows a chain from a place while its places are new, and returns where that stops.
+    /// Follows the chain from `start` as long as its indices are new, and returns the one at which
+    /// it stops, if any.
     fn climb(&mut self, next: &[Option<usize>], start: usize) -> Result<Option<usize>, AllocError>
         requires kept { Keeps next.now self.old.marks.items self.old.order.items
             self.old.path.items }
@@ -80,7 +80,7 @@ impl Search {
         Ok(to)
     }
 
-    /// Puts a place that leads nowhere into the order, unless it is there.
+    /// Adds `place`, which refers to nothing, to the order unless it is in it.
     fn settle(&mut self, next: &[Option<usize>], place: usize) -> Result<(), AllocError>
         requires kept { Keeps next.now self.old.marks.items self.old.order.items
             self.old.path.items }
@@ -102,7 +102,7 @@ impl Search {
         Ok(())
     }
 
-    /// Whether there is such a place, and it is new.
+    /// Returns whether there is such an index, and it is new.
     fn is_new(&self, place: usize) -> bool
         ensures new { IsTrue result
             ↔ ((place < vec_len self.now.marks) × (mark_at self.now.marks.items place ≡ Mark.New)) }
@@ -110,7 +110,7 @@ impl Search {
         matches!(self.marks.get(place), Some(Mark::New))
     }
 
-    /// Whether a climb that stopped here has come to an end of its chain.
+    /// Returns whether the chain of a climb that stopped at `to` ends, and doesn't enter a ring.
     fn has_ended(&self, to: Option<usize>) -> bool
         ensures met { result ≡ false → (p : ℕ) × (to ≡ Some p)
             × (mark_at self.now.marks.items p ≡ Mark.Met) }
@@ -123,7 +123,7 @@ impl Search {
         }
     }
 
-    /// Climbs from a place, and puts the places of the path into the order, the last one first, if
+    /// Climbs from `start`, and adds the indices of the path to the order, the last one first, if
     /// their chain ends.
     fn visit(&mut self, next: &[Option<usize>], start: usize) -> Result<(), AllocError>
         requires kept { Keeps next.now self.old.marks.items self.old.order.items
@@ -138,7 +138,7 @@ impl Search {
             → mark_at self.old.marks.items p ≢ Mark.New
             → mark_at self.new.marks.items p ≢ Mark.New) }
     {
-        // A place that leads nowhere, as most do, is settled at once.
+        // An index that refers to nothing, as most do, is settled at once.
         if next[start].is_none() {
             return self.settle(next, start);
         }

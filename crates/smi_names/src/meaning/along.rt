@@ -1,36 +1,36 @@
-//! Meanings of names along chains: an import leads to the same name in the module after FROM, and a
-//! definition may lead to a name of its module.
+//! Meanings of names along chains: an import refers to the same name in the module after FROM, and
+//! a definition can refer to a name of its own module.
 ghost use Rattle.std.specs.Prelude.{◌≡◌, ℕ, List, Option, Some, option_map};
 ghost use Rattle.smi_text.specs.declared.trees.tree.Def.{Def};
 
 use smi_text::{Def, Name};
 
-/// Where definitions lead. What a definition means may depend on what another name of its module
-/// means, as a type depends on the type that it refines. Imports lead to the same name in the
-/// module after FROM, whatever the meaning (RFC 2578, section 3.2).
+/// Which name of its own module a definition refers to. The meaning of a definition can depend on
+/// that name's meaning: a type depends on the type that it refines. An import always refers to the
+/// same name in the module after FROM (RFC 2578, section 3.2).
 pub trait Leads {
-    /// The name of its own module to which a definition leads.
+    /// `leads def`: the name of its own module that the definition refers to.
     ghost leads: { Def → Option (List ℕ) };
 
-    /// The name of its own module to which a definition leads, if it leads to one.
+    /// Returns the name of its own module that `def` refers to, if it refers to one.
     fn lead(def: &Def) -> Option<&Name>
         ensures { option_map (λ name. name.now.octets) result ≡ leads def.now };
 }
 
-/// A meaning that definitions give to names. An imported name means what the same name means in the
-/// module after FROM (RFC 2578, section 3.2); another what its definition means, which may depend
-/// on what a name means to which that definition leads.
+/// A meaning of names. An imported name means what the same name means in the module after FROM
+/// (RFC 2578, section 3.2). Any other name means what its definition does, which can depend on the
+/// meaning of the name that the definition refers to.
 pub trait Meaning: Copy + Leads {
-    /// What the definition at a place means, given what the name means to which it leads.
+    /// `means at def far`: what the definition means, if the name that it refers to means `far`.
     ghost means: { ℕ × ℕ → Def → Option Self → Option Self };
 
-    /// What a definition means, by where it stands (its module's place and its own in that), given
-    /// what the name means to which it leads.
+    /// Returns what `def` means. `at` is the index of its module and its own in that, and `far` is
+    /// the meaning of the name that it refers to.
     fn meaning(at: (usize, usize), def: &Def, far: Option<Self>) -> Option<Self>
         ensures { result ≡ means at def.now far };
 }
 
-/// Imports lead to the place of a definition, and it leads no further.
+/// Only imports refer to another name; a definition refers to none.
 impl Leads for (usize, usize) {
     ghost use Rattle.smi_names.specs.meaning.Along.{leads_nowhere};
 
@@ -41,7 +41,7 @@ impl Leads for (usize, usize) {
     }
 }
 
-/// The place of a definition as a meaning: that of its module, and its own in that.
+/// The indices of a definition as a meaning: that of its module, and its own in that.
 impl Meaning for (usize, usize) {
     ghost use Rattle.smi_names.specs.meaning.Along.{stands_at};
 

@@ -1,4 +1,4 @@
-//! Base types, which their names stand for in every module.
+//! Base types, whose names mean the same in every module.
 ghost use Rattle.std.specs.Prelude.{◌≡◌};
 ghost use Rattle.smi_names.specs.meaning.Base.{base_named};
 
@@ -30,7 +30,7 @@ pub enum TypeBase {
 }
 
 impl TypeBase {
-    /// The base type of this name, whatever a module defines (RFC 2578, section 7.1).
+    /// Returns the base type of this name, whatever a module defines (RFC 2578, section 7.1).
     #[tactic(auto, unfolding(crate::specs::meaning::Base::base_named))]
     pub fn named(name: &[u8]) -> Option<TypeBase>
         ensures { result ≡ base_named name.now }

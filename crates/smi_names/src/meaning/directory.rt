@@ -1,4 +1,4 @@
-//! The places of names: which entry a name of a module has, and to which its own leads.
+//! The indices of names: which entry a name of a module has, and which one that refers to.
 ghost use Rattle.std.specs.Prelude.{◌≡◌, ℕ, List, [], map, IfOk, Some, All};
 ghost use Rattle.indexmap.specs.IndexMap.{hasher_of};
 ghost use Rattle.smi_names.specs.meaning.Scopes.{place_in};
@@ -17,34 +17,34 @@ use indexmap::IndexMap;
 use smi_text::Module;
 use std::alloc::{AllocError, Global};
 
-/// The modules and their names, each with its place.
+/// The modules and their names, each with its index.
 #[derive(Drop)]
 pub(crate) struct Directory<'a> {
-    /// The place of each module, by its name.
+    /// The index of each module, by its name.
     pub(crate) homes: NamePlaces<'a>,
-    /// For each module, the place of the entry of each of its names.
+    /// For each module, the index of the entry of each of its names.
     pub(crate) scopes: Vec<NamePlaces<'a>>,
     /// What decides each name of each module.
     pub(crate) entries: Vec<Entry<'a>>,
-    /// The place to which each name leads towards its identifier; none are there while they are
-    /// found. That of an import holds in every meaning.
+    /// The index of the entry that each entry refers to for its identifier; empty until they are
+    /// found. That of an import holds for every meaning.
     pub(crate) parents: Vec<Option<usize>>,
 }
 
-/// A name of a module that was looked up, with its place.
+/// A name of a module that was looked up, with its index.
 #[derive(Clone, Copy, Debug)]
 struct Found<'a> {
     /// The name of the module.
     home: &'a [u8],
-    /// The place of the first module of that name.
+    /// The index of the first module of that name.
     at: Option<usize>,
     /// The name.
     name: &'a [u8],
-    /// Its place.
+    /// The index of its entry.
     place: usize,
 }
 
-/// The place of each module, by its name: the first of those that have it.
+/// Returns the index of each module by its name: of several with one name, that of the first.
 pub(crate) fn homes<'a>(
     alloc: Global,
     hash: NameHash,
@@ -61,7 +61,8 @@ pub(crate) fn homes<'a>(
     Ok(homes)
 }
 
-/// Enters the names that have a meaning in each module, and returns their places.
+/// Appends an entry for each name that has a meaning in a module, and returns their indices, by
+/// module.
 pub(crate) fn scopes<'a>(
     alloc: Global,
     hash: NameHash,
@@ -81,15 +82,15 @@ pub(crate) fn scopes<'a>(
 }
 
 impl<'a> Directory<'a> {
-    /// The place of a name in the module named `home`; the one past the last if it has no meaning
-    /// there.
+    /// Returns the index of the entry of `name` in the module named `home`, or the number of
+    /// entries if it has no meaning there.
     pub(crate) fn place(&self, home: &'a [u8], name: &'a [u8]) -> usize
         ensures { result ≡ place_by self.now (record { home = home.now; name = name.now }) }
     {
         self.place_in(find(&self.homes, home), name)
     }
 
-    /// The place of a name in the module at `at`; the one past the last if there is none.
+    /// Returns the same for the module at index `at`, if there is one.
     fn place_in(&self, at: Option<usize>, name: &'a [u8]) -> usize
         ensures { result ≡ place_at self.now at name.now }
     {
@@ -105,7 +106,7 @@ impl<'a> Directory<'a> {
         }
     }
 
-    /// Whether the entry at `place` is that of `name` in the module at `home`.
+    /// Returns whether the entry at `place` is that of `name` in the module at index `home`.
     pub(crate) fn is_entry(&self, place: usize, home: usize, name: &[u8]) -> bool
         ensures { result ≡ is_entry_of (slice_get self.now.entries.items place) home name.now }
     {
@@ -115,8 +116,8 @@ impl<'a> Directory<'a> {
         }
     }
 
-    /// The place of a name as [`Directory::place`] returns it. `last` is the name that was looked
-    /// up last: names that follow one another are mostly of one module, and often the same parent.
+    /// Does what [`Directory::place`] does, faster after `last`, the name that was looked up last:
+    /// names that follow one another are mostly of one module, and often the same parent.
     fn place_again(&self, home: &'a [u8], name: &'a [u8], last: &mut Option<Found<'a>>) -> usize
         requires { IsFound self.now last.old }
         ensures place { result ≡ place_by self.now (record { home = home.now; name = name.now }) }
@@ -141,8 +142,8 @@ impl<'a> Directory<'a> {
         place
     }
 
-    /// The place to which the name of the entry at `place` leads. `last` is the name that was
-    /// looked up last.
+    /// Returns the index of the entry that the entry at `place` refers to. `last` is the name that
+    /// was looked up last.
     fn next<M: Leads>(
         &self,
         place: usize,
@@ -161,7 +162,7 @@ impl<'a> Directory<'a> {
                 let name = M::lead(def)?;
                 Some(self.place_again(home, name.as_bytes(), last))
             }
-            // Imports lead alike in every meaning, and are looked up for the parents alone.
+            // An import refers to one entry in every meaning, and is looked up only for parents.
             Decider::Import(import) => match self.parents.get(place) {
                 Some(to) => *to,
                 None => Some(self.place_again(import.source.as_bytes(), entry.name, last)),
@@ -170,8 +171,8 @@ impl<'a> Directory<'a> {
         }
     }
 
-    /// The place to which the name of each entry leads. Parents are found first, in a directory
-    /// that has none.
+    /// Returns the index of the entry that each entry refers to. Parents are found first, in a
+    /// directory that has none.
     pub(crate) fn next_places<M: Leads>(
         &self,
         alloc: Global,

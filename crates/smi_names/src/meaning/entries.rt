@@ -1,4 +1,4 @@
-//! The names of modules by their places, what each means and what it resolves to.
+//! The names of modules by their indices, what each means and what it resolves to.
 ghost use Rattle.std.specs.Prelude.{◌≡◌, ℕ, Option, None, Some, length, option_map, IfOk};
 ghost use Rattle.std.specs.{Prelude.MatchOption, List.slice_get, Option.option_and_then};
 ghost use Rattle.smi_names.specs.{chains.Order.at_place, meaning.Names.IsSourced};
@@ -18,7 +18,7 @@ use smi_text::Module;
 use std::alloc::{AllocError, Global};
 use std::marker::Model;
 
-/// The names that have a meaning in modules, each with its place.
+/// The names that have a meaning in modules, each with its index.
 ///
 /// Of two modules with the same name, the first is used.
 #[derive(Drop)]
@@ -39,15 +39,15 @@ impl<'s, 'a> Model for Entries<'s, 'a> {
 }
 
 impl<'s, 'a> Entries<'s, 'a> {
-    /// How many names there are.
+    /// Returns the number of names.
     pub fn len(&self) -> usize
         ensures { result ≡ length self.now.names }
     {
         self.directory.entries.len()
     }
 
-    /// The place of a name in the module named `home`; the one past the last if it has no meaning
-    /// there.
+    /// Returns the index of `name` in the module named `home`, or the number of names if it has no
+    /// meaning there.
     pub fn place(&self, home: &'a [u8], name: &'a [u8]) -> usize
         ensures { slice_get self.now.names result
             ≡ content_named self.now.modules (record { home = home.now; name = name.now }) }
@@ -55,7 +55,7 @@ impl<'s, 'a> Entries<'s, 'a> {
         self.directory.place(home, name)
     }
 
-    /// The name at a place.
+    /// Returns the name at an index.
     pub fn get(&self, place: usize) -> Option<Entry<'a>>
         ensures found { option_map content_of result ≡ slice_get self.now.names place }
         ensures source { (e : Entry) → result ≡ Some e → IsSourced self.now.modules e }
@@ -63,9 +63,9 @@ impl<'s, 'a> Entries<'s, 'a> {
         self.directory.entries.get(place).copied()
     }
 
-    /// What the name at each place means. None for a root, where its definition means nothing, and
-    /// where its chain has no end, as in a ring of imports. Each place is visited once, without
-    /// recursion. An error says that memory ran out.
+    /// Returns what each name means: `None` for a root, for a definition without a meaning, for an
+    /// import of a name without one, and for a chain that has no end, as in a ring of imports.
+    /// Visits each name once, without recursion. Fails only if memory runs out.
     pub fn along<M: Meaning>(&self, alloc: Global) -> Result<Vec<Option<M>>, AllocError>
         ensures { IfOk result (λ found. AreMeant self.now M.leads M.means found.items) }
     {
@@ -79,14 +79,14 @@ impl<'s, 'a> Entries<'s, 'a> {
         Ok(found)
     }
 
-    /// The place to which the name at each place leads.
+    /// Returns the index of the name that each name refers to.
     fn next_places<M: Leads>(&self, alloc: Global) -> Result<Vec<Option<usize>>, AllocError>
         ensures { IfOk result (λ next. AreNext self.now M.leads next.items) }
     {
         self.directory.next_places::<M>(alloc)
     }
 
-    /// What the name at a place means, given what the name means to which it leads.
+    /// Returns what the name at `place` means, if the name that it refers to means `far`.
     fn meant<M: Meaning>(&self, place: usize, far: Option<M>) -> Option<M>
         ensures { let k = self.now in (to : Option ℕ) → IsNext k M.leads place to
             → MatchOption to (far ≡ None) (λ q. MeansAt k M.leads M.means q far)
@@ -102,17 +102,16 @@ impl<'s, 'a> Entries<'s, 'a> {
         }
     }
 
-    /// What the name at each place resolves to.
+    /// Returns what each name resolves to.
     ///
-    /// Each place is visited once, without recursion, so chains may be of any length and may lead
-    /// back to themselves.
+    /// Visits each name once, without recursion: chains may be of any length, and may be rings.
     pub(crate) fn resolutions(&self, alloc: Global) -> Result<Shared, AllocError>
         ensures within { IfOk result (λ s. AreWithin s.list.items s.places.items) }
         ensures resolved { IfOk result (λ s.
             AreResolved self.now (shared s.list.items s.places.items)) }
     {
         let next = self.parents();
-        // Without places nothing is kept, and no memory is asked for.
+        // Without names nothing is stored, and no memory is allocated.
         if next.is_empty() {
             return Ok(Shared {
                 list: Vec::new(alloc),
@@ -129,7 +128,7 @@ impl<'s, 'a> Entries<'s, 'a> {
         Ok(Shared { list, places })
     }
 
-    /// The place to which the name at each place leads towards its identifier.
+    /// Returns the index of the name that each name refers to for its identifier.
     #[tactic(auto, using(crate::proofs::Leading::are_next))]
     fn parents(&self) -> &[Option<usize>]
         ensures { AreNext self.now parent_of result.now }
@@ -137,7 +136,7 @@ impl<'s, 'a> Entries<'s, 'a> {
         &self.directory.parents
     }
 
-    /// How many identifiers the list gets at most.
+    /// Returns how many identifiers the list can get at most.
     fn most(&self) -> usize {
         let mut count = 0_usize;
         'entries: for entry in &self.directory.entries {
@@ -153,8 +152,8 @@ impl<'s, 'a> Entries<'s, 'a> {
         count
     }
 
-    /// The place in the list of what the name at a place resolves to; a new identifier is appended.
-    /// `places` has those of the names before it.
+    /// Returns the index in `list` of what the name at `place` resolves to; a new identifier is
+    /// appended. `places[i]` is the index in `list` for the name `i`, if that came before.
     fn entered(
         &self,
         alloc: Global,
@@ -183,7 +182,7 @@ impl<'s, 'a> Entries<'s, 'a> {
     }
 }
 
-/// What a list has at the place to which something leads, if it leads to one.
+/// Returns what `found` has at the index `to`, if there is one.
 fn far_meaning<T: Copy>(found: &[Option<T>], to: Option<usize>) -> Option<T>
     ensures { result ≡ option_and_then (λ p. at_place found.now p) to }
 {

@@ -1,4 +1,4 @@
-//! The names of modules, each with what decides what it means.
+//! The names of modules, each with what decides its meaning.
 
 use smi_text::{Def, Import, Module};
 
@@ -9,7 +9,7 @@ pub enum Decider<'a> {
     Definition(&'a Def),
     /// The first FROM clause that imports it.
     Import(&'a Import),
-    /// Neither of these, but it is the root with this number.
+    /// The list of roots, which has the name with this number.
     Root(u32),
 }
 
@@ -22,6 +22,6 @@ pub struct Entry<'a> {
     pub name: &'a [u8],
     /// What decides its meaning.
     pub decider: Decider<'a>,
-    /// The place of the module and, if a definition decides, the place of the definition in it.
+    /// The index of the module and, if a definition decides, the index of the definition in it.
     pub source: (usize, usize),
 }

@@ -46,7 +46,7 @@ impl<'a> Model for Names<'a> {
 }
 
 impl<'a> Names<'a> {
-    /// The names of these modules, each resolved once. The maps that find them have this key.
+    /// Resolves the names of these modules, each once. The maps that find them have this key.
     pub fn new(
         alloc: Global,
         hash: NameHash,
@@ -76,17 +76,18 @@ impl<'a> Names<'a> {
         })
     }
 
-    /// The key of the maps that find the names.
+    /// Returns the key of the maps that find the names.
     pub fn key(&self) -> NameHash
         ensures { result ≡ self.now.key }
     {
         *self.directory.homes.hasher()
     }
 
-    /// What a name resolves to in the module named `home`; None if it has no meaning there.
+    /// Returns what `name` resolves to in the module named `home`, or `None` if it has no meaning
+    /// there.
     pub fn resolution(&self, home: &'a [u8], name: &'a [u8]) -> Option<&Resolution>
-        // The module's own definition decides, else an import with the meaning of the name there,
-        // else a root. It leads to one identifier, or to none for one reason.
+        // The module's own definition decides, otherwise an import, by the meaning of the name
+        // there, otherwise a root. The result is one identifier, or one reason for none.
         ensures { let qualified : QualifiedName = record { home = home.now; name = name.now } in
             MatchOption result (origin self.now.modules qualified ≡ nowhere)
             (λ resolution. ComesTo (origin self.now.modules) qualified resolution.now) }
@@ -95,12 +96,12 @@ impl<'a> Names<'a> {
         self.resolutions.get(place)
     }
 
-    /// What a name resolves to in this module, which is the first of its name and stands at
-    /// `source.0`; None if it has no meaning there.
+    /// Returns what `name` resolves to in `module`, which is the first of its name and has the
+    /// index `source.0`, or `None` if it has no meaning there.
     ///
-    /// `from` is a guess: the place of the module's first name. The names of its definitions follow
-    /// one another from there, unless one is defined twice. It is changed where it is wrong, and no
-    /// result depends on it.
+    /// `from` is a guess at the index of the module's first name. The names of its definitions
+    /// follow one another from there, unless one is defined twice. A wrong guess is corrected, and
+    /// no result depends on it.
     pub(crate) fn resolution_of(
         &self,
         source: (usize, usize),
@@ -125,12 +126,12 @@ impl<'a> Names<'a> {
         self.resolutions.get(place)
     }
 
-    /// A guess at how many nodes there will be: how many resolutions are kept.
+    /// Returns a guess at the number of nodes: the number of resolutions stored.
     pub(crate) fn identifiers(&self) -> usize {
         self.resolutions.list.len()
     }
 
-    /// What decides the meaning of a name in the module named `home`.
+    /// Returns what decides the meaning of `name` in the module named `home`.
     pub fn decider(&self, home: &'a [u8], name: &'a [u8]) -> Option<Decider<'a>>
         ensures { option_map decision_of result ≡ option_and_then (λ m. decision m name.now)
             (module_named self.now.modules home.now) }
@@ -140,7 +141,7 @@ impl<'a> Names<'a> {
         Some(entry.decider)
     }
 
-    /// The names by their places.
+    /// Returns the names by their indices.
     pub fn entries(&self) -> Entries<'_, 'a>
         ensures { result.modules ≡ self.now.modules }
     {
@@ -150,14 +151,14 @@ impl<'a> Names<'a> {
         }
     }
 
-    /// The place of the first module of a name.
+    /// Returns the index of the first module named `name`.
     pub fn module_place(&self, name: &'a [u8]) -> Option<usize>
         ensures { result ≡ module_place self.now.modules name.now }
     {
         find(&self.directory.homes, name)
     }
 
-    /// Whether there is a module of this name.
+    /// Returns whether a module named `name` is loaded.
     pub fn is_loaded(&self, name: &'a [u8]) -> bool
         ensures { result ≡ is_some (module_named self.now.modules name.now) }
     {

@@ -10,7 +10,7 @@ use crate::meaning::along::Leads;
 use smi_text::{Def, Name, Part};
 use std::alloc::{AllocError, Global};
 
-/// Definitions lead to the names with which their identifier values begin, if each part after it
+/// A definition refers to the name with which its identifier value begins, if each part after that
 /// has a number (RFC 2578, section 7.10).
 pub(crate) struct Parents;
 
@@ -27,14 +27,14 @@ impl Leads for Parents {
     }
 }
 
-/// Whether each part has a number.
+/// Returns whether each part has a number.
 fn are_numbered(parts: &[Part]) -> bool
     ensures { result ≡ is_some (arcs_of parts.now) }
 {
     parts.iter().all(|part| part.number().is_some())
 }
 
-/// The numbers of parts, if each has one.
+/// Returns the numbers of the parts, if each has one.
 #[tactic(auto, using(crate::proofs::Placing::arcs_none, crate::proofs::Placing::arcs_push, std::proofs::lemmas::List::take_more, std::proofs::lemmas::Grind::common_steps))]
 fn arcs(alloc: Global, parts: &[Part]) -> Result<Option<Vec<u32>>, AllocError>
     ensures { IfOk result (λ numbers. option_map (λ v. v.items) numbers ≡ arcs_of parts.now) }
@@ -49,8 +49,8 @@ fn arcs(alloc: Global, parts: &[Part]) -> Result<Option<Vec<u32>>, AllocError>
     Ok(Some(numbers))
 }
 
-/// The place in the list of what a name with this identifier value resolves to; a new identifier is
-/// appended. No list is made for one number after a name, as most have.
+/// Returns the index in `list` of what a name with the identifier value `parts` resolves to; a new
+/// identifier is appended. No `Vec` is made for one number after a name, which most values are.
 pub(crate) fn by_parts(
     alloc: Global,
     list: &mut Vec<Resolution>,

@@ -19,7 +19,7 @@ use indexmap::IndexMap;
 use smi_text::{Import, Module};
 use std::alloc::{AllocError, Global};
 
-/// Enters a name, unless it is there.
+/// Enters a name with its entry, unless the scope has the name.
 fn enter<'a>(
     entries: &mut Vec<Entry<'a>>,
     scope: &mut NamePlaces<'a>,
@@ -41,7 +41,7 @@ fn enter<'a>(
     Ok(())
 }
 
-/// Enters the names that definitions define.
+/// Enters the labels of the definitions of a module.
 fn enter_definitions<'a>(
     entries: &mut Vec<Entry<'a>>,
     scope: &mut NamePlaces<'a>,
@@ -111,7 +111,7 @@ fn enter_imports<'a>(
     Ok(())
 }
 
-/// The label of the root with a number from 0 to 2 (RFC 2578, section 3.5).
+/// Returns the label of the root with a number from 0 to 2 (RFC 2578, section 3.5).
 pub fn root_label(number: u32) -> &'static [u8]
     ensures { result.now ≡ meaning.root_label number }
 {
@@ -122,7 +122,7 @@ pub fn root_label(number: u32) -> &'static [u8]
     }
 }
 
-/// The number of the root of a label (RFC 2578, section 3.5).
+/// Returns the number of the root with this label (RFC 2578, section 3.5).
 pub fn root_arc(label: &[u8]) -> Option<u32>
     ensures { result ≡ meaning.root_arc label.now }
 {
@@ -137,7 +137,7 @@ pub fn root_arc(label: &[u8]) -> Option<u32>
     }
 }
 
-/// The entry of a root.
+/// Returns the entry of a root.
 fn root_entry<'a>(module: &'a Module, place: usize, number: u32) -> Entry<'a>
     ensures entry { (result.«module».now ≡ «module».now)
         × (result.name.now ≡ meaning.root_label number)
@@ -170,7 +170,7 @@ fn enter_roots<'a>(
     Ok(())
 }
 
-/// The FROM clauses of a module, none if it has no IMPORTS.
+/// Returns the FROM clauses of a module, none if it has no IMPORTS.
 pub fn import_clauses(module: &Module) -> &[Import]
     ensures { result.now ≡ lookup.import_clauses «module».now }
 {
@@ -180,7 +180,7 @@ pub fn import_clauses(module: &Module) -> &[Import]
     }
 }
 
-/// Enters the names that have a meaning in a module, and returns their places.
+/// Enters the names that have a meaning in a module, and returns the indices of their entries.
 pub(crate) fn scope<'a>(
     alloc: Global,
     hash: NameHash,

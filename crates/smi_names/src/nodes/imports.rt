@@ -1,4 +1,4 @@
-//! The warnings that the imports of a module give.
+//! The warnings about the imports of a module.
 ghost use Rattle.std.specs.{Prelude.◌≡◌, Prelude.◌++◌, Prelude.OnOk, List.flat_map};
 ghost use Rattle.smi_names.specs.{meaning.Meaning.module_named, meaning.Scopes.decision_of};
 ghost use Rattle.smi_names.specs.nodes.Imports as imports;
@@ -8,14 +8,14 @@ use crate::nodes::warning::Warning;
 use smi_text::{Import, Module, Text, TokenText, is_macro};
 use std::alloc::{AllocError, Global};
 
-/// Whether a module's own text decides what a name means in it, and not the list of roots.
+/// Returns whether a definition or an import decides, and not the list of roots.
 fn is_stated(decider: Decider<'_>) -> bool
     ensures { result ≡ imports.is_stated (decision_of decider.entry) }
 {
     !matches!(decider, Decider::Root(_))
 }
 
-/// Whether the module named `home` is loaded, and defines or imports `name`.
+/// Returns whether the module named `home` is loaded, and defines or imports `name`.
 fn has_name<'a>(names: &Names<'a>, home: &'a [u8], name: &'a [u8]) -> bool
     ensures { let source = module_named names.now.modules home.now in
         result ≡ imports.defines_or_imports source name.now }
@@ -26,7 +26,7 @@ fn has_name<'a>(names: &Names<'a>, home: &'a [u8], name: &'a [u8]) -> bool
     }
 }
 
-/// Adds the warning that a symbol of a FROM clause gives.
+/// Adds the warning about a symbol of a FROM clause, if there is one.
 fn add_symbol_warnings<'a>(
     alloc: Global,
     warnings: &mut Vec<Warning>,
@@ -54,7 +54,7 @@ fn add_symbol_warnings<'a>(
     Ok(())
 }
 
-/// Adds the warnings that the symbols of a FROM clause give, one after the other.
+/// Adds the warnings about the symbols of a FROM clause, one after the other.
 fn add_symbols_warnings<'a>(
     alloc: Global,
     warnings: &mut Vec<Warning>,
@@ -75,7 +75,7 @@ fn add_symbols_warnings<'a>(
     Ok(())
 }
 
-/// Adds the warnings that a FROM clause gives.
+/// Adds the warnings about a FROM clause.
 fn add_clause_warnings<'a>(
     alloc: Global,
     warnings: &mut Vec<Warning>,
@@ -95,7 +95,7 @@ fn add_clause_warnings<'a>(
     Ok(())
 }
 
-/// Adds the warnings that the imports of a module give, in order of the text.
+/// Adds the warnings about the imports of a module, in the order of its text.
 pub(crate) fn add_import_warnings<'a>(
     alloc: Global,
     warnings: &mut Vec<Warning>,
