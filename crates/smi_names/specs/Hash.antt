@@ -1,4 +1,4 @@
--- How names are hashed: by SipHash-1-3.
+-- Names are hashed by SipHash-1-3.
 use Rattle.std.specs.Hash.DefaultHasher as sip
 use Rattle.std.specs.{RandomState.initial_hasher, declared.hash.DefaultHasher.DefaultHasher}
 use Rattle.smi_names.specs.declared.hash.NameHash.{NameHash}

@@ -1,32 +1,32 @@
--- Chains: each thing has its numbers by itself, or after those of another thing, or leads nowhere.
--- In a module text the things are names, and the chains are those of parents and of imports (RFC
--- 2578, sections 3.2 and 7.10).
+-- Chains: each thing has its own numbers, or has them after those of another thing, or has none. In
+-- a module text the things are names, and the chains are those of parents and of imports (RFC 2578,
+-- sections 3.2 and 7.10).
 use Rattle.std.specs.Prelude.{◌≡◌, ℕ, List, ◌++◌, Option, Some, None}
 
--- where a thing's numbers come from: itself alone, itself after those of another thing, or nowhere
+-- the origin of a thing's numbers: only the thing, another thing and then itself, or nowhere
 pub data Origin (A : Type 0) : Type 0 where
   numbers : List ℕ → Origin A
   after : A → List ℕ → Origin A
   nowhere : Origin A
 
--- the thing that an origin leads to
+-- the thing that an origin refers to
 abbrev pub next_of : {A : Type 0} → Origin A → Option A
 next_of (numbers ns) = None
 next_of (after b ns) = Some b
 next_of nowhere = None
 
--- the chain from a has an end: a leads to nothing, or to a thing whose chain has an end
+-- the chain of `a` has an end: `a` refers to nothing, or to a thing whose chain has an end
 pub data HasEnd {A : Type 0} (next : A → Option A) : A → Type 0 where
   ends : {a : A} → next a ≡ None → HasEnd next a
   leads_on : {a b : A} → next a ≡ Some b → HasEnd next b → HasEnd next a
 
--- a has the identifier o: the least relation of which these two hold
+-- thing `a` has identifier `o`: the least relation with these two rules
 pub data HasIdentifier {A : Type 0} (origin : A → Origin A) : A → List ℕ → Type 0 where
   by_itself : {a : A} {ns : List ℕ} → origin a ≡ numbers ns → HasIdentifier origin a ns
   after_another : {a b : A} {ns o : List ℕ}
       → origin a ≡ after b ns → HasIdentifier origin b o → HasIdentifier origin a (o ++ ns)
 
--- the chain from a ends at a thing that leads nowhere
+-- the chain of `a` ends at a thing without numbers
 pub data EndsNowhere {A : Type 0} (origin : A → Origin A) : A → Type 0 where
   here : {a : A} → origin a ≡ nowhere → EndsNowhere origin a
   further : {a b : A} {ns : List ℕ}

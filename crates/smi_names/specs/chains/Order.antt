@@ -1,16 +1,16 @@
--- Places in an order in which each comes after the one that it leads to.
+-- Indices in an order in which each comes after the one that it refers to.
 use Rattle.std.specs.Prelude.{◌≡◌, ℕ, ◌<◌, List, length, take, slice_index, slice_index_or}
 use Rattle.std.specs.Prelude.{Contains, Option, Some, None}
 
--- the place that a place leads to; beyond the last place there is none
+-- the index that an index refers to; past the end of `next` there is none
 abbrev pub next_at : List (Option ℕ) → ℕ → Option ℕ
 next_at next p = slice_index_or next p None
 
--- what a list has at a place
+-- what a list has at an index
 abbrev pub at_place : {X : Type 0} → List (Option X) → ℕ → Option X
 at_place xs p = slice_index_or xs p None
 
--- each place of the order comes after the one that it leads to, if that is a place
+-- each index of the order comes after the one that it refers to, if that is an index
 abbrev pub ComeAfterNext : List (Option ℕ) → List ℕ → Type 0
 ComeAfterNext next order =
     (i q : ℕ) → i < length order → next_at next (slice_index order i) ≡ Some q → q < length next

@@ -1,4 +1,4 @@
--- What names resolve to, and lists in which each resolution is kept once.
+-- What names resolve to, and lists that store each resolution once.
 use Rattle.std.specs.Prelude.{◌≡◌, ℕ, ◌+◌, ◌<◌, ◌≤◌, nat_le, List, [], ◌∷◌, ◌++◌, length, map, All}
 use Rattle.std.specs.Prelude.{slice_index_or, if◌then◌else◌, Option, Some, None}
 use Rattle.smi_names.specs.chains.Chain.{Origin, numbers, after, nowhere, next_of, HasEnd}
@@ -6,29 +6,29 @@ use Rattle.smi_names.specs.chains.Chain.{HasIdentifier, EndsNowhere}
 use Rattle.smi_names.specs.declared.chains.shared.Resolution.{Resolution}
 use Rattle.smi_names.specs.declared.chains.shared.Resolution.TheVariants as R
 
--- a resolves to this: to its identifier, of at most 128 numbers (RFC 2578, section 3.5), or to
--- none, for one of three reasons
+-- `a` resolves to this: its identifier, of at most 128 numbers (RFC 2578, section 3.5), or one of
+-- three reasons for none
 abbrev pub ComesTo : {A : Type 0} → (A → Origin A) → A → Resolution → Type 0
 ComesTo origin a (R.Numbers o) = HasIdentifier origin a o × (length o ≤ 128)
 ComesTo origin a R.Cycle = HasEnd (λ b. next_of (origin b)) a → ⊥
 ComesTo origin a R.Unresolved = EndsNowhere origin a
 ComesTo origin a R.TooLong = (o : List ℕ) × HasIdentifier origin a o × (128 < length o)
 
--- the resolution at a place of a list; unresolved beyond its end
+-- the resolution at an index of a list, `Unresolved` past its end
 abbrev pub resolution_at : List Resolution → ℕ → Resolution
 resolution_at rs p = slice_index_or rs p R.Unresolved
 
--- what each place resolves to
+-- the resolutions in `list` at these indices
 abbrev pub shared : List Resolution → List ℕ → List Resolution
 shared list places = map (λ k. resolution_at list k) places
 
--- each place has a resolution in the list
+-- each index has a resolution in the list
 abbrev pub AreWithin : List Resolution → List ℕ → Type 0
 AreWithin list places = All (λ k. k < length list) places
 
 -- ---- for private functions
 
--- the numbers after an identifier, if there are at most 128 together
+-- an identifier with numbers after it, `TooLong` if there are more than 128 together
 abbrev pub lengthened : List ℕ → List ℕ → Resolution
 lengthened o ns = if nat_le (length o + length ns) 128 then R.Numbers (o ++ ns) else R.TooLong
 
@@ -36,23 +36,23 @@ abbrev pub followed_by : Resolution → List ℕ → Resolution
 followed_by (R.Numbers o) ns = lengthened o ns
 followed_by r ns = r
 
--- what the name at the place led to resolves to; unresolved where none is led to
+-- what the name referred to resolves to, `Unresolved` if there is none
 abbrev pub far_at : List Resolution → Option ℕ → Resolution
 far_at rs None = R.Unresolved
 far_at rs (Some q) = resolution_at rs q
 
--- by where a name's numbers come from, and by what the name that it leads to resolves to
+-- what a name resolves to, by the origin of its numbers and what the name referred to resolves to
 abbrev pub resolution_by : {A : Type 0} → Origin A → Resolution → Resolution
 resolution_by (numbers ns) far = lengthened [] ns
 resolution_by (after b ns) far = followed_by far ns
 resolution_by nowhere far = R.Unresolved
 
--- the list begins with the reasons for having no identifier
+-- the list begins with the three reasons for having no identifier
 abbrev pub HasReasons : List Resolution → Type 0
 HasReasons list =
     (more : List Resolution) × (list ≡ (R.Unresolved ∷ R.Cycle ∷ R.TooLong ∷ []) ++ more)
 
--- the list has grown, and has this resolution at this place
+-- the list `new` is `old` with more after it, and has the resolution `r` at the index `at`
 pub record GrowsTo (old new : List Resolution) (at : ℕ) (r : Resolution) : Type 0 where
   pub added : List Resolution
   pub grown : new ≡ old ++ added

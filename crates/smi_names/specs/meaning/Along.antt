@@ -1,5 +1,5 @@
--- What names mean along chains: an import leads to the same name in the module after FROM, and a
--- definition may lead to a name of its module (RFC 2578, sections 3.1 and 3.2).
+-- What names mean along chains: an import refers to the same name in the module after FROM, and a
+-- definition can refer to a name of its own module (RFC 2578, sections 3.1 and 3.2).
 use Rattle.std.specs.Prelude.{◌≡◌, ◌⊎◌, ℕ, List, length, MatchOption, Option, Some, None}
 use Rattle.std.specs.Prelude.{option_map}
 use Rattle.std.specs.{List.slice_get, Option.option_and_then}
@@ -10,7 +10,7 @@ use Rattle.smi_names.specs.meaning.Meaning.{QualifiedName, Decision, defined, im
 use Rattle.smi_names.specs.meaning.Meaning.{decision, module_named}
 use Rattle.smi_names.specs.meaning.Scopes.{KnownNames, content_named}
 
--- the name to which a name leads, by what decides it; `leads` says it of definitions
+-- the name that a name refers to, by what decides it; `leads` says it of definitions
 abbrev pub next_by : (Def → Option (List ℕ)) → QualifiedName → Option Decision
     → Option QualifiedName
 next_by leads a None = None
@@ -25,7 +25,7 @@ decided ms a = option_and_then (λ m. decision m a.name) (module_named ms a.home
 abbrev pub next_name : List Module → (Def → Option (List ℕ)) → QualifiedName → Option QualifiedName
 next_name ms leads a = next_by leads a (decided ms a)
 
--- this definition decides the name, and stands at place k of the module at place i
+-- definition `d` decides the name `a`, and has the index `k` in the module at index `i`
 pub record IsOwn (ms : List Module) (a : QualifiedName) (i k : ℕ) (d : Def) : Type 0 where
   pub home : Module
   pub named : module_named ms a.home ≡ Some home
@@ -33,8 +33,8 @@ pub record IsOwn (ms : List Module) (a : QualifiedName) (i k : ℕ) (d : Def) : 
   pub at_module : slice_get ms i ≡ Some home
   pub there : slice_get home.defs k ≡ Some d
 
--- what a name means, where `means` says it of definitions, by what the name means to which they
--- lead: the least relation of which these five hold
+-- a name means this: the least relation with these five rules. `means` says it of definitions, by
+-- what the name means that they refer to.
 pub data Comes {X : Type 0} (ms : List Module) (leads : Def → Option (List ℕ))
     (means : ℕ × ℕ → Def → Option X → Option X) : QualifiedName → Option X → Type 0 where
   -- a name that nothing decides, or of a module that isn't loaded, means nothing
@@ -47,29 +47,29 @@ pub data Comes {X : Type 0} (ms : List Module) (leads : Def → Option (List ℕ
       → module_named ms a.home ≡ Some m → decision m a.name ≡ Some (imported i)
       → Comes ms leads means (record { home = i.source.octets; name = a.name }) x
       → Comes ms leads means a x
-  -- a definition that leads to no name
+  -- a definition that refers to no name
   at_end : {a : QualifiedName} {i k : ℕ} {d : Def} {x : Option X} → IsOwn ms a i k d
       → leads d ≡ None → x ≡ means (i, k) d None → Comes ms leads means a x
-  -- a definition that leads to a name of its own module, which may be imported there
+  -- a definition that refers to a name of its own module, which may be imported there
   after : {a : QualifiedName} {i k : ℕ} {d : Def} {y : List ℕ} {far x : Option X}
       → IsOwn ms a i k d → leads d ≡ Some y
       → Comes ms leads means (record { home = a.home; name = y }) far
       → x ≡ means (i, k) d far → Comes ms leads means a x
 
--- what a name means; nothing where its chain has no end, as in a ring
+-- a name means this; nothing if its chain has no end, as in a ring
 abbrev pub IsMeant : {X : Type 0} → List Module → (Def → Option (List ℕ))
     → (ℕ × ℕ → Def → Option X → Option X) → QualifiedName → Option X → Type 0
 IsMeant ms leads means a x =
     Comes ms leads means a x ⊎ ((HasEnd (next_name ms leads) a → ⊥) × (x ≡ None))
 
--- a list has at the place of each name what the name means
+-- `found` has at the index of each name what the name means
 abbrev pub AreMeant : {X : Type 0} → KnownNames → (Def → Option (List ℕ))
     → (ℕ × ℕ → Def → Option X → Option X) → List (Option X) → Type 0
 AreMeant k leads means found =
     (p : ℕ) (a : QualifiedName) → slice_get k.names p ≡ content_named k.modules a
     → IsMeant k.modules leads means a (at_place found p)
 
--- the place of a definition as a meaning: it leads no further
+-- with the index of a definition as its meaning, it refers to no name
 abbrev pub leads_nowhere : Def → Option (List ℕ)
 leads_nowhere d = None
 
@@ -78,7 +78,7 @@ stands_at at d far = Some at
 
 -- ---- for private functions
 
--- the names at a place lead to that at another
+-- each name at index `p` (past the end: each without a meaning) refers to one at `to`, or to none
 abbrev pub IsNext : KnownNames → (Def → Option (List ℕ)) → ℕ → Option ℕ → Type 0
 IsNext k leads p to =
     (a : QualifiedName) → slice_get k.names p ≡ content_named k.modules a
@@ -86,13 +86,13 @@ IsNext k leads p to =
     (λ q. (b : QualifiedName) × (next_name k.modules leads a ≡ Some b)
     × (slice_get k.names q ≡ content_named k.modules b))
 
--- a list has where the name at each place leads
+-- `next` has for each name the index that it refers to
 pub record AreNext (k : KnownNames) (leads : Def → Option (List ℕ))
     (next : List (Option ℕ)) : Type 0 where
   pub long : length next ≡ length k.names
   pub each : (p : ℕ) → IsNext k leads p (next_at next p)
 
--- the names at a place mean this
+-- each name at index `p` means `x`
 abbrev pub MeansAt : {X : Type 0} → KnownNames → (Def → Option (List ℕ))
     → (ℕ × ℕ → Def → Option X → Option X) → ℕ → Option X → Type 0
 MeansAt k leads means p x =

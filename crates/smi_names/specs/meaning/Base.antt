@@ -4,7 +4,7 @@ use Rattle.smi_text.specs.trees.Mark.{same_text}
 use Rattle.smi_names.specs.declared.meaning.base.TypeBase.{TypeBase}
 use Rattle.smi_names.specs.declared.meaning.base.TypeBase.TheVariants as T
 
--- the types that are base types by their name, whatever a module defines (RFC 2578, section 7.1)
+-- the base type of this name, whatever a module defines (RFC 2578, section 7.1)
 unfoldable pub base_named : List ℕ → Option TypeBase
 base_named x =
     if same_text x (codes "Integer32") then Some T.Integer else

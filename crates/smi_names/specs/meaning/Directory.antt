@@ -1,4 +1,4 @@
--- The places of names, and the place to which each name leads.
+-- The indices of names, and the index that each name refers to.
 use Rattle.std.specs.Prelude.{◌≡◌, ℕ, ◌==◌, ◌&&◌, Bool, false, List, length, ⊤, Option, Some, None}
 use Rattle.std.specs.Prelude.{option_map, unwrap_or, All}
 use Rattle.indexmap.specs.IndexMap.{hasher_of}
@@ -12,8 +12,8 @@ use Rattle.smi_names.specs.declared.meaning.entry.Entry.{Entry}
 use Rattle.smi_names.specs.declared.meaning.directory.Directory.{Directory}
 use Rattle.smi_names.specs.declared.meaning.directory.Found.{Found}
 
--- the place of a name in the module at `at`; a name without a meaning, and one where no module is,
--- has the place past the last
+-- the index of a name in the module at `at`; the number of entries if there is no such module, or
+-- the name has no meaning
 abbrev pub place_at : Directory → Option ℕ → List ℕ → ℕ
 place_at d at x =
     unwrap_or (option_and_then (λ i. option_and_then (λ scope. place_in scope x)
@@ -22,7 +22,7 @@ place_at d at x =
 abbrev pub place_by : Directory → QualifiedName → ℕ
 place_by d p = place_at d (place_in d.homes p.home) p.name
 
--- the place to which the name of an entry leads, if it leads to one
+-- the index of the name that the name of an entry refers to, if it refers to one
 abbrev pub next_place : Directory → (Def → Option (List ℕ)) → Entry → Option ℕ
 next_place d leads e = option_map (place_by d)
     (next_by leads (qualified (content_of e)) (Some (content_of e).decided))
@@ -33,20 +33,20 @@ HaveOneKey d = All (λ scope. hasher_of scope ≡ hasher_of d.homes) d.scopes.it
 
 -- ---- for private functions
 
--- where parents are kept, an import has the place of the same name in the module after FROM
+-- if parents are stored, that of an import is the index of the same name in the module after FROM
 abbrev pub KeepsImports : Directory → Type 0
 KeepsImports d =
     (p : ℕ) (e : Entry) (i : Import) (to : Option ℕ) → slice_get d.entries.items p ≡ Some e
     → decision_of e.decider ≡ imported i → slice_get d.parents.items p ≡ Some to
     → to ≡ Some (place_by d (record { home = i.source.octets; name = e.name.now }))
 
--- the name that was looked up last, if any, is kept with the places of its module and of itself
+-- the name that was looked up last, if any, is stored with the indices of its module and its entry
 abbrev pub IsFound : Directory → Option Found → Type 0
 IsFound d None = ⊤
 IsFound d (Some f) = (f.at ≡ place_in d.homes f.home.now)
     × (f.place ≡ place_by d (record { home = f.home.now; name = f.name.now }))
 
--- the entry is that of a name of the module at a place
+-- the entry is that of the name `x` in the module at index `i`
 abbrev pub is_entry_of : Option Entry → ℕ → List ℕ → Bool
 is_entry_of None i x = false
 is_entry_of (Some e) i x = (e.source.0 == i) && same_text e.name.now x

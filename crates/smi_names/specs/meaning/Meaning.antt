@@ -15,7 +15,7 @@ pub record QualifiedName : Type 0 where
   pub home : List ℕ
   pub name : List ℕ
 
--- the names at the top, which have no definition, by their numbers 0 to 2 (RFC 2578, section 3.5)
+-- the names of the roots, which have no definition, by their numbers 0 to 2 (RFC 2578, section 3.5)
 abbrev pub root_label : ℕ → List ℕ
 root_label n = if n == 0 then codes "ccitt" else
     (if n == 1 then codes "iso" else codes "joint-iso-ccitt")
@@ -33,7 +33,7 @@ pub data Decision : Type 0 where
   imported : Import → Decision
   root : ℕ → Decision
 
--- the first of the two that there is
+-- the first of the two that isn't `None`
 abbrev pub or_else : {A : Type 0} → Option A → Option A → Option A
 or_else None d = d
 or_else (Some x) d = Some x
@@ -48,7 +48,7 @@ abbrev pub both : Option ℕ → Option (List ℕ) → Option (List ℕ)
 both (Some n) (Some ns) = Some (n ∷ ns)
 both _ _ = None
 
--- the numbers of parts; a name alone has none
+-- the numbers of parts; a name without a number has none
 abbrev pub arcs : List Part → Option (List ℕ)
 arcs [] = Some []
 arcs (p ∷ ps) = both (part_number p) (arcs ps)
@@ -61,8 +61,8 @@ abbrev pub after_name : QualifiedName → Option (List ℕ) → Origin Qualified
 after_name a None = nowhere
 after_name a (Some ns) = after a ns
 
--- an identifier value: a name in the first place has its meaning, a number or a name with a number
--- stands for the number, and a name alone in a later place has none
+-- the origin of an identifier value: a name as the first part has its meaning, a number or a name
+-- with a number stands for the number, and a name without one as a later part has none
 abbrev pub origin_of_parts : List ℕ → List Part → Origin QualifiedName
 origin_of_parts home [] = nowhere
 origin_of_parts home (P.Name x ∷ rest) = after_name (record { home = home; name = x.octets })
@@ -74,7 +74,8 @@ abbrev pub origin_of_value : List ℕ → Option (List Part) → Origin Qualifie
 origin_of_value home None = nowhere
 origin_of_value home (Some parts) = origin_of_parts home parts
 
--- a definition gives its value; an imported name means what it means in the module after FROM
+-- a definition has the origin of its value; an import means what its name means in the module after
+-- FROM
 abbrev pub origin_by : QualifiedName → Option Decision → Origin QualifiedName
 origin_by a None = nowhere
 origin_by a (Some (defined d)) = origin_of_value a.home (identifier_value_of d.kind)
@@ -86,15 +87,15 @@ origin_by a (Some (root n)) = numbers (n ∷ [])
 abbrev pub module_named : List Module → List ℕ → Option Module
 module_named ms x = find (λ m. same_text m.name.octets x) ms
 
--- one step: in a module that isn't loaded no name has a meaning
+-- the origin of a name in its module; if that isn't loaded, no name has a meaning
 abbrev pub origin_in : QualifiedName → Option Module → Origin QualifiedName
 origin_in a None = nowhere
 origin_in a (Some m) = origin_by a (decision m a.name)
 
--- where a name of a module comes from
+-- the origin of a name's numbers
 abbrev pub origin : List Module → QualifiedName → Origin QualifiedName
 origin ms a = origin_in a (module_named ms a.home)
 
--- the name has the identifier
+-- the name `a` has the identifier `o`
 abbrev pub Means : List Module → QualifiedName → List ℕ → Type 0
 Means ms a o = chain.HasIdentifier (origin ms) a o

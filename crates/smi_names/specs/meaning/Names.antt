@@ -1,4 +1,4 @@
--- The places of names of modules among the entries.
+-- The entries of the names of modules.
 use Rattle.std.specs.Prelude.{◌≡◌, ℕ, List, length, Option, Some, All}
 use Rattle.std.specs.{List.slice_get, List.position_from}
 use Rattle.smi_text.specs.{trees.Mark.same_text, declared.trees.tree.Module.Module}
@@ -12,11 +12,11 @@ pub record KeyedNames : Type 0 where
   pub modules : List Module
   pub key : NameHash
 
--- the place of the first module of a name
+-- the index of the first module of a name
 abbrev pub module_place : List Module → List ℕ → Option ℕ
 module_place ms x = position_from (λ m. same_text m.name.octets x) 0 ms
 
--- the definition that decides the meaning of an entry's name stands where the entry states
+-- the module of the entry, and the definition if one decides, are at the indices in its source
 abbrev pub IsSourced : List Module → Entry → Type 0
 IsSourced ms e = (slice_get ms e.source.0 ≡ Some e.«module».now) × IsDefinedAt e
 

@@ -1,4 +1,4 @@
--- What names resolve to, by their places.
+-- What names resolve to, by their indices.
 use Rattle.std.specs.Prelude.{◌≡◌, ℕ, List, [], length, Option, Some, None, option_map}
 use Rattle.std.specs.List.{slice_get}
 use Rattle.smi_text.specs.{declared.trees.tree.Def.Def, trees.Lookup.identifier_value_of}
@@ -8,12 +8,12 @@ use Rattle.smi_names.specs.declared.chains.shared.Resolution.{Resolution}
 use Rattle.smi_names.specs.meaning.Meaning.{QualifiedName, origin, origin_by, origin_of_value}
 use Rattle.smi_names.specs.meaning.Scopes.{Content, qualified, KnownNames, content_named}
 
--- The name of its own module to which a definition's identifier value leads, if each part after it
--- has a number. The home doesn't matter here: only the name is taken.
+-- The name of its own module that a definition's identifier value begins with, if each part after
+-- it has a number. The home doesn't matter here: only the name is taken.
 abbrev pub parent_of : Def → Option (List ℕ)
 parent_of d = option_map (λ a. a.name) (next_of (origin_of_value [] (identifier_value_of d.kind)))
 
--- a list has at the place of each name what the name resolves to
+-- `rs` has at the index of each name what the name resolves to
 pub record AreResolved (k : KnownNames) (rs : List Resolution) : Type 0 where
   pub long : length rs ≡ length k.names
   pub each : (p : ℕ) (a : QualifiedName) → slice_get k.names p ≡ content_named k.modules a
@@ -21,7 +21,7 @@ pub record AreResolved (k : KnownNames) (rs : List Resolution) : Type 0 where
 
 -- ---- for private functions
 
--- where a name's numbers come from, by what its place has
+-- the origin of a name's numbers, by its entry
 abbrev pub origin_here : Option Content → Origin QualifiedName
 origin_here None = nowhere
 origin_here (Some c) = origin_by (qualified c) (Some c.decided)

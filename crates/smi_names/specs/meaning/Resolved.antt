@@ -1,4 +1,4 @@
--- What a directory of names states.
+-- What a directory of names contains.
 use Rattle.std.specs.Prelude.{◌≡◌, ℕ, List, map}
 use Rattle.smi_text.specs.declared.trees.tree.Module.{Module}
 use Rattle.smi_names.specs.meaning.Scopes.{place_in, content_of}
@@ -7,8 +7,8 @@ use Rattle.smi_names.specs.{meaning.Scopes.KnownNames, meaning.Parents.parent_of
 use Rattle.smi_names.specs.meaning.Directory.{next_place}
 use Rattle.smi_names.specs.declared.meaning.directory.Directory.{Directory}
 
--- the directory has the place of each module, an entry for each name that has a meaning, and the
--- place to which each leads towards its identifier
+-- the directory has the index of each module, an entry for each name that has a meaning, and the
+-- index that each entry refers to for its identifier
 pub record IsDirectory (ms : List Module) (d : Directory) : Type 0 where
   pub placed : (x : List ℕ) → place_in d.homes x ≡ module_place ms x
   pub named : AreEach ms d.scopes.items d.entries.items

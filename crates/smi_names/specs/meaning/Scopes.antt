@@ -1,4 +1,4 @@
--- The names of modules with their places among the entries.
+-- The names of modules with the indices of their entries.
 use Rattle.std.specs.Prelude.{◌≡◌, ℕ, ◌<◌, List, ◌++◌, length, Option, Some, option_map, All}
 use Rattle.std.specs.{List.slice_get, Option.option_and_then, Str.bytes_eq}
 use Rattle.indexmap.specs.IndexMap.{IndexMap, get, hasher_of}
@@ -9,11 +9,11 @@ use Rattle.smi_names.specs.meaning.Meaning.{or_else, decision, module_named}
 use Rattle.smi_names.specs.declared.meaning.entry.Decider.{Decider}
 use Rattle.smi_names.specs.declared.meaning.entry.Decider.TheVariants as D
 
--- names with their places
+-- names with their indices
 abbrev pub NamePlaces : Type 0
 NamePlaces = IndexMap (List ℕ) ℕ NameHash
 
--- the place of a name in a map
+-- the index of a name in a map
 abbrev pub place_in : NamePlaces → List ℕ → Option ℕ
 place_in scope x = get bytes_eq scope x
 
@@ -23,21 +23,21 @@ decision_of (D.Definition d) = defined d.now
 decision_of (D.Import i) = imported i.now
 decision_of (D.Root n) = root n
 
--- what an entry says: this decides what this name means in this module
+-- the value of an entry: in the module `home`, `decided` decides the meaning of the name
 pub record Content : Type 0 where
   pub home : Module
   pub name : List ℕ
   pub decided : Decision
 
--- what an entry of the code says
+-- the value of an entry of the code
 abbrev pub content_of : Entry → Content
 content_of e = record { home = e.«module».now; name = e.name.now; decided = decision_of e.decider }
 
--- the name of which content speaks
+-- the name of an entry, with its module
 abbrev pub qualified : Content → QualifiedName
 qualified c = record { home = c.home.name.octets; name = c.name }
 
--- what a scope knows of a name
+-- the entry that a scope has for a name
 abbrev pub known : List Entry → NamePlaces → List ℕ → Option Content
 known entries scope x =
     option_and_then (λ p. option_map content_of (slice_get entries p)) (place_in scope x)
@@ -48,32 +48,33 @@ decided_as m x d = option_map (λ v. record { home = m; name = x; decided = v })
 abbrev pub IsWithin : List Entry → NamePlaces → Type 0
 IsWithin entries scope = (x : List ℕ) (p : ℕ) → place_in scope x ≡ Some p → p < length entries
 
--- a definition that decides stands in the module at the place that the entry states
+-- if a definition decides, then it is in the module at the entry's index
 abbrev pub IsDefinedAt : Entry → Type 0
 IsDefinedAt e = (d : Def) → decision_of e.decider ≡ defined d
     → slice_get e.«module».now.defs e.source.1 ≡ Some d
 
--- what an entry says is what decides its name in its module
+-- the entry has what decides its name in its module
 abbrev pub IsDecided : Entry → Type 0
 IsDecided e = decision e.«module».now e.name.now ≡ Some (decision_of e.decider)
 
--- names by their places, with the modules that they are of
+-- names by their indices, with their modules
 pub record KnownNames : Type 0 where
   pub modules : List Module
   pub names : List Content
 
--- what decides what a name means, if it has a meaning
+-- the entry of a name, if it has a meaning
 abbrev pub content_named : List Module → QualifiedName → Option Content
 content_named ms a =
     option_and_then (λ m. decided_as m a.name (decision m a.name)) (module_named ms a.home)
 
 -- ---- for private functions
 
--- an entry is one of the module at a place
+-- the entry is one of module `m`, which has the index `i`
 abbrev pub IsEntryOf : Module → ℕ → Entry → Type 0
 IsEntryOf m i e = (e.«module».now ≡ m) × (e.source.0 ≡ i) × IsDefinedAt e
 
--- the scope knows more: where it knew nothing, it has what `more` decides; it is hashed as before
+-- the scope has more names: if it had no entry for a name, it has what `more` decides; it is hashed
+-- as before
 pub record KnowsMore (old : List Entry) (before : NamePlaces) (new : List Entry)
     (scope : NamePlaces) (m : Module) (i : ℕ) (more : List ℕ
     → Option Decision) : Type 0 where

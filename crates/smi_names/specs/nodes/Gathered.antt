@@ -1,4 +1,4 @@
--- What is gathered, as nodes.
+-- The value of what the code gathers, as nodes.
 use Rattle.std.specs.Prelude.{◌≡◌, ℕ, List, [], ◌∷◌, ◌++◌, length, Option, Some, None}
 use Rattle.std.specs.List.{slice_get}
 use Rattle.smi_names.specs.declared.chains.shared.Resolution.{Resolution}
@@ -31,7 +31,7 @@ nodes_of ms [] os = []
 nodes_of ms (s ∷ ss) [] = []
 nodes_of ms (s ∷ ss) (o ∷ os) = node_from ms s o ∷ nodes_of ms ss os
 
--- what is gathered is what modules bring, after the roots
+-- `g` holds the nodes of the roots and then those of the modules `before`, and their warnings
 pub record AreGathered (ms : List Module) (g : Gathered) (before : List Module) : Type 0 where
   pub ns : List Node
   pub long : length g.sources.items ≡ length g.oids.items
@@ -48,18 +48,18 @@ abbrev pub oids_by : Resolution → List (List ℕ)
 oids_by (R.Numbers o) = o ∷ []
 oids_by _ = []
 
--- what is gathered grows by what a definition gives if its name resolves to r
+-- the node or the warning of definition `d`, whose name resolves to `r`, is appended
 pub record GrowsByDefinition (old new : Gathered) (s : Source) (m : Module) (d : Def)
     (r : Resolution) : Type 0 where
   pub sources : new.sources.items ≡ old.sources.items ++ sources_by s r
   pub oids : new.oids.items ≡ old.oids.items ++ oids_by r
   pub warnings : new.warnings.items ≡ old.warnings.items ++ warnings_by m d r
 
--- the source is this definition of this module
+-- `s` is the source of definition `d` of module `m`
 abbrev pub IsSourceOf : List Module → Source → Module → Def → Type 0
 IsSourceOf ms s m d = (o : List ℕ) → node_from ms s o ≡ node_of m d o
 
--- these nodes and warnings are added
+-- the nodes `ns` and the warnings `ws` are appended
 pub record AddsNodes (ms : List Module) (old new : Gathered) (ns : List Node)
     (ws : List Warning) : Type 0 where
   pub long : length new.sources.items ≡ length new.oids.items
@@ -67,7 +67,7 @@ pub record AddsNodes (ms : List Module) (old new : Gathered) (ns : List Node)
       old.oids.items ++ ns
   pub warnings : new.warnings.items ≡ old.warnings.items ++ ws
 
--- nodes and warnings that are given are added
+-- nodes and warnings of which `are_given` holds are appended
 pub record Adds (ms : List Module) (old new : Gathered)
     (are_given : List Node → List Warning → Type 0) : Type 0 where
   pub ns : List Node

@@ -1,4 +1,4 @@
--- The warnings that the imports of a module give (RFC 2578, section 3.2).
+-- The warnings about the imports of a module (RFC 2578, section 3.2).
 use Rattle.std.specs.Prelude.{ℕ, Bool, true, false, ◌||◌, List, [], ◌∷◌, Option, Some, None}
 use Rattle.std.specs.Prelude.{is_some, if◌then◌else◌}
 use Rattle.std.specs.List.{flat_map}
@@ -15,14 +15,14 @@ abbrev pub defines_or_imports : Option Module → List ℕ → Bool
 defines_or_imports None x = false
 defines_or_imports (Some m) x = is_some (definition_of m x) || is_some (import_of m x)
 
--- the warning that a symbol gives: the module after FROM, which is loaded, neither defines nor
--- imports it; the names of macros and of base types need no definition
+-- the warning about a symbol: the module after FROM, `source`, neither defines nor imports it; the
+-- names of macros and of base types need no definition
 abbrev pub symbol_warnings : Option Module → List ℕ → List ℕ → TokenText → List Warning
 symbol_warnings source home from s =
     if is_macro s.text || is_some (base_named s.text) || defines_or_imports source s.text then []
     else W.MissingImport home s.text from ∷ []
 
--- the warnings that a FROM clause gives: one if its module isn't loaded, otherwise those of its
+-- the warnings about a FROM clause: one if its module isn't loaded, otherwise those about its
 -- symbols
 abbrev pub clause_warnings_by : Option Module → List ℕ → Import → List Warning
 clause_warnings_by None home i = W.MissingModule home i.source.octets ∷ []
@@ -32,13 +32,13 @@ clause_warnings_by (Some source) home i =
 abbrev pub clause_warnings : List Module → List ℕ → Import → List Warning
 clause_warnings ms home i = clause_warnings_by (module_named ms i.source.octets) home i
 
--- the warnings that the imports of a module give, in order of the text
+-- the warnings about the imports of a module, in the order of its text
 abbrev pub import_warnings : List Module → Module → List Warning
 import_warnings ms m = flat_map (clause_warnings ms m.name.octets) (import_clauses m)
 
 -- ---- for private functions
 
--- a definition or an import of the module decides, and not the list of roots
+-- a definition or an import decides, and not the list of roots
 abbrev pub is_stated : Decision → Bool
 is_stated (root n) = false
 is_stated _ = true

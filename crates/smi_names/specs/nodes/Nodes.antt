@@ -21,27 +21,27 @@ pub record Node : Type 0 where
 abbrev pub node_of_root : ℕ → Node
 node_of_root n = record { home = None; label = root_label n; oid = n ∷ []; definition = None }
 
--- the roots count as loaded before every module
+-- the nodes of the roots, which count as loaded before every module
 abbrev pub roots : List Node
 roots = node_of_root 0 ∷ node_of_root 1 ∷ node_of_root 2 ∷ []
 
 abbrev pub node_of : Module → Def → List ℕ → Node
 node_of m d o = record { home = Some m; label = d.label.octets; oid = o; definition = Some d }
 
--- the node that a definition gives, by what its name resolves to
+-- the node of a definition, by what its name resolves to
 abbrev pub nodes_by : Module → Def → Resolution → List Node
 nodes_by m d (R.Numbers o) = node_of m d o ∷ []
 nodes_by m d _ = []
 
--- the warning that a definition gives, by what its name resolves to
+-- the warning about a definition, by what its name resolves to
 abbrev pub warnings_by : Module → Def → Resolution → List Warning
 warnings_by m d (R.Numbers o) = []
 warnings_by m d R.Cycle = W.Cycle m.name.octets d.label.octets ∷ []
 warnings_by m d R.Unresolved = W.Unresolved m.name.octets d.label.octets ∷ []
 warnings_by m d R.TooLong = W.TooLong m.name.octets d.label.octets ∷ []
 
--- a definition gives these nodes and warnings: a type or a macro none, any other by what its name
--- resolves to
+-- a definition has the nodes `ns` and the warnings `ws`: a type or a macro none, any other by what
+-- its name resolves to
 abbrev pub GivesNodesBy : List Module → Module → Def → Option (List Part) → List Node → List Warning
     → Type 0
 GivesNodesBy ms m d None ns ws = (ns ≡ []) × (ws ≡ [])
@@ -53,7 +53,7 @@ GivesNodesBy ms m d (Some value) ns ws =
 abbrev pub GivesNodes : List Module → Module → Def → List Node → List Warning → Type 0
 GivesNodes ms m d ns ws = GivesNodesBy ms m d (identifier_value_of d.kind) ns ws
 
--- definitions of a module give nodes and warnings, one after the other
+-- definitions of a module have these nodes and warnings, one after the other
 pub data Gathers (ms : List Module) (m : Module) : List Def → List Node → List Warning
     → Type 0 where
   none : Gathers ms m [] [] []
@@ -61,19 +61,19 @@ pub data Gathers (ms : List Module) (m : Module) : List Def → List Node → Li
       → Gathers ms m ds ns ws → GivesNodes ms m d more_nodes more_warnings
       → Gathers ms m (ds ++ d ∷ []) (ns ++ more_nodes) (ws ++ more_warnings)
 
--- a module of this name is among these
+-- one of the modules has this name
 abbrev pub is_loaded : List Module → List ℕ → Bool
 is_loaded ms name = is_some (module_named ms name)
 
--- what a module brings after those before it: a warning alone if one of them has its name,
--- otherwise the warnings of its imports, and then what its definitions give
+-- module `m`, loaded after the modules `before`, has these nodes and warnings: only a warning if
+-- one of them has its name, otherwise the warnings about its imports and what its definitions have
 pub data Brings (ms before : List Module) (m : Module) : List Node → List Warning → Type 0 where
   left_out : is_loaded before m.name.octets ≡ true
       → Brings ms before m [] (W.DoubleModule m.name.octets ∷ [])
   loaded : (ns : List Node) (ws : List Warning) → is_loaded before m.name.octets ≡ false
       → Gathers ms m m.defs ns ws → Brings ms before m ns (import_warnings ms m ++ ws)
 
--- modules bring nodes and warnings, one after the other
+-- modules have these nodes and warnings, one after the other
 pub data Loads (ms : List Module) : List Module → List Node → List Warning → Type 0 where
   none_yet : Loads ms [] [] []
   then_module : (before : List Module) (m : Module) (ns more_nodes : List Node)

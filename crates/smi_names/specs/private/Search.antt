@@ -1,4 +1,4 @@
--- The state of the search for places whose chains end, for private clauses.
+-- The state of the search for indices whose chains end, for private clauses.
 use Rattle.std.specs.Prelude.{◌≡◌, ℕ, ◌<◌, List, [], ◌∷◌, length, slice_index_or, All, Contains}
 use Rattle.std.specs.Prelude.{Option, Some}
 use Rattle.smi_names.specs.{chains.Chain.HasEnd, declared.chains.order.Mark.Mark}
@@ -8,17 +8,17 @@ use Rattle.smi_names.specs.declared.chains.order.Mark.TheVariants as M
 abbrev pub mark_at : List Mark → ℕ → Mark
 mark_at marks p = slice_index_or marks p M.New
 
--- the path goes from one place to the next, and its last place leads to `to`
+-- `path` begins with `from`, each of its indices refers to the next one, and the last one to `to`
 abbrev pub Leads : List (Option ℕ) → List ℕ → Option ℕ → Option ℕ → Type 0
 Leads next [] from to = from ≡ to
 Leads next (p ∷ rest) from to = (from ≡ Some p) × Leads next rest (next_at next p) to
 
--- the chain from `to` has an end, and `to` is in the order if it is a place
+-- the chain from `to` has an end, and `to` is in the order if it is an index
 abbrev pub IsSettled : List (Option ℕ) → List ℕ → Option ℕ → Type 0
 IsSettled next order to =
     (q : ℕ) → to ≡ Some q → HasEnd (next_at next) q × (q < length next → Contains order q)
 
--- the path leads to a place that is settled, or to nothing
+-- the path ends at an index that is settled, or at nothing
 pub record LeadsToSettled (next : List (Option ℕ)) (order path : List ℕ) : Type 0 where
   pub from : Option ℕ
   pub to : Option ℕ
