@@ -1,4 +1,4 @@
--- The steps of the search: a place is met, a path is settled, and a path that leads back has no end.
+-- The steps of the search: an index is met, a path is settled, and a path that enters a ring has no end.
 use Rattle.std.proofs.{lemmas.Grind.common_steps, lemmas.Bool.cases_lt, lemmas.Bool.cases_eq}
 use Rattle.std.proofs.Common.{◌≡◌, ◌≢◌, ℕ, zero, suc, ◌+◌, ◌<◌, ◌⊎◌, inl, inr, Bool, true, false, cond, List, [], ◌∷◌, ◌++◌, length, set, take}
 use Rattle.std.proofs.Common.{Option, Some, None, Contains, refl, sym, ap, ◌∙◌, subst, arith}
@@ -24,7 +24,7 @@ news-set [] p h e = absurd (omega arith)
 news-set (m ∷ ms) zero h e = let e' : m ≡ M.New = e in rw e' (omega arith)
 news-set (m ∷ ms) (suc p) h e = let r = news-set ms p (omega arith) e in omega arith
 
--- what is marked stays so, and the place is
+-- an index that isn't new stays so, and `at` is one
 pub marked : (marks : List Mark) (at p : ℕ) (m : Mark) → is_new m ≡ false → at < length marks → mark_at marks p ≢ M.New
     → mark_at (set marks at m) p ≢ M.New
 marked marks at p m old inside other = grind (arith, common_steps, cases_eq, get_or-set_same, get_or-set_other)
@@ -46,13 +46,13 @@ module _ (next : List (Option ℕ)) where
   Leads-pop [] from to p l = l
   Leads-pop (x ∷ xs) from to p l = let r = Leads-pop xs (next_at next x) to p l.1 in ((l.0, r.0), r.1)
 
-  -- a path whose first place has an end leads to one that has
+  -- if the first index of a path has an end, then so does the one after the path
   led : (path : List ℕ) (from : Option ℕ) (at : ℕ) → Leads next path from (Some at)
       → ((p : ℕ) → from ≡ Some p → HasEnd (next_at next) p) → HasEnd (next_at next) at
   led [] from at l f = f at l
   led (x ∷ xs) from at l f = led xs (next_at next x) at l.1 (λ q e. below (f x l.0) e)
 
-  -- so does one any of whose places has an end
+  -- if any index of a path has an end, then so does the one after the path
   led_from : (path : List ℕ) (from : Option ℕ) (at p : ℕ) → Leads next path from (Some at) → Contains path p → HasEnd (next_at next) p → HasEnd
       (next_at next) at
   led_from [] from at p l m h = absurd (omega (arith, m.1))
@@ -62,7 +62,7 @@ module _ (next : List (Option ℕ)) where
   Contains-later : (x : ℕ) (xs : List ℕ) (p : ℕ) → Contains xs p → Contains (x ∷ xs) p
   Contains-later x xs p (i, k, e) = (suc i, omega arith, e)
 
-  -- each place of a path leads to a place of it, or to where the path leads
+  -- each index of a path refers to one of the path, or to the one after it
   onward : (path : List ℕ) (from : Option ℕ) (at p : ℕ) → Leads next path from (Some at) → Contains path p
       → (q : ℕ) × (next_at next p ≡ Some q) × (Contains path q ⊎ (q ≡ at))
   onward [] from at p l m = absurd (omega (arith, m.1))
@@ -72,7 +72,7 @@ module _ (next : List (Option ℕ)) where
       let r = onward xs (next_at next x) at p l.1 (i, omega arith, e) in
       (r.0, r.1, elim r.2 [ inl m ↦ inl (Contains-later x xs r.0 m) | inr s ↦ inr s ])
 
-  -- places that lead back among themselves have no end
+  -- indices that only refer to one another have no end
   no_end : (S : ℕ → Type 0) → ((p : ℕ) → S p → (q : ℕ) × (next_at next p ≡ Some q) × S q) → {p : ℕ} → HasEnd (next_at next) p → S p → ⊥
   no_end S closed {p} (ends e) s = let r = closed p s in let f = r.1 in cc
   no_end S closed {p} (leads_on {a} {b} e h) s = grind (arith, common_steps, no_end S closed h)
@@ -145,7 +145,7 @@ module _ (next : List (Option ℕ)) where
         ];
       }
 
-  -- a place that leads nowhere is settled by itself
+  -- an index that refers to nothing is settled by itself
   pub Keeps-alone : (marks : List Mark) (order : List ℕ) (p : ℕ) → Keeps next marks order [] → p < length next → next_at next p ≡ None
       → Keeps next (set marks p M.Settled) (order ++ p ∷ []) []
   Keeps-alone marks order p kept inside last =
@@ -169,7 +169,7 @@ module _ (next : List (Option ℕ)) where
         settled = λ q e. let same : q ≡ p = cc in rw same (has_end_from p l.to back.1 (λ r f. (l.settled r f).0), λ _. Contains-push order p);
       }
 
-  -- a climb that stopped at no place that is met, nor at a new one, has come to an end
+  -- a climb that stopped at an index neither met nor new has come to an end
   pub IsSettled-stopped : (marks : List Mark) (order path : List ℕ) (to : Option ℕ) → Keeps next marks order path
       → ((q : ℕ) → to ≡ Some q → q < length next → mark_at marks q ≢ M.New) → ((q : ℕ) → to ≡ Some q → mark_at marks q ≢ M.Met)
       → IsSettled next order to

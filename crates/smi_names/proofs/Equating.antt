@@ -1,4 +1,4 @@
--- A name's place has what decides the name, so the chain of places is that of names.
+-- The entry of a name has what decides the name, so the chain of indices is that of names.
 use Rattle.std.proofs.{lemmas.Grind.common_steps, lemmas.Bool.cases_lt, lemmas.Bool.eqb-true}
 use Rattle.std.proofs.Common.{◌≡◌, ℕ, ◌-◌, ◌≤◌, ◌==◌, ◌&&◌, inl, inr, Bool, true, List, [], ◌∷◌, length, map, unwrap_or, is_some}
 use Rattle.std.proofs.Common.{MatchOption, Option, Some, None, refl, sym, ◌∙◌, arith, subst}
@@ -21,7 +21,7 @@ pub find_true : (t : Module → Bool) (ms : List Module) (m : Module) → find t
 find_true t [] m e = absurd (cc)
 find_true t (x ∷ ms) m e = grind (arith, common_steps, find_true t ms m)
 
--- what decides a name, by what its place has
+-- what decides a name, by its entry
 pub record IsDecidedBy (ms : List Module) (a : QualifiedName) (c : Content) : Type 0 where
   pub named : module_named ms a.home ≡ Some c.home
   pub by : decision c.home a.name ≡ Some c.decided
@@ -42,13 +42,13 @@ is_decided ms a c e = of_module (module_named ms a.home) refl e
         let home = same m.name.octets a.home (find_true (λ n. same_text n.name.octets a.home) ms m named) in
         of_decision m named home (decision m a.name) refl e
 
--- the first module of a name, by its place
+-- the first module of a name, by its index
 first_named : (ms : List Module) (d : Directory) → IsDirectory ms d → (x : List ℕ) (r : Option ℕ) → place_in d.homes x ≡ r
     → IsFirst (λ (m : Module). same_text m.name.octets x) 0 ms (module_named ms x) r
 first_named ms d dir x r e =
     let t = λ (m : Module). same_text m.name.octets x in subst (λ s. IsFirst t 0 ms (module_named ms x) s) (sym (dir.placed x) ∙ e) (is_first t 0 ms)
 
--- what the place of a name has
+-- the entry of a name
 pub entry_at : (ms : List Module) (d : Directory) → IsDirectory ms d → (a : QualifiedName)
     → option_map content_of (slice_get d.entries.items (place_by d a))
     ≡ option_and_then (λ m. decided_as m a.name (decision m a.name)) (module_named ms a.home)
@@ -74,7 +74,7 @@ entry_at ms d dir a = by (place_in d.homes a.home) refl
         let s = get_within d.scopes.items i (omega (arith, found.1, dir.named.long)) in
         rw (s.1, found.4) (inner m s.0 (dir.named.each i m s.0 at s.1 a.name) (place_in s.0 a.name) refl)
 
--- a name without a place comes from nowhere
+-- a name without an entry has no origin
 pub undecided : (a : QualifiedName) (r : Option Module) → None ≡ option_and_then (λ m. decided_as m a.name (decision m a.name)) r → origin_in a r ≡ nowhere
 undecided a None e = refl
 undecided a (Some m) e = step (decision m a.name) e
@@ -83,7 +83,7 @@ undecided a (Some m) e = step (decision m a.name) e
     step v e = grind (arith, common_steps)
 
 module _ (ms : List Module) (d : Directory) (rs : List Resolution) (dir : IsDirectory ms d) (is : AreResolved (known_names ms d) rs) where
-  -- what the names at a place resolve to
+  -- what the names at an index resolve to
   resolved_at : (p : ℕ) (a : QualifiedName) (r : Option (Bor Resolution)) → slice_get (map content_of d.entries.items) p ≡ content_named ms a
       → slice_get rs p ≡ option_map (λ x. x.now) r → MatchOption r (origin ms a ≡ nowhere) (λ x. ComesTo (origin ms) a x.now)
   resolved_at p a None named e =

@@ -1,13 +1,13 @@
--- A list is filled in along the order of places.
+-- A list is filled in along an order of indices.
 use Rattle.std.proofs.{lemmas.Grind.common_steps, lemmas.List.Elements.Contains-push_cases, lemmas.Bool.cases_lt, lemmas.Bool.cases_eq}
 use Rattle.std.proofs.Common.{◌≡◌, ℕ, ◌+◌, ◌<◌, ◌≤◌, ◌⊎◌, inl, inr, List, [], ◌∷◌, ◌++◌, length, set, get_or, take, replicate, Option, Some, Contains}
 use Rattle.std.proofs.Common.{arith}
 use Rattle.std.proofs.lemmas.List.{get_or-set_same, get_or-set_other, get_or_past, take_more, length-replicate, get_or-replicate}
 use Rattle.smi_names.specs.{chains.Chain.HasEnd, chains.Order.next_at, chains.Order.ComeAfterNext}
 
--- ---- any list that is filled in along an order, which holds `start` where it isn't, and beyond its last place is read as `past`
+-- ---- any list that is filled in along an order, has `start` at the indices not filled, and is read as `past` past its end
 module _ {X : Type 0} (Right : ℕ → X → Type 0) (start past : X) where
-  -- each is right, or as at the start and none of the front
+  -- each element is right, or is `start` and its index isn't in the prefix `front` of the order
   abbrev pub Fills : List ℕ → List X → Type 0
   Fills front xs = (p : ℕ) → Right p (get_or xs p past) ⊎ ((get_or xs p past ≡ start) × (Contains front p → ⊥))
 

@@ -1,4 +1,4 @@
--- Nodes and warnings are added at the end.
+-- Nodes and warnings are appended.
 use Rattle.std.proofs.{lemmas.Grind.common_steps, lemmas.List.append-nil, lemmas.List.length_push}
 use Rattle.std.proofs.Common.{◌≡◌, ℕ, zero, suc, false, is_some, List, [], ◌∷◌, ◌++◌, length, take, Some, refl, sym, ap, ◌∙◌}
 use Rattle.std.proofs.Common.{arith, append_assoc, Result, Ok, Err, OnOk}
@@ -19,8 +19,7 @@ nodes_of-push ms [] (x ∷ os) s o e = absurd (omega arith)
 nodes_of-push ms (x ∷ ss) [] s o e = absurd (omega arith)
 nodes_of-push ms (x ∷ ss) (y ∷ os) s o e = ap (λ ns. node_from ms x y ∷ ns) (nodes_of-push ms ss os s o (omega arith))
 
--- a definition adds at most one node and one warning: its resolution says whether the list of either
--- grows by one or is as it was
+-- a definition adds a node or a warning: its resolution decides which of the lists grows by one
 pub AddsNodes-extended : (ms : List Module) (old new : Gathered) (s : Source) (m : Module) (d : Def) (r : Resolution)
     → length old.sources.items ≡ length old.oids.items
     → IsSourceOf ms s m d → GrowsByDefinition old new s m d r → AddsNodes ms old new (nodes_by m d r) (warnings_by m d r)
@@ -75,7 +74,7 @@ pub AddsNodes-warnings : (ms : List Module) (old new : Gathered) (ws : List Warn
     → AddsNodes ms old new [] ws
 AddsNodes-warnings ms old new ws long s o w = grind (arith, common_steps, append-nil)
 
--- a module is the first of its name, if none before it has it
+-- if no module before it has its name, then a module is the first of its name
 pub named_first : (ms : List Module) (i : ℕ) (m : Module) → slice_get ms i ≡ Some m → is_loaded (take i ms) m.name.octets ≡ false
     → module_named ms m.name.octets ≡ Some m
 named_first [] i m at absent = absurd (cc)

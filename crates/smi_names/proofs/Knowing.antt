@@ -1,4 +1,4 @@
--- What scopes know, as names are entered.
+-- What scopes have, as names are entered.
 use Rattle.std.proofs.{lemmas.Grind.common_steps, lemmas.List.append-nil, lemmas.List.length_push, lemmas.Slice.Eq.bytes_eq-Decides}
 use Rattle.std.proofs.{lemmas.Option.slice_get_cases, lemmas.List.Elements.All-nil, lemmas.List.Elements.All-push, lemmas.List.Elements.All-append}
 use Rattle.std.proofs.Common.{◌≡◌, ℕ, zero, suc, ◌<◌, ◌≤◌, Bool, true, false, cond, List, [], ◌∷◌, ◌++◌, length, Option, Some, None, unwrap_or}
@@ -33,15 +33,15 @@ known-append old added scope x within = grind (arith, common_steps, get-append)
 or_else_none : {A : Type 0} (o : Option A) → or_else o None ≡ o
 or_else_none o = grind (arith, common_steps)
 
--- a place before the one that was offered is the name's own
+-- an index below the one offered is the name's own
 pub had_place : (r : Option ℕ) (p place : ℕ) → p ≡ unwrap_or r place → p < place → r ≡ Some p
 had_place r p place e l = grind (arith, common_steps)
 
--- any other place is the one that was offered, to a name without one, where all places are before it
+-- if all indices are below the one offered, and `p` isn't, then the name had none
 pub had_none : (r : Option ℕ) (p place : ℕ) → p ≡ unwrap_or r place → ((q : ℕ) → r ≡ Some q → q < place) → place ≤ p → r ≡ None
 had_none r p place e within l = grind (arith, common_steps)
 
--- a name without a place gets the one that was offered
+-- a name without an index gets the one offered
 pub put_absent : (scope new : NamePlaces) (name : List ℕ) (place : ℕ) → place_in scope name ≡ None
     → ((x : List ℕ) → place_in new x ≡ or_else (place_in scope x) (cond (same_text name x) (Some place) None)) → (x : List ℕ)
     → place_in new x ≡ cond (same_text name x) (Some place) (place_in scope x)
@@ -52,7 +52,7 @@ put_absent scope new name place none put x = put x ∙ by (same_text name x) ref
     by true e = let at : place_in scope x ≡ None = rw (same name x e) at none in rw at refl
 
 module _ (old : List Entry) (scope : NamePlaces) (m : Module) (i : ℕ) (within : IsWithin old scope) where
-  -- the name is there, and keeps its place
+  -- the scope has the name, and its index stays
   pub KnowsMore-there : (new : NamePlaces) (name : List ℕ) (d : Decision) (p place : ℕ) → place_in scope name ≡ Some p
       → ((x : List ℕ) → place_in new x ≡ or_else (place_in scope x) (cond (same_text name x) (Some place) None)) → hasher_of new ≡ hasher_of scope
       → KnowsMore old scope old new m i (λ x. cond (same_text name x) (Some d) None)
@@ -116,7 +116,7 @@ module _ (old : List Entry) (scope : NamePlaces) (m : Module) (i : ℕ) (within 
       inside x p true at = let is : length old ≡ p = cc in omega (arith, length_push old e)
       inside x p false at = omega (arith, within x p at, length_push old e)
 
--- what is known more speaks of each name by itself, so any function with these values says it
+-- two additions to a scope are one, by any function with the values of both
 pub KnowsMore-then : (e0 e1 e2 : List Entry) (s0 s1 s2 : NamePlaces) (m : Module) (i : ℕ) (f g h : List ℕ → Option Decision)
     → KnowsMore e0 s0 e1 s1 m i f → KnowsMore e1 s1 e2 s2 m i g → ((x : List ℕ) → or_else (f x) (g x) ≡ h x) → KnowsMore e0 s0 e2 s2 m i h
 KnowsMore-then e0 e1 e2 s0 s1 s2 m i f g h a b same = record {

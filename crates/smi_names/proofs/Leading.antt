@@ -1,4 +1,4 @@
--- Where the name at a place leads, and what it means, by what decides it.
+-- What the name at an index refers to, and what it means, by what decides it.
 use Rattle.std.proofs.{lemmas.Grind.common_steps, lemmas.List.get_or_past, lemmas.List.length-map}
 use Rattle.std.proofs.Common.{◌≡◌, ℕ, ◌≤◌, ◌⊎◌, List, length, map, MatchOption, Option, Some, None, refl, sym, ap, ◌∙◌, arith}
 use Rattle.std.proofs.lemmas.Option.{slice_get_past, slice_get-map, get_or_from_slice_get}
@@ -26,7 +26,7 @@ module _ (k : KnownNames) (leads : Def → Option (List ℕ)) where
       → (q : ℕ) × (to ≡ Some q) × (slice_get k.names q ≡ content_named k.modules b)
   leads_to a b to l e = grind (arith, common_steps)
 
-  -- a chain of names that has an end is one of places
+  -- if a chain of names has an end, then so does that of their indices
   pub has_end : (next : List (Option ℕ)) → ((p : ℕ) → IsNext k leads p (next_at next p)) → {a : QualifiedName} → HasEnd (next_name k.modules leads) a
       → (p : ℕ) → slice_get k.names p ≡ content_named k.modules a → HasEnd (next_at next) p
   has_end next are {a} (ends e) p named = ends (leads_nowhere a (next_at next p) (are p a named) e)
@@ -34,7 +34,7 @@ module _ (k : KnownNames) (leads : Def → Option (List ℕ)) where
       let on = leads_to a b (next_at next p) (are p a named) e in leads_on on.1 (has_end next are h on.0 on.2)
 
   module _ (p : ℕ) where
-    -- what decides the names at a place
+    -- what decides the names at an index
     by_place : (s : Option Content) → slice_get k.names p ≡ s → (a : QualifiedName) → slice_get k.names p ≡ content_named k.modules a
         → decided k.modules a ≡ option_map (λ c. c.decided) s
     by_place s there a named = sym (decided_at a.name s (module_named k.modules a.home) (sym there ∙ named))
@@ -76,11 +76,11 @@ module _ (k : KnownNames) (leads : Def → Option (List ℕ)) where
                   let on = leads_to a b to l (by_def ∙ rw e refl) in
                   after own e ((rw on.1 at led) b on.2) refl
 
--- in every meaning an import leads where it does for the parents
+-- in every meaning an import refers to what it does for the parents
 pub keeps_imports : (d : Directory) → d.parents.items ≡ map (next_place d parent_of) d.entries.items → KeepsImports d
 keeps_imports d is p e i to at by got = grind (arith, common_steps, slice_get-map)
 
--- where the names at places lead is where their entries do
+-- names refer to what their entries do
 module _ (ms : List Module) (d : Directory) (dir : IsDirectory ms d) (leads : Def → Option (List ℕ)) where
   next_is : (p : ℕ) (a : QualifiedName) → slice_get (known_names ms d).names p ≡ content_named ms a
       → next_at (map (next_place d leads) d.entries.items) p ≡ option_map (place_by d) (next_name ms leads a)
@@ -109,7 +109,7 @@ module _ (ms : List Module) (d : Directory) (dir : IsDirectory ms d) (leads : De
   pub are_next : AreNext (known_names ms d) leads (map (next_place d leads) d.entries.items)
   are_next = record { long = length-map d.entries.items (next_place d leads) ∙ sym (length-map d.entries.items content_of); each = each_next }
 
--- what a list has at the place to which a place leads
+-- what a list has at the index that an index refers to
 pub far_of : {X : Type 0} (Right : ℕ → Option X → Type 0) (found : List (Option X)) (to : Option ℕ) → ((q : ℕ) → to ≡ Some q → Right q (at_place found q))
     → MatchOption to (option_and_then (λ q. at_place found q) to ≡ None) (λ q. Right q (option_and_then (λ q. at_place found q) to))
 far_of Right found to f = grind (arith, common_steps)

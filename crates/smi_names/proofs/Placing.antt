@@ -1,4 +1,4 @@
--- Places of names and of modules in lists that grow, and the numbers of parts.
+-- Indices of names and of modules in lists that grow, and the numbers of parts.
 use Rattle.std.proofs.{lemmas.Grind.common_steps, lemmas.Bool.cases_lt, lemmas.Option.slice_get_past}
 use Rattle.std.proofs.{lemmas.Grind.common_steps, lemmas.List.Elements.All-append, lemmas.Bool.cases_eq, lemmas.Option.slice_get_within}
 use Rattle.std.proofs.Common.{◌≡◌, ◌≢◌, ℕ, zero, suc, ◌+◌, ◌-◌, ◌<◌, ◌≤◌, Bool, cond, List, [], ◌∷◌, ◌++◌, length, take, get_or}
@@ -11,7 +11,7 @@ use Rattle.smi_names.specs.{meaning.Names.IsSourced, meaning.Names.AreEach, decl
 use Rattle.smi_names.specs.meaning.Scopes.{NamePlaces, known, decided_as, IsWithin, IsEntryOf, IsDecided}
 use Rattle.smi_names.proofs.Knowing.{get-append, get-push_at, known-append}
 
--- the first place in a list that goes on
+-- the first index in a list that has more elements
 pub position-append : {A : Type 0} (t : A → Bool) (j : ℕ) (xs ys : List A)
     → position_from t j (xs ++ ys) ≡ or_else (position_from t j xs) (position_from t (j + length xs) ys)
 position-append t j [] ys = let all : j + 0 ≡ j = omega arith in rw all refl
@@ -23,7 +23,7 @@ module_place-more ms i m x l e =
     let long : 0 + length (take i ms) ≡ i = omega (arith, length-take-le i ms (omega arith)) in
     sym (rw (take_more ms i m l, sym e) (rw long at (position-append (λ n. same_text n.name.octets x) 0 (take i ms) (m ∷ []))))
 
--- this is the first place, where the list's own is j, of what passes, and it stands there
+-- `found` is the element of `xs` at index `r`, counted from `j`, or both are `None`
 abbrev pub IsFirst : {A : Type 0} → (A → Bool) → ℕ → List A → Option A → Option ℕ → Type 0
 IsFirst {A} t j xs found r =
     MatchOption r (found ≡ None) (λ k. (j ≤ k) × (k < j + length xs) × (y : A) × (slice_get xs (k - j) ≡ Some y) × (found ≡ Some y))
@@ -38,7 +38,7 @@ get-push xs j y f = grind (arith, common_steps, cases_lt j (length xs), get-appe
 get-more : {X : Type 0} (xs : List X) (j : ℕ) (x y : X) → slice_get xs j ≡ Some x → slice_get (xs ++ y ∷ []) j ≡ Some x
 get-more xs j x y e = get-append xs (y ∷ []) j (slice_get_within xs j x e) ∙ e
 
--- entries stay where they are, and those of the module more are of the last one
+-- the entries stay in order with one module more, and the added ones are of this
 AreSourced-more : (ms : List Module) (old added : List Entry) (m : Module) (i : ℕ) → i ≡ length ms → All (IsSourced ms) old → All (IsEntryOf m i) added
     → All (IsSourced (ms ++ m ∷ [])) (old ++ added)
 AreSourced-more ms old added m i last sourced of =
@@ -75,7 +75,7 @@ pub arcs_push : (ps : List Part) (p : Part) (ns : List ℕ) (n : ℕ) → arcs p
 arcs_push [] p ns n e f = let none : [] ≡ ns = cc in rw (f, sym none) refl
 arcs_push (q ∷ qs) p ns n e f = grind (arith, common_steps, arcs_push qs p)
 
--- parts have numbers together where each has one
+-- parts have numbers together if and only if each has one
 pub numbered : (ps : List Part) → list_all (λ p. is_some (part_number p)) ps ≡ is_some (arcs ps)
 numbered [] = refl
 numbered (p ∷ ps) = grind (arith, common_steps, numbered ps, is_some)

@@ -1,4 +1,4 @@
--- What the name at a place resolves to, by where its numbers come from, and by what the name that it leads to resolves to.
+-- What the name at an index resolves to, by the origin of its numbers, and by what the name that it refers to resolves to.
 use Rattle.std.proofs.{lemmas.Grind.common_steps, lemmas.Option.slice_get_past}
 use Rattle.std.proofs.Common.{◌≡◌, ℕ, ◌≤◌, ◌⊎◌, inl, inr, nat_le, List, [], ◌++◌, length, Option, Some, None, refl, sym, ap, ◌∙◌, arith}
 use Rattle.std.proofs.Common.{length-append}
@@ -45,7 +45,7 @@ parents ms a = of_module (module_named ms a.home)
     of_module : (r : Option Module) → next_of (origin_in a r) ≡ next_by parent_of a (option_and_then (λ m. decision m a.name) r)
     of_module r = grind (arith, common_steps)
 
--- the names at a place resolve to this
+-- each name at index `p` resolves to `r`
 abbrev pub ResolvesAt : KnownNames → ℕ → Resolution → Type 0
 ResolvesAt k p r = (a : QualifiedName) → slice_get k.names p ≡ content_named k.modules a → ComesTo (origin k.modules) a r
 
@@ -58,7 +58,7 @@ module _ (k : KnownNames) where
       rw (o.named, o.by) (ap (λ x. origin_by x (Some c.decided)) (sym same))
 
   module _ (next : List (Option ℕ)) (are : AreNext k parent_of next) where
-    -- beyond the last place there is no meaning
+    -- past the last index there is no meaning
     pub beyond_comes : (p : ℕ) → length next ≤ p → ResolvesAt k p R.Unresolved
     beyond_comes p past = λ a named. here (origin_is None a (sym (slice_get_past k.names p (omega (arith, past, are.long))) ∙ named))
 

@@ -1,4 +1,4 @@
--- Resolutions that are kept once: the list grows, and what is there stays.
+-- Resolutions that are stored once: the list grows, and what it has stays.
 use Rattle.std.proofs.{lemmas.Grind.common_steps, lemmas.List.append-nil, lemmas.List.get_or_append_left, lemmas.List.map-set}
 use Rattle.std.proofs.Common.{◌≡◌, ℕ, zero, suc, ◌<◌, ◌≤◌, nat_le, List, [], ◌∷◌, ◌++◌, length, set, replicate, refl, arith, length-append}
 use Rattle.std.proofs.lemmas.List.Elements.{All-head, All-tail, All-set, All-weaker}
@@ -10,7 +10,7 @@ use Rattle.smi_names.specs.declared.chains.shared.Resolution.TheVariants as R
 pub followed_by_none : (o : List ℕ) → length o ≤ 128 → followed_by (R.Numbers o) [] ≡ R.Numbers o
 followed_by_none o short = grind (arith, common_steps, nat_le, append-nil)
 
--- what stands in the list stays where it is
+-- what the list has stays at its index
 shared-append : (list added : List Resolution) (places : List ℕ) → AreWithin list places → shared (list ++ added) places ≡ shared list places
 shared-append list added [] within = refl
 shared-append list added (k ∷ places) within =

@@ -1,9 +1,9 @@
--- A thing resolves in one way: its chain has no end, or ends at numbers or nowhere, and never two of these.
+-- A thing resolves in one way: its chain has no end, or ends at numbers or at nothing, and never two of these.
 use Rattle.std.proofs.{lemmas.Grind.common_steps, Common.◌≡◌, Common.ℕ, Common.◌<◌, Common.◌≤◌, Common.List, Common.length, Common.ap, Common.arith}
 use Rattle.smi_names.specs.chains.Chain.{Origin, next_of, HasEnd, ends, leads_on, HasIdentifier, by_itself, after_another, EndsNowhere, here, further}
 use Rattle.smi_names.specs.{chains.Resolution.ComesTo, declared.chains.shared.Resolution.Resolution}
 
--- a thing has one identifier at most
+-- a thing has at most one identifier
 pub one_meaning : {A : Type 0} (origin : A → Origin A) {a : A} {o : List ℕ} → HasIdentifier origin a o → (p : List ℕ) → HasIdentifier origin a p → o ≡ p
 one_meaning origin {a} {o} (by_itself e) p (by_itself f) = cc
 one_meaning origin {a} {o} (by_itself e) p (after_another f n) = absurd (cc)

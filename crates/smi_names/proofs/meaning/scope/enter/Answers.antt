@@ -1,4 +1,4 @@
--- The name is there, or is entered.
+-- The scope has the name, or it is entered.
 use Rattle.std.proofs.Common.{rules, ◌≡◌, [], ◌∷◌, ◌++◌, length, refl}
 use Rattle.smi_names.specs.meaning.Scopes.{place_in, decision_of}
 use Rattle.smi_names.proofs.Knowing.{KnowsMore-there, KnowsMore-entered, had_place, had_none, put_absent}
@@ -8,7 +8,8 @@ pub returns-then-first-place : goal.returns-then-first-place
 returns-then-first-place c =
     let e = c.args.entry in
     let p = c.in_ok-first.first in
-    let there = had_place (place_in c.args.scope.now e.name.now) p c.len-place.result (rw c.new.ensures at c.in_ok-first.ensures.returned) c.if-first-place.true in
+    let there = had_place (place_in c.args.scope.now e.name.now) p c.len-place.result
+    (rw c.new.ensures at c.in_ok-first.ensures.returned) c.if-first-place.true in
     record {
       entered = KnowsMore-there c.args.entries.now.items c.args.scope.now e.module.now e.source.0 c.requires.within c.insert_if_absent.new.places
           e.name.now (decision_of e.decider) p c.len-place.result there (rw c.new.ensures at c.in_ok-first.ensures.put) c.in_ok-first.ensures.hashed;

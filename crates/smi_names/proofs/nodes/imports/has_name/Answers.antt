@@ -1,4 +1,4 @@
--- What decides says whether the module has the name.
+-- What decides a name shows whether the module has it.
 use Rattle.std.proofs.Common.{Some, ◌∙◌}
 use Rattle.smi_names.specs.{meaning.Meaning.module_named, meaning.Scopes.decision_of}
 use Rattle.smi_names.proofs.Importing.{defines_or_imports_by}

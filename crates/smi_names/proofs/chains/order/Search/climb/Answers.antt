@@ -1,4 +1,4 @@
--- A place is met: the path goes on by it, and fewer places are new.
+-- An index is met: the path has it too, and fewer indices are new.
 use Rattle.std.proofs.{lemmas.Grind.common_steps, lemmas.List.get_or-set_same}
 use Rattle.std.proofs.Common.{refl, rules, ◌≡◌, ◌<◌, inl, inr, [], ◌∷◌, ◌++◌, Some, set, length, arith, sym}
 use Rattle.smi_names.specs.{private.Search.Leads, private.Search.mark_at}

@@ -1,4 +1,4 @@
--- A new place is settled; one that is reached stays so.
+-- A new index is settled; one that was reached stays so.
 use Rattle.std.proofs.Common.{rules, ◌≡◌, [], ◌∷◌, ◌++◌}
 use Rattle.smi_names.proofs.Climbing.{Keeps-alone}
 use Rattle.smi_names.proofs.chains.order.Search.settle.Goals as goal

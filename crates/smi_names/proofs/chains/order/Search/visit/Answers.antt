@@ -1,4 +1,4 @@
--- A path is left where it leads back, and else its last place is settled, again and again.
+-- A path that enters a ring is dropped; otherwise its last index is settled, again and again.
 use Rattle.std.proofs.Common.{refl, rules, ◌≡◌, ◌<◌, [], ◌∷◌, ◌++◌, Some, length, arith}
 use Rattle.std.proofs.lemmas.List.Elements.{All-contains, Contains-push}
 use Rattle.smi_names.specs.declared.chains.order.Mark.TheVariants as M

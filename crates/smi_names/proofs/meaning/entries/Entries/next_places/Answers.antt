@@ -1,4 +1,4 @@
--- The entries' next places, by names.
+-- What each entry refers to, by names.
 use Rattle.std.proofs.{Common.arith, lemmas.Grind.common_steps, lemmas.Result.IfOk-weaker}
 use Rattle.smi_names.proofs.Leading.{are_next, keeps_imports}
 use Rattle.smi_names.proofs.meaning.entries.Entries.next_places.Goals as goal

@@ -1,4 +1,4 @@
--- The order's places are filled in one after the other, each by a resolution of the list.
+-- The indices of the order are filled in one after the other, each by a resolution of the list.
 use Rattle.std.proofs.Common.{rules, inl, ◌≡◌, ◌<◌, ◌∷◌, [], length, replicate, get_or, refl, sym, ◌∙◌, arith}
 use Rattle.std.proofs.lemmas.List.{length-set, length-map, take_all, length-replicate}
 use Rattle.std.proofs.{lemmas.Bool.eqb-true, lemmas.List.Elements.All-get_or, lemmas.List.Elements.All-replicate}

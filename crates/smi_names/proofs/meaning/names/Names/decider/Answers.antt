@@ -1,4 +1,4 @@
--- The name is decided as its place says.
+-- The entry at its index decides the name.
 use Rattle.std.proofs.Common.{rules, ◌≡◌, Some, None, ◌∙◌}
 use Rattle.smi_names.specs.meaning.Meaning.{module_named}
 use Rattle.smi_names.proofs.Equating.{decided_at}

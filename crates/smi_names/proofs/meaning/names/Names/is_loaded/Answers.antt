@@ -1,4 +1,4 @@
--- A module of the name is found where the name has a place.
+-- A module of the name is found if and only if the name has an index.
 use Rattle.std.proofs.Common.{rules, ◌≡◌, is_some, sym, ap, ◌∙◌}
 use Rattle.smi_text.specs.trees.Mark.{same_text}
 use Rattle.smi_names.specs.meaning.Scopes.{place_in}

@@ -1,4 +1,4 @@
--- The place that the map has for the name.
+-- The index that the map has for the name.
 use Rattle.std.proofs.Common.{sym, ◌∙◌}
 use Rattle.smi_names.proofs.meaning.names.Names.module_place.Goals as goal
 

@@ -1,4 +1,4 @@
--- The name comes to what its place has.
+-- The name resolves to what its index has.
 use Rattle.std.proofs.Common.{◌≡◌, sym}
 use Rattle.smi_names.specs.{chains.Resolution.shared, meaning.Meaning.QualifiedName, meaning.Directory.place_by}
 use Rattle.smi_names.proofs.Equating.{resolved}

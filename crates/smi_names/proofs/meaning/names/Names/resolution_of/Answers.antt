@@ -1,4 +1,4 @@
--- The name comes to what its entry has.
+-- The name resolves to what its entry has.
 use Rattle.std.proofs.Common.{rules, ◌≡◌, true, sym}
 use Rattle.std.specs.List.{slice_get}
 use Rattle.smi_names.specs.{chains.Resolution.shared, meaning.Meaning.QualifiedName, meaning.Directory.place_by, meaning.Directory.is_entry_of}

@@ -1,4 +1,4 @@
--- By whether the definition has an identifier, and by what its name comes to.
+-- By whether the definition has an identifier, and by what its name resolves to.
 use Rattle.std.proofs.Common.{arith, rules, ◌≡◌, true, false, List, Option, Some, None, is_some, refl, sym}
 use Rattle.std.proofs.lemmas.Grind.{common_steps}
 use Rattle.smi_names.specs.{chains.Chain.here, chains.Resolution.ComesTo, meaning.Meaning.origin}
@@ -23,7 +23,7 @@ returns-then-is_none c =
           (rw (none_of (identifier_value_of c.args.def.now.kind) none) (refl, refl));
     }
 
--- the value is there, and the name comes to what was kept of it
+-- there is a value, and the name resolves to what was stored
 pub returns-in-Some : goal.returns-in-Some
 returns-in-Some c = grind (arith, common_steps, is_some, some_of, GivesNodes-added)
 

@@ -1,4 +1,4 @@
--- Warnings of imports alone are added, and then what the definitions give.
+-- Only warnings about imports are added, and then what the definitions have.
 use Rattle.std.proofs.{Common.arith, Common.refl, Common.[], Common.◌++◌, lemmas.Grind.common_steps}
 use Rattle.smi_names.specs.{nodes.Imports.import_warnings, nodes.Nodes.loaded, declared.nodes.gather.Gathered.Gathered}
 use Rattle.smi_names.proofs.Gathering.{AddsNodes-then, AddsNodes-warnings, named_first}

@@ -1,4 +1,4 @@
--- A warning alone is added for a name that is loaded.
+-- Only a warning is added for a name that is loaded.
 use Rattle.std.proofs.Common.{rules, ◌≡◌, ◌++◌, ◌∷◌, [], refl, take, true}
 use Rattle.smi_names.specs.{declared.nodes.gather.Gathered.Gathered, nodes.Nodes.is_loaded, nodes.Nodes.left_out}
 use Rattle.smi_names.specs.declared.nodes.warning.Warning.TheVariants as W
