@@ -1,4 +1,4 @@
--- One more binding behind those that were gathered.
+-- One more binding after those gathered.
 use Rattle.std.proofs.Common.{◌≡◌, ◌+◌, ◌≤◌, ℕ, List, [], ◌∷◌, ◌++◌, length, All, ap, sym, ◌∙◌, refl, arith, rules}
 use Rattle.std.proofs.lemmas.List.{append_assoc, length-append, map_push}
 use Rattle.std.proofs.lemmas.List.Elements.{All-push}
@@ -7,7 +7,7 @@ use Rattle.snmp_wire.specs.declared.binding.Binding.{Binding}
 use Rattle.snmp_wire.specs.Message.{VarBind, var_bind, var_binds}
 use Rattle.snmp_wire.specs.Canon.{IsEncodable, canon_binding, canon_bindings}
 
--- the bindings of a message so far, which have an encoding of so many octets
+-- `bindings` begin the list `all`, `rest` follows, and their encodings have `total` octets
 abbrev pub IsGathered : List VarBind → List Binding → List VarBind → ℕ → Type 0
 IsGathered all bindings rest total =
     (var_binds bindings ++ rest ≡ all)

@@ -1,4 +1,4 @@
--- What the results of the benchmark say.
+-- The results of the benchmark's calls.
 use Rattle.std.specs.Prelude.{ℕ, ◌-◌, ◌==◌, ◌&&◌, ◌||◌, Bool, false, nat_lt, List, [], ◌∷◌, length}
 use Rattle.std.specs.Prelude.{slice_index_or}
 use Rattle.snmp_wire.specs.Message.{Message, VarBind, Datum, integer_value, octet_string}

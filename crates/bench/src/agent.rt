@@ -4,8 +4,8 @@ use snmp_agent::{Config, Outcome, Table, answer};
 use snmp_wire::decode;
 use std::alloc::Global;
 
-/// Reads the table, replies to the request that many times, and returns the number of bindings of
-/// the last reply; the greatest number where the table is refused or there is no reply.
+/// Reads the table, replies to the request `replies` times, and returns the number of bindings of
+/// the last reply, or `usize::MAX` if the table is refused or there is no reply.
 #[unsafe(no_mangle)]
 pub extern "C" fn agent_bench(
     alloc: Global,
@@ -31,7 +31,8 @@ pub extern "C" fn agent_bench(
     bindings_in(out.get(..size).unwrap_or(&[]))
 }
 
-/// How many bindings the message has that the octets encode.
+/// Returns the number of bindings of the message that the octets encode, or `usize::MAX` if they
+/// aren't one.
 fn bindings_in(octets: &[u8]) -> usize {
     let Ok(message) = decode(octets) else {
         return usize::MAX;

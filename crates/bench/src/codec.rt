@@ -13,7 +13,7 @@ use snmp_wire::{
 };
 use std::alloc::Global;
 
-/// Whether the octets are a message.
+/// Returns whether the octets are a message.
 #[unsafe(no_mangle)]
 pub extern "C" fn codec_bench_decode(datagram: &[u8]) -> bool
     ensures { IsTrue result ↔ IsSpelt datagram.now }
@@ -24,8 +24,8 @@ pub extern "C" fn codec_bench_decode(datagram: &[u8]) -> bool
     }
 }
 
-/// Whether the octets are a message that has a binding whose name ends in the number, or whose
-/// value is the Counter32 of the number.
+/// Returns whether the octets are a message that has a binding whose name ends in the number, or
+/// whose value is the Counter32 of the number.
 ///
 /// With a number that no binding has, this reads all of them.
 #[unsafe(no_mangle)]
@@ -39,7 +39,7 @@ pub extern "C" fn codec_bench_walk(datagram: &[u8], number: u32) -> bool
     }
 }
 
-/// Whether some binding's name ends in the number, or its value is the Counter32 of the number.
+/// Returns whether a binding's name ends in the number, or its value is the Counter32 of it.
 fn has_number(mut bindings: Bindings<'_>, number: u32) -> bool
     ensures { result ≡ has_number number bindings.entry }
 {
@@ -55,7 +55,7 @@ fn has_number(mut bindings: Bindings<'_>, number: u32) -> bool
     false
 }
 
-/// Whether a name ends in the number.
+/// Returns whether a name ends in the number.
 #[inline]
 fn ends_in(name: &[u32], number: u32) -> bool
     ensures { result ≡ ends_in number name.now }
@@ -63,7 +63,7 @@ fn ends_in(name: &[u32], number: u32) -> bool
     !name.is_empty() && name[name.len() - 1] == number
 }
 
-/// Whether a value is the Counter32 of the number.
+/// Returns whether a value is the Counter32 of the number.
 #[inline]
 fn counts(value: &ValueRef<'_>, number: u32) -> bool
     ensures { result ≡ counts number (datum value.now) }
@@ -74,11 +74,11 @@ fn counts(value: &ValueRef<'_>, number: u32) -> bool
     }
 }
 
-/// The shortest encoding of the message that the octets encode, written `times` times to the front
-/// of `out`, and its length.
+/// Writes the shortest encoding of the message in `datagram` to the start of `out`, `times` times,
+/// and returns its length.
 ///
-/// 0 where the octets are no message, where it has other values than Counter32, where memory or
-/// room is wanting, and where `times` is 0.
+/// Returns 0 if the octets aren't a message, if it has other values than Counter32 or is too long,
+/// if memory or room is missing, or if `times` is 0.
 #[unsafe(no_mangle)]
 pub extern "C" fn codec_bench_encode(
     alloc: Global,
@@ -94,8 +94,7 @@ pub extern "C" fn codec_bench_encode(
     }
 }
 
-/// The shortest encoding of a message, written `times` times to the front of `out`, and its length.
-/// 0 as [`codec_bench_encode`] says.
+/// Writes the shortest encoding of a message as [`codec_bench_encode`] does.
 fn encode_again(alloc: Global, message: &MessageRef<'_>, times: u32, out: &mut [u8]) -> usize
     ensures { 0 < result → take result out.new ≡ canon message.now }
 {
@@ -116,7 +115,7 @@ fn encode_again(alloc: Global, message: &MessageRef<'_>, times: u32, out: &mut [
     size
 }
 
-/// The parts of a message that has these bindings.
+/// Returns the parts of a message that has these bindings.
 fn parts_of<'a>(message: &MessageRef<'a>, bindings: &'a [Binding<'a>]) -> Parts<'a>
     requires { var_binds bindings.now ≡ message.now.bindings }
     ensures message { parts_message result ≡ message.now }
@@ -133,7 +132,8 @@ fn parts_of<'a>(message: &MessageRef<'a>, bindings: &'a [Binding<'a>]) -> Parts<
     }
 }
 
-/// The bindings of a message, each a Counter32. None where one isn't, or where memory is wanting.
+/// Returns the bindings of a message, or `None` if one can't be encoded or isn't a Counter32, if
+/// memory runs out, or if they take more than 4 000 000 000 octets.
 fn counters_of<'a>(alloc: Global, message: &MessageRef<'a>) -> Option<Vec<Binding<'a>>>
     ensures bindings { IfSome result (λ bindings. var_binds bindings.items ≡ message.now.bindings) }
     ensures encodable { IfSome result (λ bindings.
@@ -158,7 +158,7 @@ fn counters_of<'a>(alloc: Global, message: &MessageRef<'a>) -> Option<Vec<Bindin
     Some(bindings)
 }
 
-/// Whether a binding is a Counter32 whose name has an encoding.
+/// Returns whether a binding is a Counter32 whose name has an encoding.
 fn is_counter(binding: &Binding<'_>) -> bool
     ensures { IsTrue result → IsEncodable (var_bind binding.now) }
 {

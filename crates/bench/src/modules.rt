@@ -4,7 +4,7 @@
 use smi_text::{Lexer, parse_modules};
 use std::alloc::Global;
 
-/// How many definitions the modules of a text have together; the greatest number where the text is
+/// Returns the number of definitions of all modules in `text`, or `usize::MAX` if the text is
 /// refused.
 #[unsafe(no_mangle)]
 pub extern "C" fn smi_definitions_in(alloc: Global, text: &[u8]) -> usize {
@@ -18,7 +18,7 @@ pub extern "C" fn smi_definitions_in(alloc: Global, text: &[u8]) -> usize {
     count
 }
 
-/// How many tokens a text has before its first fault.
+/// Returns the number of tokens of `text` before its first fault.
 #[unsafe(no_mangle)]
 pub extern "C" fn smi_tokens_in(text: &[u8]) -> usize {
     let mut count: usize = 0;

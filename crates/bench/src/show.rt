@@ -1,4 +1,4 @@
-//! Lines, as a function that a C program can call and that `bench/lines.sh` measures.
+//! The lines of bindings, as a function that a C program can call: what `bench/lines.sh` measures.
 
 use smi_show::{Letters, NameForm, line};
 use smi_tree::Tree;
@@ -6,8 +6,9 @@ use snmp_oid::Oid;
 use snmp_wire::ValueRef;
 use std::alloc::Global;
 
-/// Shows the line of an INTEGER at an identifier of this many numbers, each of them `number`,
-/// `times` times, and returns how many octets it has. The names are numeric if `numeric` is 1.
+/// Shows the line of an INTEGER `times` times, and returns its length in octets, or 0 if one can't
+/// be shown. Its name has `numbers` numbers, each of them `number`, and is numeric if `numeric` is
+/// 1.
 #[unsafe(no_mangle)]
 pub extern "C" fn line_octets(
     alloc: Global,

@@ -21,12 +21,12 @@ impl RandomSource for Seed {
     }
 }
 
-/// The tree of the modules of a text, None where the text is refused or memory runs out.
+/// Returns the tree of the modules in `text`, or `None` if this is refused or memory runs out.
 fn tree_in(alloc: Global, text: &[u8]) -> Option<Tree> {
     tree_by(alloc, NameHash::Fixed, text)
 }
 
-/// The same, with names hashed in this way.
+/// Returns the same, with names hashed by `hash`.
 fn tree_by(alloc: Global, hash: NameHash, text: &[u8]) -> Option<Tree> {
     let Ok(modules) = parse_modules(alloc, text) else {
         return None;
@@ -40,8 +40,7 @@ fn tree_by(alloc: Global, hash: NameHash, text: &[u8]) -> Option<Tree> {
     }
 }
 
-/// How many nodes the modules of a text have together; the greatest number where the text is
-/// refused.
+/// Returns the number of nodes of the tree of `text`, or `usize::MAX` if there is no tree.
 #[unsafe(no_mangle)]
 pub extern "C" fn tree_nodes_in(alloc: Global, text: &[u8]) -> usize {
     match tree_in(alloc, text) {
@@ -50,7 +49,7 @@ pub extern "C" fn tree_nodes_in(alloc: Global, text: &[u8]) -> usize {
     }
 }
 
-/// The same, with names hashed by a key whose octets are all `seed`.
+/// Returns the same, with names hashed by a key whose octets are all `seed`.
 #[unsafe(no_mangle)]
 pub extern "C" fn tree_nodes_keyed(alloc: Global, text: &[u8], seed: u8) -> usize {
     match tree_by(
@@ -63,7 +62,7 @@ pub extern "C" fn tree_nodes_keyed(alloc: Global, text: &[u8], seed: u8) -> usiz
     }
 }
 
-/// How often a name is found in the tree of a text, looked up so many times.
+/// Looks up a name `times` times in the tree of `text`, and returns how often it is found.
 #[unsafe(no_mangle)]
 pub extern "C" fn tree_names_in(alloc: Global, text: &[u8], times: usize) -> usize {
     let Some(tree) = tree_in(alloc, text) else {
@@ -80,7 +79,8 @@ pub extern "C" fn tree_names_in(alloc: Global, text: &[u8], times: usize) -> usi
     count
 }
 
-/// How often a node is found for an identifier in the tree of a text, looked up so many times.
+/// Looks up an identifier `times` times in the tree of `text`, and returns how often a node is
+/// found.
 #[unsafe(no_mangle)]
 pub extern "C" fn tree_identifiers_in(alloc: Global, text: &[u8], times: usize) -> usize {
     let Some(tree) = tree_in(alloc, text) else {
@@ -98,8 +98,8 @@ pub extern "C" fn tree_identifiers_in(alloc: Global, text: &[u8], times: usize) 
     count
 }
 
-/// How often the syntax of the first node after the roots is found in the tree of a text, looked up
-/// so many times.
+/// Looks up the syntax of the first node after the roots `times` times in the tree of `text`, and
+/// returns how often it is found.
 #[unsafe(no_mangle)]
 pub extern "C" fn tree_syntaxes_in(alloc: Global, text: &[u8], times: usize) -> usize {
     let Some(tree) = tree_in(alloc, text) else {
@@ -114,9 +114,9 @@ pub extern "C" fn tree_syntaxes_in(alloc: Global, text: &[u8], times: usize) -> 
     count
 }
 
-/// How many octets the line of an instance of an object has, shown so many times by the tree of a
-/// text, as a walk shows one line after the other; the greatest number where the text is refused or
-/// memory runs out.
+/// Shows the line of an instance `times` times by the tree of `text`, as a walk shows one line
+/// after the other. Returns its length in octets, or `usize::MAX` if the text is refused or memory
+/// runs out.
 #[unsafe(no_mangle)]
 pub extern "C" fn tree_lines_in(alloc: Global, text: &[u8], times: usize) -> usize {
     let Some(tree) = tree_in(alloc, text) else {

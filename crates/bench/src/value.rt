@@ -1,12 +1,11 @@
-//! The texts of values, as a function that a C program can call and that `bench/values.sh`
-//! measures.
+//! The texts of values, as a function that a C program can call: what `bench/values.sh` measures.
 
 use smi_value::{Letters, ValueBase, ValueSyntax, append_value};
 use snmp_io::Draft;
 use snmp_wire::ValueRef;
 use std::alloc::{AllocError, Global};
 
-/// Shows a value `times` times, and returns how many octets its text has.
+/// Shows a value `times` times, and returns the length of its text, or 0 if memory runs out.
 ///
 /// `kind` is 0 for INTEGER 5, 1 for the greatest TimeTicks, 2 for a string without a syntax, and 3
 /// for a string under the display hint in the first `hint_len` octets of `text`.
@@ -37,7 +36,7 @@ pub extern "C" fn value_text_octets(
     out.len()
 }
 
-/// Appends the text of a value that is not an identifier.
+/// Appends the text of a value, or nothing if it is an identifier.
 fn show(
     out: &mut Vec<u8>,
     letters: &Letters,

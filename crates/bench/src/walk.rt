@@ -5,7 +5,7 @@ use snmp_walk::{MemoryLink, Method, Mode, Sink, SinkFault, WalkCore, run_walk};
 use snmp_wire::{Binding, Oid};
 use std::alloc::Global;
 
-/// Counts the bindings that it is given.
+/// A sink that counts the bindings that it is given.
 #[derive(Drop)]
 struct Counter {
     rows: usize,
@@ -20,9 +20,9 @@ impl Sink for Counter {
     }
 }
 
-/// Reads the table, walks below 1.3.6.1.4.1.32473.1 that many times, by GetBulk with these
-/// repetitions or by GetNext where there are none, and returns the number of bindings that all
-/// walks gave; the greatest number where the table is refused.
+/// Reads the table and walks below 1.3.6.1.4.1.32473.1 `walks` times, by GetBulk with
+/// `repetitions`, or by GetNext if that is below 1. Returns the number of bindings of all walks, or
+/// `usize::MAX` if the table is refused.
 #[unsafe(no_mangle)]
 pub extern "C" fn walk_bench(
     alloc: Global,
