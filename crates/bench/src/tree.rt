@@ -26,7 +26,7 @@ fn tree_in(alloc: Global, text: &[u8]) -> Option<Tree> {
     tree_by(alloc, NameHash::Fixed, text)
 }
 
-/// Returns the same, with names hashed by `hash`.
+/// Does what `tree_in` does, with names hashed by `hash`.
 fn tree_by(alloc: Global, hash: NameHash, text: &[u8]) -> Option<Tree> {
     let Ok(modules) = parse_modules(alloc, text) else {
         return None;
@@ -49,7 +49,7 @@ pub extern "C" fn tree_nodes_in(alloc: Global, text: &[u8]) -> usize {
     }
 }
 
-/// Returns the same, with names hashed by a key whose octets are all `seed`.
+/// Does what [`tree_nodes_in`] does, with names hashed by a key whose octets are all `seed`.
 #[unsafe(no_mangle)]
 pub extern "C" fn tree_nodes_keyed(alloc: Global, text: &[u8], seed: u8) -> usize {
     match tree_by(

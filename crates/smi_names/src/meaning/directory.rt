@@ -90,7 +90,8 @@ impl<'a> Directory<'a> {
         self.place_in(find(&self.homes, home), name)
     }
 
-    /// Returns the same for the module at index `at`, if there is one.
+    /// Returns the index of the entry of `name` in the module at index `at`, or the number of
+    /// entries if there is none.
     fn place_in(&self, at: Option<usize>, name: &'a [u8]) -> usize
         ensures { result ≡ place_at self.now at name.now }
     {

@@ -42,11 +42,11 @@ parts_meaning tree look_up so_far (part ∷ parts) =
     and_then (part_meaning look_up so_far part)
     (λ o. parts_meaning tree (oid_of_child tree o) o parts)
 
--- the meaning of parts in a scope; if it is a module, this is loaded
+-- the meaning of parts in a scope; a module has to be loaded
 abbrev pub meaning_in : Contents → Scope → List (List ℕ) → Result (List ℕ) NameError
 meaning_in tree scope parts = parts_meaning tree (found_in tree scope) [] parts
 
--- the meaning of a text in a scope: `Unknown` if it is a module that isn't loaded
+-- the meaning of a text in a scope: `Unknown` if this is a module that isn't loaded
 abbrev pub scope_meaning : Contents → Scope → (rest : List ℕ) → Result (List ℕ) NameError
 scope_meaning tree scope rest =
     if is_loaded_in tree scope then meaning_in tree scope (name_parts rest) else Err Unknown

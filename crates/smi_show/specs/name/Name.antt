@@ -28,7 +28,7 @@ path_text tree o =
     flat_map (λ here. codes "." ++ arc_text (nearest_node tree here) here (last_number here))
     (beginnings o)
 
--- the deepest node in a form
+-- the text of `node`, the deepest one, in a form
 abbrev pub node_text : Contents → NameForm → List ℕ → Standing → List ℕ
 node_text tree Numeric o node = []
 node_text tree Full o node = path_text tree (take node.depth o)

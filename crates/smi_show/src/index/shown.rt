@@ -272,7 +272,7 @@ fn put_number(room: &mut [u8; ROOM], filled: usize, number: u32) -> usize
     }
 }
 
-/// [`put_number`] for a number of four to ten digits.
+/// Does what [`put_number`] does, for a number of four to ten digits.
 #[tactic(auto, using(crate::proofs::DigitLemmas::behind))]
 #[inline(never)]
 fn put_long(room: &mut [u8; ROOM], filled: usize, number: u32) -> usize
@@ -289,7 +289,7 @@ fn put_long(room: &mut [u8; ROOM], filled: usize, number: u32) -> usize
     put_three(room, more, number % 1000)
 }
 
-/// [`put_number`] for a number of up to six digits.
+/// Does what [`put_number`] does, for a number of up to six digits.
 #[tactic(auto, using(crate::proofs::DigitLemmas::behind))]
 fn put_medium(room: &mut [u8; ROOM], filled: usize, number: u32) -> usize
     requires room { filled ≤ 117 }
@@ -305,7 +305,7 @@ fn put_medium(room: &mut [u8; ROOM], filled: usize, number: u32) -> usize
     put_three(room, front, number % 1000)
 }
 
-/// [`put_number`] for a number of up to three digits.
+/// Does what [`put_number`] does, for a number of up to three digits.
 #[inline(always)]
 fn put_short(room: &mut [u8; ROOM], filled: usize, number: u32) -> usize
     requires room { filled ≤ 117 }
@@ -332,7 +332,7 @@ fn put_short(room: &mut [u8; ROOM], filled: usize, number: u32) -> usize
     filled + 4
 }
 
-/// [`put_number`] for a number below 256.
+/// Does what [`put_number`] does, for a number below 256.
 #[inline(always)]
 fn put_small(room: &mut [u8; ROOM], filled: usize, number: u32) -> usize
     requires room { filled ≤ 117 }

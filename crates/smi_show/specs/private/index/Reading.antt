@@ -9,7 +9,7 @@ use Rattle.smi_tree.specs.declared.columns.index_part.Extent.{Extent}
 use Rattle.smi_tree.specs.declared.columns.index_part.IndexPart.{IndexPart}
 use Rattle.smi_tree.specs.declared.columns.index_part.Extent.TheVariants.{Fixed, Counted, Implied}
 
--- the first `size` numbers and the rest, if there are so many
+-- the first `size` numbers and the rest, unless there are fewer
 abbrev pub front_and_rest : ℕ → List ℕ → Option (List ℕ × List ℕ)
 front_and_rest size numbers =
     if nat_le size (length numbers) then Some (take size numbers, drop size numbers) else None
