@@ -24,13 +24,13 @@ news-set [] p h e = absurd (omega arith)
 news-set (m ∷ ms) zero h e = let e' : m ≡ M.New = e in rw e' (omega arith)
 news-set (m ∷ ms) (suc p) h e = let r = news-set ms p (omega arith) e in omega arith
 
--- an index that isn't new stays so, and `at` is one
+-- what isn't new stays so if `at` is marked as not new
 pub marked : (marks : List Mark) (at p : ℕ) (m : Mark) → is_new m ≡ false → at < length marks → mark_at marks p ≢ M.New
     → mark_at (set marks at m) p ≢ M.New
 marked marks at p m old inside other = grind (arith, common_steps, cases_eq, get_or-set_same, get_or-set_other)
 
 module _ (next : List (Option ℕ)) where
-  -- one step up, and one step down
+  -- an index has an end if the one that it refers to has one, and the other way round
   has_end_from : (p : ℕ) (to : Option ℕ) → next_at next p ≡ to → ((q : ℕ) → to ≡ Some q → HasEnd (next_at next) q) → HasEnd (next_at next) p
   has_end_from p None e f = ends e
   has_end_from p (Some q) e f = leads_on e (f q refl)

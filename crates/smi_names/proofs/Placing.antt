@@ -11,7 +11,7 @@ use Rattle.smi_names.specs.{meaning.Names.IsSourced, meaning.Names.AreEach, decl
 use Rattle.smi_names.specs.meaning.Scopes.{NamePlaces, known, decided_as, IsWithin, IsEntryOf, IsDecided}
 use Rattle.smi_names.proofs.Knowing.{get-append, get-push_at, known-append}
 
--- the first index in a list that has more elements
+-- the first index in a list with another one after it
 pub position-append : {A : Type 0} (t : A → Bool) (j : ℕ) (xs ys : List A)
     → position_from t j (xs ++ ys) ≡ or_else (position_from t j xs) (position_from t (j + length xs) ys)
 position-append t j [] ys = let all : j + 0 ≡ j = omega arith in rw all refl
@@ -38,7 +38,7 @@ get-push xs j y f = grind (arith, common_steps, cases_lt j (length xs), get-appe
 get-more : {X : Type 0} (xs : List X) (j : ℕ) (x y : X) → slice_get xs j ≡ Some x → slice_get (xs ++ y ∷ []) j ≡ Some x
 get-more xs j x y e = get-append xs (y ∷ []) j (slice_get_within xs j x e) ∙ e
 
--- the entries stay in order with one module more, and the added ones are of this
+-- if the entries have their sources, then so do they and the added ones with one module more
 AreSourced-more : (ms : List Module) (old added : List Entry) (m : Module) (i : ℕ) → i ≡ length ms → All (IsSourced ms) old → All (IsEntryOf m i) added
     → All (IsSourced (ms ++ m ∷ [])) (old ++ added)
 AreSourced-more ms old added m i last sourced of =

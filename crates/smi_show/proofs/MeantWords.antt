@@ -79,7 +79,7 @@ pub word_is : (part : List ℕ) → WordIs part (word_of part)
 word_is [] = tt
 word_is (octet ∷ more) = word_at octet more (is_ascii_digit octet) (eqb octet 34) (eqb octet 39) refl refl refl
 
--- a bad index has no other word
+-- a part with a bad index has no other word
 bad_index : (octet : ℕ) (more : List ℕ) (read : Result Word NameError) → IsBadIndex (octet ∷ more) → WordIs (octet ∷ more) read → read ≡ Err BadIndex
 bad_index octet more (Ok (a_piece piece)) h is = absurd (h.1 piece is)
 bad_index octet more (Ok (a_label label)) h is = absurd (elim h.0 [ inl double ↦ is.1.1 double | inr single ↦ is.1.2 single ])

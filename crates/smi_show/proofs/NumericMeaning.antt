@@ -11,7 +11,7 @@ use Rattle.smi_show.proofs.{FrontLemmas.number_next, PlainLemmas.apart, PlainLem
 use Rattle.smi_tree.specs.{Naming.oid_of_child, Naming.oid_anywhere, Naming.oid_of_root, Tree.Contents}
 use Rattle.smi_show.proofs.ShownLemmas.{dot_module, plain_is_whole, scopes}
 
--- 128 numbers fit
+-- up to 128 numbers fit
 pub fits : (o : List ℕ) → length o ≤ 128 → fitting o ≡ Ok o
 fits o low = rw (le-leb (length o) 128 low) refl
 

@@ -59,18 +59,8 @@ parts_here octet text (part ∷ more) is h = grind (arith, common_steps, nothing
 
 parts_from : (quote : Option ℕ) (text : List ℕ) → PartsFrom quote text (parts_after quote text)
 parts_from quote [] = (λ before after e q. nothing 46 before after e, refl)
-parts_from None (octet ∷ more) = grind (
-  arith,
-  common_steps,
-  parts_from None more,
-  parts_from (open_after None octet) more,
-  later,
-  cond_both,
-  nat_eq,
-  parts_here,
-  eqb-true,
-  parts_more,
-)
+parts_from None (octet ∷ more) =
+    grind (arith, common_steps, parts_from None more, parts_from (open_after None octet) more, later, cond_both, nat_eq, parts_here, eqb-true, parts_more)
 parts_from (Some q) (octet ∷ more) = grind (arith, common_steps, parts_from (open_after (Some q) octet) more, parts_more)
 
 plain_parts : (text : List ℕ) (parts : List (List ℕ)) → PartsFrom None text parts → AreParts text parts

@@ -39,7 +39,7 @@ next_value parts i left value rest ahead low front h =
           ∙ flat_map-append dotted_text (value_pieces (get_or parts i Number) value) (index_pieces (drop (i + 1) parts) e.0);
     }
 
--- the numbers of pieces
+-- the numbers that pieces stand for are those shown
 pub numbers_of_numbers : (numbers : List ℕ) → flat_map piece_numbers (as_numbers numbers) ≡ numbers
 numbers_of_numbers [] = refl
 numbers_of_numbers (n ∷ more) = ap (λ (ns : List ℕ). n ∷ ns) (numbers_of_numbers more)

@@ -10,6 +10,7 @@ abbrev pub Passes : Option ℕ → ℕ → Type 0
 Passes None octet = (nat_eq octet 46 ≡ false) × (nat_eq octet 58 ≡ false)
 Passes (Some quote) octet = Unit {0}
 
+-- `read` puts an octet at which nothing ends before what it reads of the rest
 pub record IsReader {X : Type 0} (before : List ℕ → X → X) (read : Option ℕ → List ℕ → X) (ends : Option ℕ → List ℕ → Bool) : Type 0 where
   pub none : (state : Option ℕ) (text : List ℕ) → read state text ≡ before [] (read state text)
   pub twice : (a b : List ℕ) (x : X) → before a (before b x) ≡ before (a ++ b) x

@@ -124,7 +124,7 @@ pub one_reading_of_all : (parts : List IndexPart) (numbers : List ℕ) (values o
     → ReadValues parts numbers others → values ≡ others
 one_reading_of_all parts numbers values others h g = grind (arith, common_steps, all_only)
 
--- whether all parts are read
+-- the values of all parts are computed if and only if the numbers encode them
 pub read_if : (parts : List IndexPart) (numbers : List ℕ) → ((values : List (List ℕ)) × ReadValues parts numbers values)
     → is_some (values_of parts numbers) ≡ true
 read_if parts numbers h = ap is_some (all_only parts numbers h.0 h.1)

@@ -39,7 +39,7 @@ pub data Comes {X : Type 0} (ms : List Module) (leads : Def → Option (List ℕ
     (means : ℕ × ℕ → Def → Option X → Option X) : QualifiedName → Option X → Type 0 where
   -- a name that nothing decides, or of a module that isn't loaded, means nothing
   unknown : {a : QualifiedName} → decided ms a ≡ None → Comes ms leads means a None
-  -- nor does a root
+  -- a root means nothing
   of_root : {a : QualifiedName} {n : ℕ} → decided ms a ≡ Some (root n)
       → Comes ms leads means a None
   -- an import means what the same name means in the module after FROM
