@@ -1,12 +1,20 @@
--- Names are printed one after the other.
-use Rattle.std.proofs.Common.{◌∙◌, ◌++◌, ◌+◌, ◌<◌, ap, refl, sym, subst, ℕ, List, [], ◌∷◌, Bor, take, drop, length, get_or, append_assoc, append-nil}
-use Rattle.snmp_io.specs.{Output.Stream, Output.extended, Streams.extended-twice}
+-- Names are printed one after the other, together: what the output took of them, and what waits (`IsTakenOrWaits`).
+use Rattle.std.proofs.Common.{arith, ◌≡◌, ◌⊎◌, ◌∙◌, ◌++◌, ◌+◌, ◌<◌, ap, inl, inr, refl, sym, subst, ℕ, List, [], ◌∷◌, Bor, Result, Ok, Err, take, drop, length, get_or}
+use Rattle.std.proofs.Common.{append_assoc, append-nil}
+use Rattle.std.proofs.{lemmas.Grind.common_steps, lemmas.List.map-append, lemmas.List.take-append-drop}
+use Rattle.std.specs.Prelude.{IfErr, OnOk}
+use Rattle.snmp_io.specs.{Count.HasRisen, Output.FailsWithin, Output.Stream, Output.appended, Output.extended, Streams.extended-nil, Streams.extended-twice, Streams.front_after}
 use Rattle.snmp_words.specs.Words.{texts_at}
-use Rattle.snmp_tools.specs.{Message.Fault, declared.translate.Style.Style}
-use Rattle.snmp_tools.specs.translate.Outcome.{AreNamesPrinted, IsNamePrinted, StopsAtName, StopsWithin}
+use Rattle.snmp_tools.specs.{Message.Fault, Message.fault_of, Message.no_output, Message.outcome_of}
+use Rattle.snmp_tools.specs.{declared.failure.Failure.Failure, declared.translate.Style.Style}
+use Rattle.snmp_tools.specs.translate.Outcome.{AreNamesPrinted, HasNoText, IsPrinting, StopsAtName, StopsWithin}
 use Rattle.snmp_tools.specs.translate.Text.{AreTextsOf, IsTextOf}
-use Rattle.smi_tree.specs.{Tree.Contents}
-use Rattle.snmp_tools.proofs.Texts.{texts-parts}
+use Rattle.smi_tree.specs.Tree.{Contents}
+use Rattle.snmp_tools.proofs.Texts.{texts-more, texts-parts}
+
+-- the output has taken the texts of the names, but for the octets at their end that wait
+abbrev pub IsTakenOrWaits : Contents → Style → (names : List (List ℕ)) → (before now : Stream) → (waiting : List ℕ) → Type 0
+IsTakenOrWaits mib style names before now waiting = (taken : List ℕ) × AreTextsOf mib style names (taken ++ waiting) × (now ≡ extended before taken)
 
 -- the text of one name more
 pub AreTextsOf-more : (mib : Contents) (style : Style) (names : List (List ℕ)) (name text one : List ℕ)
@@ -15,26 +23,172 @@ AreTextsOf-more mib style [] name text one none is = (one, [], is, refl, ap (λ 
 AreTextsOf-more mib style (n ∷ names) name text one (first, rest, here, more, whole) is =
     (first, rest ++ one, here, AreTextsOf-more mib style names name rest one more is, ap (λ (t : List ℕ). t ++ one) whole ∙ append_assoc first rest one)
 
--- one name more is printed
-pub more_printed : (mib : Contents) (style : Style) (names : List (List ℕ)) (name : List ℕ) (before middle after : Stream)
-    → AreNamesPrinted mib style names before middle → IsNamePrinted mib style middle name after → AreNamesPrinted mib style (names ++ name ∷ []) before after
-more_printed mib style names name before middle after (text, texts, is) (one, is_text, is_too) = (
-  text ++ one,
-  AreTextsOf-more mib style names name text one texts is_text,
-  is_too ∙ ap (λ (s : Stream). extended s one) is ∙ extended-twice before text one,
+module _ (mib : Contents) (style : Style) (before now : Stream) where
+  -- the text of one name more waits
+  one_more_waits : (names : List (Bor (List ℕ))) (i : ℕ) (d : Bor (List ℕ)) (waiting one : List ℕ) → i < length names
+      → IsTakenOrWaits mib style (texts_at (take i names)) before now waiting → IsTextOf mib style (get_or names i d).now one
+      → IsTakenOrWaits mib style (texts_at (take (i + 1) names)) before now (waiting ++ one)
+  one_more_waits names i d waiting one inside (taken, texts, is) is_text = (
+    taken,
+    subst (λ (ns : List (List ℕ)). AreTextsOf mib style ns (taken ++ (waiting ++ one))) (sym (texts-more names i d inside))
+        (subst (AreTextsOf mib style (texts_at (take i names) ++ (get_or names i d).now ∷ [])) (append_assoc taken waiting one)
+        (AreTextsOf-more mib style (texts_at (take i names)) (get_or names i d).now (taken ++ waiting) one texts is_text)),
+    is,
+  )
+
+  -- the same, if it was appended to what waited before
+  pub more_waits : (names : List (Bor (List ℕ))) (i : ℕ) (d : Bor (List ℕ)) (old new : List ℕ) → i < length names
+      → IsTakenOrWaits mib style (texts_at (take i names)) before now old
+      → (one : List ℕ) × IsTextOf mib style (get_or names i d).now one × (new ≡ old ++ one)
+      → IsTakenOrWaits mib style (texts_at (take (i + 1) names)) before now new
+  more_waits names i d old new inside waits (one, is_text, whole) =
+      subst (IsTakenOrWaits mib style (texts_at (take (i + 1) names)) before now) (sym whole) (one_more_waits names i d old one inside waits is_text)
+
+  -- what waited is taken too
+  pub waiting_taken : (names : List (List ℕ)) (after : Stream) (waiting : List ℕ) → IsTakenOrWaits mib style names before now waiting
+      → after ≡ extended now waiting → IsTakenOrWaits mib style names before after []
+  waiting_taken names after waiting (taken, texts, is) more = (
+    taken ++ waiting,
+    subst (AreTextsOf mib style names) (sym (append-nil (taken ++ waiting))) texts,
+    more ∙ ap (λ (s : Stream). extended s waiting) is ∙ extended-twice before taken waiting,
+  )
+
+  -- nothing waits
+  none_waits : (names : List (List ℕ)) → IsTakenOrWaits mib style names before now [] → AreNamesPrinted mib style names before now
+  none_waits names (taken, texts, is) = (taken, subst (AreTextsOf mib style names) (append-nil taken) texts, is)
+
+  -- all that came before it is taken, and nothing is printed of this name
+  pub stops_at : (names : List (Bor (List ℕ))) (i : ℕ) (d : Bor (List ℕ)) (why : Fault) → i < length names
+      → IsTakenOrWaits mib style (texts_at (take i names)) before now [] → HasNoText mib (get_or names i d).now why
+      → StopsWithin mib style (texts_at names) before now why
+  stops_at names i d why inside (taken, texts, is) none = record {
+    printed = texts_at (take i names);
+    name = (get_or names i d).now;
+    left = texts_at (drop (i + 1) names);
+    order = texts-parts names i d inside;
+    text = taken;
+    shown = subst (AreTextsOf mib style (texts_at (take i names))) (append-nil taken) texts;
+    stops = inl (none, is);
+  }
+
+-- two ways to cut a text in two: the first part of one way begins with that of the other
+abbrev IsCutTwice : (a b c d : List ℕ) → Type 0
+IsCutTwice a b c d = ((p : List ℕ) × (a ≡ c ++ p)) ⊎ ((p : List ℕ) × (c ≡ a ++ p) × (b ≡ p ++ d) × (0 < length p))
+
+cut_later : (x : ℕ) (a b c d : List ℕ) → IsCutTwice a b c d → IsCutTwice (x ∷ a) b (x ∷ c) d
+cut_later x a b c d (inl (p, e)) = inl (p, ap (λ (t : List ℕ). x ∷ t) e)
+cut_later x a b c d (inr (p, e, f, some)) = inr (p, ap (λ (t : List ℕ). x ∷ t) e, f, some)
+
+cut : (a b c d : List ℕ) → a ++ b ≡ c ++ d → IsCutTwice a b c d
+cut a b [] d h = inl (a, refl)
+cut [] b (y ∷ c) d h = inr (y ∷ c, refl, h, grind (arith, common_steps))
+cut (x ∷ a) b (y ∷ c) d h =
+    subst (λ (z : ℕ). IsCutTwice (x ∷ a) b (z ∷ c) d) (ap (λ (t : List ℕ). get_or t 0 0) h) (cut_later x a b c d (cut a b c d (ap (drop 1) h)))
+
+-- it stops at one of the later names
+later : (mib : Contents) (style : Style) (name : List ℕ) (more : List (List ℕ)) (before after : Stream) (first : List ℕ) (why : Fault)
+    → IsTextOf mib style name first → StopsWithin mib style more (extended before first) after why
+    → StopsWithin mib style (name ∷ more) before after why
+later mib style name more before after first why is stopped = record {
+  printed = name ∷ stopped.printed;
+  name = stopped.name;
+  left = stopped.left;
+  order = ap (λ (ns : List (List ℕ)). name ∷ ns) stopped.order;
+  text = first ++ stopped.text;
+  shown = (first, stopped.text, is, stopped.shown, refl);
+  stops = subst (λ (s : Stream). StopsAtName mib style s stopped.name after why) (extended-twice before first stopped.text) stopped.stops;
+}
+
+-- the output fails within the text of the first name
+at_first : (mib : Contents) (style : Style) (name : List ℕ) (more : List (List ℕ)) (before after : Stream) (first : List ℕ)
+    → IsTextOf mib style name first → FailsWithin before first after → StopsWithin mib style (name ∷ more) before after no_output
+at_first mib style name more before after first is fails = record {
+  printed = [];
+  name = name;
+  left = more;
+  order = refl;
+  text = [];
+  shown = refl;
+  stops = subst (λ (s : Stream). StopsAtName mib style s name after no_output) (sym (extended-nil before)) (inr (refl, (first, is, fails)));
+}
+
+-- the output fails after a first part of the text of the first name, or after one of those of the later names
+fails_by_cut : (before after : Stream) (first rest text : List ℕ) (fails : FailsWithin before text after)
+    → IsCutTwice first rest fails.begun.front fails.begun.rest
+    → FailsWithin before first after ⊎ (FailsWithin (extended before first) rest after × (0 < length rest))
+fails_by_cut before after first rest text fails (inl (p, e)) = inl (record {
+  begun = record { front = fails.begun.front; rest = p; parts = e; taken = fails.begun.taken };
+  counted = fails.counted;
+})
+fails_by_cut before after first rest text fails (inr (p, e, f, some)) = inr (
+  record {
+    begun = record {
+      front = p;
+      rest = fails.begun.rest;
+      parts = f;
+      taken = fails.begun.taken ∙ ap (appended before.taken) e ∙ sym (ap (λ (s : Stream). s.taken) (extended-twice before first p));
+    };
+    counted = fails.counted;
+  },
+  grind (arith, common_steps),
 )
 
--- it stops at the first name that isn't printed
-pub stopped_at : (mib : Contents) (style : Style) (names : List (Bor (List ℕ))) (i : ℕ) (d : Bor (List ℕ)) (before middle after : Stream)
-    (why : Fault)
-    → i < length names → AreNamesPrinted mib style (texts_at (take i names)) before middle → StopsAtName mib style middle (get_or names i d).now after why
-    → StopsWithin mib style (texts_at names) before after why
-stopped_at mib style names i d before middle after why inside (text, texts, is) stops = record {
-  printed = texts_at (take i names);
-  name = (get_or names i d).now;
-  left = texts_at (drop (i + 1) names);
-  order = texts-parts names i d inside;
-  text = text;
-  shown = texts;
-  stops = subst (λ (s : Stream). StopsAtName mib style s (get_or names i d).now after why) is stops;
+-- it stops at the first name or, if it stops at one of the later ones once the first is printed, there
+first_or_later : (mib : Contents) (style : Style) (name : List ℕ) (more : List (List ℕ)) (before after : Stream) (first rest : List ℕ)
+    → IsTextOf mib style name first
+    → (FailsWithin (extended before first) rest after → 0 < length rest → StopsWithin mib style more (extended before first) after no_output)
+    → FailsWithin before first after ⊎ (FailsWithin (extended before first) rest after × (0 < length rest))
+    → StopsWithin mib style (name ∷ more) before after no_output
+first_or_later mib style name more before after first rest is among (inl here) = at_first mib style name more before after first is here
+first_or_later mib style name more before after first rest is among (inr (there, some)) =
+    later mib style name more before after first no_output is (among there some)
+
+-- the output fails within the texts of names: it stops at one of these
+fails_among : (mib : Contents) (style : Style) (names : List (List ℕ)) (text : List ℕ) (before after : Stream) → AreTextsOf mib style names text
+    → 0 < length text → FailsWithin before text after → StopsWithin mib style names before after no_output
+fails_among mib style [] text before after none some fails = let no : ⊥ = grind (arith, common_steps) in absurd no
+fails_among mib style (name ∷ more) text before after (first, rest, is, texts, whole) some fails =
+    first_or_later mib style name more before after first rest is
+    (λ there longer. fails_among mib style more rest (extended before first) after texts longer there)
+    (fails_by_cut before after first rest text fails (cut first rest fails.begun.front fails.begun.rest (sym whole ∙ fails.begun.parts)))
+
+-- the names go on after that
+goes_on : (mib : Contents) (style : Style) (names more : List (List ℕ)) (before after : Stream) (why : Fault)
+    → StopsWithin mib style names before after why → StopsWithin mib style (names ++ more) before after why
+goes_on mib style names more before after why stopped = record {
+  printed = stopped.printed;
+  name = stopped.name;
+  left = stopped.left ++ more;
+  order = ap (λ (ns : List (List ℕ)). ns ++ more) stopped.order ∙ append_assoc stopped.printed (stopped.name ∷ stopped.left) more;
+  text = stopped.text;
+  shown = stopped.shown;
+  stops = stopped.stops;
 }
+
+-- the output fails as it takes what waits of the first i names
+pub fails_within : (mib : Contents) (style : Style) (names : List (Bor (List ℕ))) (i : ℕ) (before now after : Stream) (waiting : List ℕ)
+    → IsTakenOrWaits mib style (texts_at (take i names)) before now waiting → 0 < length waiting → FailsWithin now waiting after
+    → StopsWithin mib style (texts_at names) before after no_output
+fails_within mib style names i before now after waiting (taken, texts, is) some fails =
+    subst (λ (ns : List (List ℕ)). StopsWithin mib style ns before after no_output)
+    (sym (map-append (λ (p : Bor (List ℕ)). p.now) (take i names) (drop i names)) ∙ ap texts_at (take-append-drop i names))
+    (goes_on mib style (texts_at (take i names)) (texts_at (drop i names)) before after no_output
+    (fails_among mib style (texts_at (take i names)) (taken ++ waiting) before after texts (grind (arith, common_steps)) (record {
+      begun = front_after before now after taken waiting is fails.begun;
+      counted = subst (λ (s : Stream). HasRisen s.faults after.faults) is fails.counted;
+    })))
+
+-- all names were read, and what waits is written
+pub all_written : (mib : Contents) (style : Style) (names : List (Bor (List ℕ))) (i : ℕ) (before now after : Stream) (waiting left : List ℕ)
+    (r : Result (Unit {0}) Failure)
+    → take i names ≡ names → IsTakenOrWaits mib style (texts_at (take i names)) before now waiting
+    → OnOk r ((after ≡ extended now waiting) × (left ≡ []))
+    → IfErr r (λ e. (fault_of e ≡ no_output) × (0 < length waiting) × FailsWithin now waiting after)
+    → IsPrinting mib style (texts_at names) before after (outcome_of r)
+all_written mib style names i before now after waiting left (Ok _) all waits written refused =
+    subst (λ (ns : List (Bor (List ℕ))). AreNamesPrinted mib style (texts_at ns) before after) all
+    (none_waits mib style before after (texts_at (take i names))
+    (waiting_taken mib style before now (texts_at (take i names)) after waiting waits written.0))
+all_written mib style names i before now after waiting left (Err e) all waits written refused =
+    subst (StopsWithin mib style (texts_at names) before after) (sym refused.0)
+    (fails_within mib style names i before now after waiting waits refused.1 refused.2)

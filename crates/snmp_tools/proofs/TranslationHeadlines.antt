@@ -35,8 +35,7 @@ front_stopped : (mib : Contents) (style : Style) (names : List (List ℕ)) (befo
     → (stopped : StopsWithin mib style names before after why) → StopsAtName mib style (extended before stopped.text) stopped.name after why
     → IsFront style names before after mib
 front_stopped mib style names before after why stopped (inl (nothing, same)) = grind (arith, common_steps)
-front_stopped mib style names before after why stopped (inr (inl (memory, same))) = grind (arith, common_steps)
-front_stopped mib style names before after why stopped (inr (inr (output, (text, is_text, fails)))) = (
+front_stopped mib style names before after why stopped (inr (output, (text, is_text, fails))) = (
   stopped.printed ++ stopped.name ∷ [],
   stopped.left,
   stopped.text ++ text,

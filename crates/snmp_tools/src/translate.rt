@@ -5,11 +5,13 @@
 //! calls it, and reports what failed.
 ghost use Rattle.snmp_words.specs.Words.{translate_words, texts_at};
 ghost use Rattle.snmp_tools.specs.{Message.outcome_of, translate.Outcome.IsTranslateOutcome};
-ghost use Rattle.snmp_tools.specs.{Message.fault_of, translate.Text.IsShown};
+ghost use Rattle.snmp_tools.specs.{Message.fault_of, Message.no_output};
+ghost use Rattle.snmp_tools.specs.{translate.Text.IsShown, translate.Text.IsTextOf};
 ghost use Rattle.snmp_tools.specs.{translate.Refusal.TranslationFails};
-ghost use Rattle.std.specs.Prelude.{◌≡◌, IfErr, IfOk, OnOk, None, Some};
-ghost use Rattle.snmp_tools.specs.translate.Outcome.{IsNamePrinted, IsPrinting, StopsAtName};
-ghost use Rattle.snmp_io.specs.Files.{Holdings};
+ghost use Rattle.std.specs.Prelude.{◌≡◌, ◌++◌, ◌<◌, ℕ, List, [], length};
+ghost use Rattle.std.specs.Prelude.{IfErr, IfOk, OnErr, OnOk, None, Some};
+ghost use Rattle.snmp_tools.specs.translate.Outcome.{HasNoText, IsPrinting};
+ghost use Rattle.snmp_io.specs.{Files.Holdings, Output.FailsWithin, Output.extended};
 ghost use Rattle.smi_value.specs.Letters.{has_letter};
 ghost use Rattle.snmp_tools.specs.translate.Style.{IsStyleOf, first_other_of_t};
 
@@ -17,11 +19,10 @@ use crate::failure::Failure;
 use crate::load::ModuleLoader;
 use crate::messages::Messages;
 use crate::names::read_name;
-use crate::run::print_text;
 use smi_show::{detail, name_text};
 use smi_tree::Tree;
 use smi_value::Letters;
-use snmp_io::Output;
+use snmp_io::{Output, write_all};
 use snmp_oid::Oid;
 use snmp_words::TranslateJob;
 use std::alloc::{AllocError, Global};
@@ -91,6 +92,9 @@ fn asks_details(text: &[u8]) -> Result<bool, u8>
 }
 
 /// Prints names in order, and stops at the first that has no meaning.
+///
+/// The lines are written together, once there are `ENOUGH_WAITING` octets of them: a write for each
+/// takes more time than all else of a name. Before it returns, all lines are written.
 pub(crate) fn print_names<'a, O: Output>(
     alloc: Global,
     tree: &Tree,
@@ -103,41 +107,68 @@ pub(crate) fn print_names<'a, O: Output>(
 {
     // One identifier for all names: to move it takes as long as to read a name.
     let mut oid = Oid::new();
+    let mut lines = Vec::new(alloc);
     'names: for name in names {
-        print_name(alloc, tree, style, name, &mut oid, out)?;
+        if let Err(failure) = append_name(tree, style, name, &mut oid, &mut lines) {
+            write_waiting(&mut lines, out)?;
+            return Err(failure);
+        }
+        if lines.len() >= ENOUGH_WAITING {
+            write_waiting(&mut lines, out)?;
+        }
     }
-    Ok(())
+    write_waiting(&mut lines, out)
 }
 
-// Prints a name, which is read into the identifier that is there.
-fn print_name<'a, O: Output>(
-    alloc: Global,
+/// The number of octets from which waiting lines are written.
+const ENOUGH_WAITING: usize = 60_000;
+
+/// Appends what is printed of a name, which is read into an existing identifier.
+fn append_name<'a>(
     tree: &Tree,
     style: Style,
     name: &'a str,
     oid: &mut Oid,
-    out: &mut O,
+    lines: &mut Vec<u8>,
 ) -> Result<(), Failure<'a>>
-    ensures printed { OnOk result (IsNamePrinted tree.now style (O.stream out.old) name.entry.now
-        (O.stream out.new)) }
-    ensures stopped { IfErr result (λ e. StopsAtName tree.now style (O.stream out.old)
-        name.entry.now (O.stream out.new) (fault_of e)) }
+    ensures appended { OnOk result ((text : List ℕ) × IsTextOf tree.now style name.entry.now text
+        × (lines.new.items ≡ lines.old.items ++ text)) }
+    ensures refused { IfErr result (λ e. HasNoText tree.now name.entry.now (fault_of e)) }
+    ensures unchanged_on_error { OnErr result (lines.new.items ≡ lines.old.items) }
 {
     read_name(tree, name, oid)?;
-    let text = shown(alloc, tree, style, oid)?;
-    print_text(&text, out)
+    append_shown(tree, style, oid, lines)?;
+    Ok(())
 }
 
-// What is printed of an identifier: its name and a newline, or its details.
-fn shown(alloc: Global, tree: &Tree, style: Style, oid: &Oid) -> Result<Vec<u8>, AllocError>
-    ensures { IfOk result (λ text. IsShown tree.now style oid.now text.items) }
+/// Appends what is printed of an identifier: its name and a newline, or its details.
+fn append_shown(tree: &Tree, style: Style, oid: &Oid, lines: &mut Vec<u8>) -> Result<(), AllocError>
+    ensures appended { OnOk result ((text : List ℕ) × IsShown tree.now style oid.now text
+        × (lines.new.items ≡ lines.old.items ++ text)) }
+    ensures unchanged_on_error { OnErr result (lines.new.items ≡ lines.old.items) }
 {
-    let mut text = Vec::new(alloc);
     if style.details {
-        detail(tree, &style.letters, oid, &mut text)?;
-    } else {
-        name_text(tree, &style.letters, oid, &mut text)?;
-        text.push(b'\n')?;
+        return detail(tree, &style.letters, oid, lines);
     }
-    Ok(text)
+    let before = lines.len();
+    name_text(tree, &style.letters, oid, lines)?;
+    if let Err(error) = lines.push(b'\n') {
+        lines.truncate(before);
+        return Err(error.into());
+    }
+    Ok(())
+}
+
+/// Writes the waiting lines, and empties their buffer.
+fn write_waiting<'a, O: Output>(lines: &mut Vec<u8>, out: &mut O) -> Result<(), Failure<'a>>
+    ensures written { OnOk result ((O.stream out.new ≡ extended (O.stream out.old) lines.old.items)
+        × (lines.new.items ≡ [])) }
+    ensures refused { IfErr result (λ e. (fault_of e ≡ no_output) × (0 < length lines.old.items)
+        × FailsWithin (O.stream out.old) lines.old.items (O.stream out.new)) }
+{
+    if !lines.is_empty() {
+        write_all(out, lines.as_slice()).map_err(|_| Failure::Output)?;
+        lines.clear();
+    }
+    Ok(())
 }

@@ -29,11 +29,17 @@ impl Files for OneText<'_> {
     }
 }
 
-/// An output that counts the octets that it accepts.
+/// An output that counts the octets that it accepts, and its writes.
 #[derive(Drop)]
 struct Counter {
     octets: usize,
+    writes: usize,
 }
+
+const UNUSED: Counter = Counter {
+    octets: 0,
+    writes: 0,
+};
 
 impl Output for Counter {
     ghost stream = { λ _. record { taken = None; faults = 0 } };
@@ -42,6 +48,7 @@ impl Output for Counter {
 
     fn write(&mut self, piece: &[u8]) -> Result<usize, OutputFault> {
         self.octets = self.octets.saturating_add(piece.len());
+        self.writes = self.writes.saturating_add(1);
         Ok(piece.len())
     }
 
@@ -61,7 +68,7 @@ fn files_and_outputs_may_be_a_callers_own(rt: HostRuntime) {
         asked: &asked,
     };
     let mut links = MemoryLinks::new(alloc, &[], &[]);
-    let (mut out, mut err) = (Counter { octets: 0 }, Counter { octets: 0 });
+    let (mut out, mut err) = (UNUSED, UNUSED);
     let words = [
         "snmp",
         "snmpwalk",
@@ -72,4 +79,22 @@ fn files_and_outputs_may_be_a_callers_own(rt: HostRuntime) {
     assert!(rt; tool(alloc, &words, &files, &mut links, &mut out, &mut err) == 0);
     assert!(rt; out.octets == THREE_LINES.len() && err.octets == 0);
     assert!(rt; asked.get() == 1);
+}
+
+#[test]
+fn lines_of_names_are_written_together(rt: HostRuntime) {
+    let alloc = rt.alloc();
+    let asked = Cell::new(0);
+    let files = OneText {
+        text: b"",
+        asked: &asked,
+    };
+    let mut links = MemoryLinks::new(alloc, &[], &[]);
+    let (mut out, mut err) = (UNUSED, UNUSED);
+    let good = ["snmp", "snmptranslate", "iso.3", "iso"];
+    assert!(rt; tool(alloc, &good, &files, &mut links, &mut out, &mut err) == 0);
+    assert!(rt; out.octets == b"iso.3\niso\n".len() && out.writes == 1);
+    let bad = ["snmp", "snmptranslate", "iso.3", "iso", "nosuch", "iso"];
+    assert!(rt; tool(alloc, &bad, &files, &mut links, &mut out, &mut err) == 1);
+    assert!(rt; out.octets == 2 * b"iso.3\niso\n".len() && out.writes == 2);
 }

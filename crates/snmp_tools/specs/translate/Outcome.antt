@@ -10,15 +10,17 @@ use Rattle.snmp_tools.specs.Message.{Fault, no_output, out_of_memory}
 use Rattle.snmp_tools.specs.translate.Text.{AreTextsOf, IsTextOf}
 use Rattle.snmp_tools.specs.declared.translate.Style.{Style}
 
--- A name isn't printed: it has no meaning, or memory for its text ran out. Or only a front of its
--- text is: the output failed.
+-- nothing is printed of a name: it has no meaning, or memory for its text ran out
+abbrev pub HasNoText : Contents → (name : List ℕ) → Fault → Type 0
+HasNoText mib name why = NameFails mib name why ⊎ (why ≡ out_of_memory)
+
+-- Nothing is printed of a name. Or the output failed, and only a prefix of its text is printed.
 abbrev pub StopsAtName : Contents → Style → (before : Stream) → (name : List ℕ)
     → (after : Stream) → Fault → Type 0
 StopsAtName mib style before name after why =
-    (NameFails mib name why × (after ≡ before))
-    ⊎ (((why ≡ out_of_memory) × (after ≡ before))
+    (HasNoText mib name why × (after ≡ before))
     ⊎ ((why ≡ no_output)
-    × ((text : List ℕ) × IsTextOf mib style name text × FailsWithin before text after)))
+    × ((text : List ℕ) × IsTextOf mib style name text × FailsWithin before text after))
 
 -- the names up to this one were printed, and there it stopped
 pub record StopsWithin (mib : Contents) (style : Style) (names : List (List ℕ))
@@ -55,11 +57,3 @@ pub data IsTranslateOutcome (Loads : LoadFacts) (words : TranslateWords) (files 
       → Loads words.mibs err_before err_after
       → IsPrinting tree style words.names before after fault
       → IsTranslateOutcome Loads words files before after err_before err_after fault
-
--- ---- for private functions
-
--- the name is printed
-abbrev pub IsNamePrinted : Contents → Style → (before : Stream) → (name : List ℕ)
-    → (after : Stream) → Type 0
-IsNamePrinted mib style before name after =
-    (text : List ℕ) × IsTextOf mib style name text × (after ≡ extended before text)

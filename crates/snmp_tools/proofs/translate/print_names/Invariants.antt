@@ -1,9 +1,8 @@
 use Rattle.std.proofs.Common.{take}
 use Rattle.snmp_words.specs.Words.{texts_at}
-use Rattle.snmp_tools.specs.translate.Outcome.{AreNamesPrinted}
+use Rattle.snmp_tools.proofs.Printing.{IsTakenOrWaits}
 use Rattle.snmp_tools.proofs.translate.print_names.Given as goal
 
 abbrev pub invariant-names : goal.invariant-names
 invariant-names g l =
-    AreNamesPrinted l.tree l.style
-    (texts_at (take l.name-index l.names)) (g.O.Output.stream l.initial.out) (g.O.Output.stream l.out)
+    IsTakenOrWaits l.tree l.style (texts_at (take l.name-index l.names)) (g.O.Output.stream l.initial.out) (g.O.Output.stream l.out) l.lines.items
