@@ -33,7 +33,7 @@ impl<'t> Model for LineWriter<'t> {
 
     ghost view = { λ w. w.tree.now };
 
-    // If `found.below` is an identifier, `found` is what the tree finds for each name below it.
+    // If `below` in `found` is an identifier, `found` is what the tree finds for each name below it.
     ghost invariant = { λ w. IsFoundBelow w.tree.now w.found };
 }
 
