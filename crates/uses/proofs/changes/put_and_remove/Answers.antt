@@ -1,4 +1,4 @@
-use Rattle.std.proofs.Common.{◌≡◌, ◌∙◌, ap, subst, sym}
+use Rattle.std.proofs.Common.{◌∙◌, ap, subst, sym}
 use Rattle.snmp_wire.specs.Message.{VarBind, datum}
 use Rattle.snmp_agent.specs.table.Table.{IsGet, MibView, without_row}
 use Rattle.uses.proofs.changes.put_and_remove.Goals as goal

@@ -1,5 +1,5 @@
-use Rattle.std.proofs.Common.{◌≡◌, ◌≤◌, ◌∷◌, [], List, ℕ, length, arith, refl, sym, subst}
-use Rattle.snmp_wire.specs.{Canon.canon, Canon.canon_bindings, Canon.canon_head, Message.Message, Name.asking}
+use Rattle.std.proofs.Common.{◌≤◌, ◌∷◌, [], List, ℕ, length, arith, refl, sym, subst}
+use Rattle.snmp_wire.specs.{Canon.canon, Canon.canon_bindings, Message.Message, Name.asking}
 use Rattle.uses.specs.Changes.{get_of}
 use Rattle.uses.proofs.changes.write_get.Goals as goal
 

@@ -1,4 +1,4 @@
-use Rattle.std.proofs.Common.{◌≡◌, ◌∷◌, [], List, refl}
+use Rattle.std.proofs.Common.{◌≡◌, ◌∷◌, [], refl}
 use Rattle.std.proofs.lemmas.Result.{IfOk-weaker}
 use Rattle.snmp_agent.specs.table.Table.{MibView}
 use Rattle.snmp_walk.specs.{Link.Agents, Link.AreLawful, Memory.agents_over, Ran.HasHappened, declared.end.WalkEnd.WalkEnd}

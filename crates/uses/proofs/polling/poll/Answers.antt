@@ -1,6 +1,5 @@
-use Rattle.std.proofs.Common.{arith, ◌≡◌, ◌≤◌, ◌+◌, ℕ, List, length, sym, ap, subst}
+use Rattle.std.proofs.Common.{arith, ◌≡◌, ◌≤◌, ◌+◌, ℕ, length, sym, ap, subst}
 use Rattle.snmp_walk.specs.declared.mode.Mode.{Mode}
-use Rattle.snmp_walk.specs.declared.mode.Mode.TheVariants as mode
 use Rattle.snmp_walk.specs.{Facts.gets, Ran.IsHonestFrom, Walker.Walker}
 use Rattle.uses.proofs.PolledLemmas.{polled}
 use Rattle.uses.proofs.polling.poll.Goals as goal

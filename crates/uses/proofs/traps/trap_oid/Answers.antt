@@ -1,7 +1,7 @@
-use Rattle.std.proofs.Common.{◌≡◌, List, ℕ, Option, Some, None, subst}
+use Rattle.std.proofs.Common.{◌≡◌, Option, Some, None, subst}
 use Rattle.std.specs.Option.{IfNone}
 use Rattle.snmp_wire.specs.Message.{Message}
-use Rattle.uses.specs.Traps.{IsTrap, IsTrapMessage}
+use Rattle.uses.specs.Traps.{IsTrapMessage}
 use Rattle.uses.proofs.traps.trap_oid.Goals as goal
 
 weaker : {X : Type 0} (o : Option X) (P Q : Type 0) → (P → Q) → IfNone o P → IfNone o Q
