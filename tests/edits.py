@@ -2,14 +2,15 @@
 """Tries the edits of tests/edits, each of which makes a crate wrong: the proofs must refuse it. The gate itself tries
 the most telling ones, those of crates/NAME/must-fail, and asks whether the others were tried over what stands here.
 
-usage: edits.py [CRATE..]
+usage: edits.py [--seconds N] [CRATE..]
        edits.py --stale
 
 The edits of a crate are tried in a copy of the repository, in place of the gate's, over what `rt check` kept of it:
 so check the crate first. Each takes a processor 10 to 60 seconds, those of large crates most. Where all of a crate's
 were refused, its line in tests/edits/tried.txt has the hash of what they were tried over: its sources, definitions,
 proofs and edits, and the definitions of all crates below it, all without comments, and the toolchain that README.md
-names. Where one wasn't, the crate has no line. The last line is 'N passed, M failed, 0 skipped'.
+names. Where one wasn't, the crate has no line. The last line is 'N passed, M failed, K skipped'. With --seconds, the
+tries end after that time, and what wasn't tried by then is skipped.
 
 The copy is a folder `.edits-..` beside the checkout, of second names of its files (hard links): so the folder above the
 checkout must be writable, and of the same file system. What is written in place in a file of one is written in the
@@ -22,9 +23,11 @@ import hashlib
 import os
 import re
 import shutil
+import signal
 import subprocess
 import sys
 import tempfile
+import threading
 
 TOP = os.path.dirname(os.path.dirname(os.path.abspath(__file__)))
 EDITS = os.path.join("tests", "edits")
@@ -37,6 +40,8 @@ IMPORT = re.compile(rb"(\b(?:ghost |pub |unfoldable )*use Rattle\.[\w.+]+\.)\{([
 NO_LINE = "it has no line"
 STALE = "it isn't what its edits were tried over"
 REFUSED = re.compile(r"rt: must-fail (\w+)/(\w+)\.edit: refused, as it must be(: .*)?\n?")
+# What begins each verdict.
+VERDICT = re.compile(r"rt: must-fail (\w+)/(\w+)\.edit: ")
 
 
 def at(path):
@@ -183,9 +188,16 @@ def refused_by(line):
     return None if not verdict or "only because a proof file names" in line else verdict.groups()[:2]
 
 
-def refused(crates):
-    """Tries the edits of these crates, and returns those that were refused, each with its crate."""
-    found, above = set(), os.path.dirname(TOP)
+def ends(tries, over):
+    """Ends the tries, and notes that their time is over."""
+    over.set()
+    os.killpg(tries.pid, signal.SIGTERM)
+
+
+def refused(crates, seconds):
+    """Tries the edits of these crates. Returns those that were refused, each with its crate; and if the time was over
+    before the last verdict, those of which there is a verdict, else None."""
+    found, judged, over, above = set(), set(), threading.Event(), os.path.dirname(TOP)
     try:
         # Beside the checkout, so that files can have a second name there.
         place = tempfile.TemporaryDirectory(prefix=".edits-", dir=above)
@@ -200,39 +212,53 @@ def refused(crates):
         try:
             # Anew, since those that this machine tried before would have no line.
             words = ["rt", "must-fail", "--anew", *crates]
-            tries = subprocess.Popen(words, cwd=room, stdout=subprocess.PIPE, text=True)
+            tries = subprocess.Popen(words, cwd=room, stdout=subprocess.PIPE, text=True, start_new_session=True)
         except FileNotFoundError:
             sys.exit("edits.py: the command rt, which tries the edits, isn't on PATH")
+        clock = threading.Timer(seconds, ends, (tries, over))
         with tries:
+            clock.start()
             for line in tries.stdout:
                 print(line, end="", flush=True)
                 found.add(refused_by(line))
-    return found
+                verdict = VERDICT.match(line)
+                judged.add(verdict and verdict.groups())
+        clock.cancel()
+    return found, judged if over.is_set() else None
 
 
 def main(names):
     of = edits_of_crates()
     if names == ["--stale"]:
         return say_stale(of)
+    seconds = threading.TIMEOUT_MAX
+    if names[:1] == ["--seconds"]:
+        seconds, names = float(names[1]), names[2:]
     unknown = [name for name in names if name not in of]
     if unknown:
         sys.exit(f"edits.py: no edits of {unknown[0]}; there are some of {' '.join(of)}")
     crates = names or list(of)
     before = {crate: hash_of(crate) for crate in crates}
-    found = refused(crates)
+    found, judged = refused(crates, seconds)
     left = {crate: [edit for edit in of[crate] if (crate, edit) not in found] for crate in crates}
+    untried = set() if judged is None else {(crate, edit) for crate in crates for edit in left[crate]} - judged
     # What has changed since it was copied was tried in part at most.
     passed = {crate: before[crate] for crate in crates
               if of[crate] and not left[crate] and hash_of(crate) == before[crate]}
     write_tried({crate: value for crate, value in tried().items() if crate not in crates} | passed)
     for crate in crates:
         for edit in sorted(left[crate]):
-            print(f"FAILED: {crate}/{edit}.edit isn't refused")
+            if (crate, edit) not in untried:
+                print(f"FAILED: {crate}/{edit}.edit isn't refused")
         if not left[crate] and crate not in passed:
             print(f"{crate}: {'no edits' if not of[crate] else 'it was changed meanwhile'}, so it has no line")
-    failed = sum(map(len, left.values()))
-    print(f"{sum(len(of[crate]) for crate in crates) - failed} passed, {failed} failed, 0 skipped")
-    return 1 if failed or len(passed) < len(crates) else 0
+    if untried:
+        late = " ".join(sorted({crate for crate, _ in untried}))
+        print(f"not tried: {len(untried)} edits of {late}: the time was over", file=sys.stderr)
+    failed = sum(map(len, left.values())) - len(untried)
+    count = sum(len(of[crate]) for crate in crates)
+    print(f"{count - failed - len(untried)} passed, {failed} failed, {len(untried)} skipped")
+    return 1 if failed or not untried and len(passed) < len(crates) else 0
 
 
 if __name__ == "__main__":

@@ -305,7 +305,8 @@ untried() {
 }
 untried 2 'echo "7 passed, 0 failed, 0 skipped"'
 gate >"$got/last"
-same 'edits that were not tried over what stands here are tried' 'mid low' "$(grep -x 'mid low' "$CALLS")"
+same 'edits that were not tried over what stands here are tried for an hour' '--seconds 3600 mid low' \
+    "$(grep -x -e '--seconds 3600 mid low' "$CALLS")"
 same 'edits that are tried and refused' '0 26 passed, 0 failed, 0 skipped' "$(gate)"
 untried 2 'echo "6 passed, 1 failed, 0 skipped"; exit 1'
 same 'edits that are tried and proved' '1 FAILED: tests/edits.py: status 1, and 1 tests failed' \
@@ -431,6 +432,19 @@ says 'an edit that is proved' 'rt: must-fail mid/one.edit: NOT REFUSED: proved'
 says 'an edit that is refused for a name alone' \
     'rt: must-fail mid/one.edit: refused, as it must be: only because a proof file names it'
 no_line 'an edit that was not refused leaves no line' mid 'it has no line'
+# late SAYS LAST: what is said of two edits whose time ends after this verdict.
+late() {
+    echo "$1" >"$SAYS"
+    RT_DOES='[ "$1" != must-fail ] || { cat "$SAYS"; exec sleep 60; }' \
+        in_tree tests/edits.py --seconds 0.5 >"$got/out"
+    same "the time ends after: $1" "$2" "$? $(tail -n 2 "$got/out" | paste -sd ' ')"
+}
+edited
+late 'rt: must-fail low/one.edit: refused, as it must be: note' \
+    '0 not tried: 1 edits of mid: the time was over 1 passed, 0 failed, 1 skipped'
+no_line 'an edit for which there was no time leaves no line' mid 'it has no line'
+late 'rt: must-fail low/one.edit: NOT REFUSED: proved' \
+    '1 not tried: 1 edits of mid: the time was over 0 passed, 1 failed, 1 skipped'
 edited
 RT_DOES='echo more >>"$HERE/crates/mid/src/lib.rt"' HERE=$tree in_tree tests/edits.py >"$got/out"
 same 'a crate that is changed while its edits are tried' "1 mid: it was changed meanwhile, so it has no line" \
