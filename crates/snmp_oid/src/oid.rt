@@ -187,10 +187,11 @@ impl Oid {
     }
 
     /// Returns whether the identifier begins with these numbers and is longer.
+    #[tactic(auto, using(std::proofs::lemmas::Grind::common_steps, crate::proofs::IdentifierLemmas::fronts))]
     pub fn is_below_numbers(&self, root: &[u32]) -> bool
         ensures { IsTrue result ↔ IsBelow self.now root.now }
     {
-        are_below(self.as_slice(), root)
+        self.len() > root.len() && compare_numbers(&self.as_slice()[..root.len()], root).is_eq()
     }
 
     /// Returns whether the identifier has an encoding (X.690, 8.19.4): at least two numbers, the
@@ -233,14 +234,6 @@ impl Oid {
             Err(_) => unreachable!(),
         }
     }
-}
-
-/// Returns whether `numbers` begin with `root` and are more.
-#[tactic(auto, using(std::proofs::lemmas::Grind::common_steps, crate::proofs::IdentifierLemmas::fronts))]
-pub(crate) fn are_below(numbers: &[u32], root: &[u32]) -> bool
-    ensures { IsTrue result ↔ IsBelow numbers.now root.now }
-{
-    numbers.len() > root.len() && compare_numbers(&numbers[..root.len()], root).is_eq()
 }
 
 /// `<`, `==` and `cmp` of identifiers follow the standard's order: a proper prefix comes first,

@@ -1,9 +1,8 @@
 //! An object identifier on the heap, for lists of many.
-ghost use Rattle.std.specs.Prelude.{◌≡◌, ◌+◌, ◌≤◌, ◌++◌, ◌↔◌, length, IfOk, IsTrue};
-ghost use Rattle.snmp_oid.specs.Identifier.{IsBelow, IsIdentifier};
+ghost use Rattle.std.specs.Prelude.{◌≡◌, ◌+◌, ◌≤◌, ◌++◌, length, IfOk};
+ghost use Rattle.snmp_oid.specs.Identifier.{IsIdentifier};
 
 use crate::Oid;
-use crate::oid::are_below;
 use std::alloc::{AllocError, Global};
 use std::marker::Model;
 
@@ -53,13 +52,6 @@ impl StoredOid {
     {
         let numbers = self.numbers.as_slice();
         numbers
-    }
-
-    /// Returns whether the identifier begins with `root` and is longer.
-    pub fn is_below(&self, root: &Oid) -> bool
-        ensures { IsTrue result ↔ IsBelow self.now root.now }
-    {
-        are_below(self.as_slice(), root.as_slice())
     }
 
     /// Returns the identifier, which takes no memory of its own.

@@ -1,9 +1,11 @@
 -- Names are printed one after the other, together: what the output took of them, and what waits (`IsTakenOrWaits`).
-use Rattle.std.proofs.Common.{arith, ◌≡◌, ◌⊎◌, ◌∙◌, ◌++◌, ◌+◌, ◌<◌, ap, inl, inr, refl, sym, subst, ℕ, List, [], ◌∷◌, Bor, Result, Ok, Err, take, drop, length, get_or}
+use Rattle.std.proofs.Common.{arith, ◌≡◌, ◌⊎◌, ◌∙◌, ◌++◌, ◌+◌, ◌<◌, ap, inl, inr, refl, sym, subst, ℕ, List, [], ◌∷◌, Bor, Result, Ok, Err}
+use Rattle.std.proofs.Common.{take, drop, length, get_or}
 use Rattle.std.proofs.Common.{append_assoc, append-nil}
 use Rattle.std.proofs.{lemmas.Grind.common_steps, lemmas.List.map-append, lemmas.List.take-append-drop}
 use Rattle.std.specs.Prelude.{IfErr, OnOk}
-use Rattle.snmp_io.specs.{Count.HasRisen, Output.FailsWithin, Output.Stream, Output.appended, Output.extended, Streams.extended-nil, Streams.extended-twice, Streams.front_after}
+use Rattle.snmp_io.specs.{Count.HasRisen, Output.FailsWithin, Output.Stream, Output.appended, Output.extended}
+use Rattle.snmp_io.specs.Streams.{extended-nil, extended-twice, front_after}
 use Rattle.snmp_words.specs.Words.{texts_at}
 use Rattle.snmp_tools.specs.{Message.Fault, Message.fault_of, Message.no_output, Message.outcome_of}
 use Rattle.snmp_tools.specs.{declared.failure.Failure.Failure, declared.translate.Style.Style}

@@ -21,7 +21,8 @@ by_tree : OneList → (words : TranslateWords) (files : Holdings) (style : Style
     → Printed tree → IsByTree modules Printed
 by_tree one words files style modules tree err_before err_after Printed asked loaded printed = grind (arith, common_steps)
 
-pub all_printed : OneList → (Loads : LoadFacts) (words : TranslateWords) (files : Holdings) (before after err_before err_after : Stream) (fault : Option Fault) → fault ≡ None
+pub all_printed : OneList → (Loads : LoadFacts) (words : TranslateWords) (files : Holdings)
+    (before after err_before err_after : Stream) (fault : Option Fault) → fault ≡ None
     → IsTranslateOutcome Loads words files before after err_before err_after fault → PrintsAll words files before after
 all_printed one Loads words files before after err_before err_after fault none (refused why refusal same same_too is) style modules asked =
     grind (arith, common_steps)
@@ -54,7 +55,8 @@ front_printing : (mib : Contents) (style : Style) (names : List (List ℕ)) (bef
 front_printing mib style names before after None printed = front_whole mib style names before after printed
 front_printing mib style names before after (Some why) stopped = front_stopped mib style names before after why stopped stopped.stops
 
-pub front_printed : OneList → (Loads : LoadFacts) (words : TranslateWords) (files : Holdings) (before after err_before err_after : Stream) (fault : Option Fault)
+pub front_printed : OneList → (Loads : LoadFacts) (words : TranslateWords) (files : Holdings)
+    (before after err_before err_after : Stream) (fault : Option Fault)
     → IsTranslateOutcome Loads words files before after err_before err_after fault → PrintsFront words files before after
 front_printed one Loads words files before after err_before err_after fault (refused why refusal same same_too is) style modules asked = inl same
 front_printed one Loads words files before after err_before err_after fault (ran own tree styled loaded made printing) style modules asked =

@@ -10,8 +10,8 @@ use Rattle.snmp_walk.specs.{Facts.IsDone, Link.OneOf, Ordered.AreOrdered, Ran.Ha
 use Rattle.snmp_walk.specs.Walk.{rows_below}
 use Rattle.uses.specs.declared.subtrees.Subtree.{Subtree}
 
--- The rows are the table's instances below the root, each once and in order: all of them if the poll
--- is done, and otherwise the first of them.
+-- The rows are the table's instances below the root, each once and in order: all of them if the
+-- poll is done, and otherwise the first of them.
 pub record IsPolled (view : MibView) (root : List ℕ) (end : WalkEnd) (rows : List VarBind)
     : Type 0 where
   -- each row is an instance of the table below the root,

@@ -118,8 +118,8 @@ pub fn poll_twice<L: Link>(
     }
 }
 
-/// A law, as a call that does nothing: the rows of a table below a root are the instances there, and
-/// a beginning of them is a poll.
+/// A law, as a call that does nothing: a prefix of the rows of a table below a root is what a poll
+/// collects (`IsPolled`).
 fn beginnings_are_polled()
     ensures { AreBeginningsPolled }
 {

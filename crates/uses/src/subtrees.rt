@@ -20,12 +20,12 @@ pub struct Subtree {
 
 /// Collects the instances below each of the roots, one subtree after the other over one link.
 ///
-/// A poll that fails doesn't stop those after it: each subtree says how its poll ended. Ids continue
-/// from poll to poll; after the greatest id they begin with 1 again.
+/// A poll that fails doesn't stop those after it: each subtree says how its poll ended. Ids
+/// continue from poll to poll; after the greatest id they begin with 1 again.
 ///
-/// The link may be a socket, of which nothing is promised. If all that arrived in a poll are replies
-/// of an agent to what was sent, the rows are those of the agent's table (`ArePolledInTurn`). A
-/// caller opens it through the network of `rt`:
+/// The link may be a socket, of which nothing is promised. If all that arrived in a poll are
+/// replies of an agent to what was sent, the rows are those of the agent's table
+/// (`ArePolledInTurn`). A caller opens it through the network of `rt`:
 ///
 /// ```
 /// let mut link = UdpLink::open(&rt, "192.0.2.1", 161, 1)?;

@@ -23,7 +23,8 @@ names-preserved g c =
       | then-len-ge-ENOUGH_WAITING+in_ok-write_waiting-2 w ↦
           let written = w.in_ok-write_waiting-2.ensures.written in
           rw (w.out-is, w.lines-is, written.1)
-          (waiting_taken mib c.args.style before now (texts_at (take (c.names.name-index + 1) c.args.names.now)) _ c.append_name.new.lines.items more written.0)
+          (waiting_taken mib c.args.style before now (texts_at (take (c.names.name-index + 1) c.args.names.now))
+          _ c.append_name.new.lines.items more written.0)
       | else-len-ge-ENOUGH_WAITING w ↦ rw (w.out-is, w.lines-is) more
     ]
 

@@ -30,9 +30,11 @@ roots-preserved g c =
     let one : IsPolledOver g.L.Link c.roots.link root subtree c.poll-end.new.link =
     record { root_is = c.copy-in-roots.ensures; rising = c.poll-end.ensures.rising; happened = happened } in
     let roots : take (c.roots.root-index + 1) c.args.roots.now ≡ take c.roots.root-index c.args.roots.now ++ root ∷ [] =
-    take_more c.args.roots.now c.roots.root-index root c.roots-test.true ∙ ap (λ (r : List ℕ). take c.roots.root-index c.args.roots.now ++ r ∷ []) (sym c.root-item.is) in (
+    take_more c.args.roots.now c.roots.root-index root c.roots-test.true
+    ∙ ap (λ (r : List ℕ). take c.roots.root-index c.args.roots.now ++ r ∷ []) (sym c.root-item.is) in (
       subst (λ (rs : List (List ℕ)). ArePolledInTurn g.L.Link c.args.link.now rs c.push.new.self.items c.poll-end.new.link) (sym roots)
-          (subst (λ (ss : List Subtree). ArePolledInTurn g.L.Link c.args.link.now (take c.roots.root-index c.args.roots.now ++ root ∷ []) ss c.poll-end.new.link)
+          (subst (λ (ss : List Subtree).
+          ArePolledInTurn g.L.Link c.args.link.now (take c.roots.root-index c.args.roots.now ++ root ∷ []) ss c.poll-end.new.link)
           (sym c.in_ok-push.ensures.items)
           (one_more g.L.Link (take c.roots.root-index c.args.roots.now) c.roots.subtrees.items root subtree c.args.link.now c.roots.link c.poll-end.new.link
           c.roots.invariant.0 one)),
