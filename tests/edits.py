@@ -188,10 +188,25 @@ def refused_by(line):
     return None if not verdict or "only because a proof file names" in line else verdict.groups()[:2]
 
 
-def ends(tries, over):
-    """Ends the tries, and notes that their time is over."""
+def end(tries, over):
+    """Ends the tries and what they started, and notes that their time is over."""
     over.set()
     os.killpg(tries.pid, signal.SIGTERM)
+
+
+def start(words, room):
+    """Starts the tries in a group of their own, which a signal to this script ends too. Each verdict is written at
+    once."""
+    tries = subprocess.Popen(words, cwd=room, stdout=subprocess.PIPE, text=True, start_new_session=True,
+                             env={**os.environ, "PYTHONUNBUFFERED": "1"})
+
+    def stop(number, _frame):
+        os.killpg(tries.pid, signal.SIGTERM)
+        sys.exit(128 + number)
+
+    for number in signal.SIGINT, signal.SIGTERM, signal.SIGHUP:
+        signal.signal(number, stop)
+    return tries
 
 
 def refused(crates, seconds):
@@ -212,12 +227,13 @@ def refused(crates, seconds):
         try:
             # Anew, since those that this machine tried before would have no line.
             words = ["rt", "must-fail", "--anew", *crates]
-            tries = subprocess.Popen(words, cwd=room, stdout=subprocess.PIPE, text=True, start_new_session=True)
+            tries = start(words, room)
         except FileNotFoundError:
             sys.exit("edits.py: the command rt, which tries the edits, isn't on PATH")
-        clock = threading.Timer(seconds, ends, (tries, over))
+        clock = threading.Timer(seconds, end, (tries, over))
+        clock.daemon = True
+        clock.start()
         with tries:
-            clock.start()
             for line in tries.stdout:
                 print(line, end="", flush=True)
                 found.add(refused_by(line))
