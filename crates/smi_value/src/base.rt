@@ -1,6 +1,6 @@
-//! The types that a syntax may narrow (RFC 2578, section 7.1).
+//! The types of values that the syntax of an object affects (RFC 2578, section 7.1).
 
-/// The type of an object's values, as far as they are shown by its syntax.
+/// The type of an object's values. The syntax of the object applies to values of this type only.
 #[derive(Clone, Copy, Debug, PartialEq, Eq)]
 pub enum ValueBase {
     /// INTEGER and Integer32.
@@ -17,7 +17,7 @@ pub enum ValueBase {
     TimeTicks,
     /// Counter64.
     Counter64,
-    /// Any other type, whose values are shown in one way.
+    /// Any other type. No syntax applies to its values.
     Other,
 }
 
@@ -25,7 +25,8 @@ impl ValueBase {
     ghost use Rattle.std.specs.Prelude.{◌≡◌};
     ghost use Rattle.smi_value.specs.Syntax.{same_base};
 
-    /// Whether values of this base are shown by a syntax of the other one.
+    /// Returns whether a syntax of the type `other` applies to values of this type: the two are
+    /// the same type, and not `Other`.
     pub(crate) fn is_same(self, other: ValueBase) -> bool
         ensures { result ≡ same_base self other }
     {

@@ -1,5 +1,5 @@
-//! Display hints: how the values of a textual convention are shown (RFC 2579, section 3.1). A hint
-//! is read once and then applied to values.
+//! Display hints, which say how the values of a textual convention are shown (RFC 2579, section
+//! 3.1). A hint is read once, and can then be applied to any number of values.
 ghost use Rattle.std.specs.Prelude.{◌≡◌, ◌≤◌, ◌↔◌, ◌⊎◌, List, ℕ, IsSome, IfSome, IsTrue, false};
 ghost use Rattle.snmp_io.specs.Draft.{Adds};
 
@@ -28,21 +28,22 @@ pub enum HintValue<'a> {
 /// A display hint (RFC 2579, section 3.1), which borrows its text.
 ///
 /// A hint of integers is `d`, `d-n` with `n` from 0 to 20, `x`, `o` or `b`. A hint of octets has
-/// one or more specs: an optional `*`, a length of 0 to 65535 (0 to 8 for numbers), a format `x`,
-/// `d`, `o`, `a` or `t`, and perhaps a separator and, after a `*`, a terminator. The last spec is
-/// applied again and again, so without a `*` its length isn't 0.
+/// one or more specs. A spec has an optional `*`, a length of 0 to 65535 (0 to 8 for `x`, `d` and
+/// `o`), a format `x`, `d`, `o`, `a` or `t`, and perhaps a separator. With both a `*` and a
+/// separator it may have a terminator. The last spec is repeated while octets remain, so without a
+/// `*` its length isn't 0.
 #[derive(Drop)]
 pub struct Hint<'a> {
     text: &'a [u8],
     form: HintForm<'a>,
 }
 
-/// What a text was read as.
+/// The kind of a hint, and what was read of it.
 #[derive(Clone, Copy, Debug)]
 enum HintForm<'a> {
     /// A hint of integers.
     Number(NumberForm),
-    /// A hint of octets: its first spec, and the text after it.
+    /// A hint of octets: its first spec, and the rest of its text.
     Octets(Spec, &'a [u8]),
 }
 
@@ -60,7 +61,7 @@ impl<'a> Model for Hint<'a> {
 impl<'a> Hint<'a> {
     ghost use Rattle.smi_value.specs.hint.Hint.{IsOfNumbers, IsOfOctets, IsHintFor, Shows};
 
-    /// Reads a hint, or returns None if the text isn't one.
+    /// Reads a hint. Returns `None` if `text` isn't one.
     pub fn parse(text: &'a [u8]) -> Option<Hint<'a>>
         ensures found { IfSome result (λ hint. hint ≡ text.now) }
         ensures some_of_hints { IsSome result ↔ (IsOfNumbers text.now ⊎ IsOfOctets text.now) }
@@ -78,7 +79,7 @@ impl<'a> Hint<'a> {
         }
     }
 
-    /// Whether the hint is one of integers.
+    /// Returns whether this is a hint of integers. If it isn't, it is a hint of octets.
     pub fn is_number(&self) -> bool
         ensures true_of_numbers { IsTrue result ↔ IsOfNumbers self.now }
         ensures false_of_octets { (result ≡ false) ↔ IsOfOctets self.now }
@@ -89,8 +90,8 @@ impl<'a> Hint<'a> {
         }
     }
 
-    /// Appends a value as the hint shows it. The value must be a number for a hint of integers, and
-    /// octets for a hint of octets.
+    /// Appends `value` as the hint shows it. It must be a number for a hint of integers, and octets
+    /// for a hint of octets.
     pub fn append(&self, value: HintValue<'_>, draft: &mut Draft)
         requires { IsHintFor self.now value }
         ensures { (text : List ℕ) × Shows self.now value.entry text

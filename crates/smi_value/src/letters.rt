@@ -1,14 +1,14 @@
-//! Letters that say how names and values are shown, as the tools take them after `-O`.
+//! The letters that the tools take after `-O`. They say how names and values are shown.
 ghost use Rattle.std.specs.Prelude.{◌≡◌, ◌↔◌, [], None, Some, true, false, IsOk, IfOk, IfErr};
 ghost use Rattle.std.specs.Prelude.{IfSome, IfNone};
 
 /// How a name is shown.
 #[derive(Clone, Copy, Debug, PartialEq, Eq)]
 pub enum NameForm {
-    /// `n`: the numbers, each with a dot before it.
+    /// `n`: the numbers, with a dot before each.
     Numeric,
-    /// `f`: the label of each number that has a node, otherwise the number, each with a dot before
-    /// it.
+    /// `f`: for each number down to the deepest node, a dot and the label of the node there, or the
+    /// number if there is none; then the rest.
     Full,
     /// `s`: the label of the deepest node, then the rest.
     Label,
@@ -16,14 +16,14 @@ pub enum NameForm {
     ModuleLabel,
 }
 
-/// Whether the word of its type stands before a value, such as `INTEGER: `.
+/// Whether a value is shown after the word of its type, such as `INTEGER: `.
 #[derive(Clone, Copy, Debug, PartialEq, Eq)]
 pub enum TypeForm {
     /// The word is shown. The default.
     Typed,
     /// `Q`: the word is left out.
     Untyped,
-    /// `q`: the word is left out, and in a line a blank stands between name and value.
+    /// `q`: the word is left out, and a line has only a blank between name and value.
     Quick,
 }
 
@@ -38,24 +38,24 @@ pub enum StringForm {
     Text,
 }
 
-/// How names and values are shown: what the letters of `-O` say.
+/// How names and values are shown, as the letters of `-O` say.
 #[derive(Clone, Copy, Debug, PartialEq, Eq)]
 pub struct Letters {
-    /// `n`, `f`, `s` and `S`; the last one given counts.
+    /// How names are shown, by the last of the letters `n`, `f`, `s` and `S`.
     pub names: NameForm,
-    /// `q` and `Q`; the last one given counts.
+    /// How types are shown, by the last of the letters `q` and `Q`.
     pub types: TypeForm,
-    /// `x` and `a`; the last one given counts.
+    /// How strings without a hint are shown, by the last of the letters `x` and `a`.
     pub strings: StringForm,
-    /// `v`: a line has only the value.
+    /// `v`: whether a line has only the value.
     pub value_alone: bool,
-    /// `e`: the number of an enumeration stands in place of its name.
+    /// `e`: whether enumerations and bits are shown as numbers, without their names.
     pub numeric_enumerations: bool,
-    /// `t`: TimeTicks are shown as their number.
+    /// `t`: whether TimeTicks are shown only as a number.
     pub raw_ticks: bool,
-    /// `b`: the index in a name is shown as numbers.
+    /// `b`: whether the index in a name is shown as numbers.
     pub numeric_index: bool,
-    /// `U`: the units of an object don't follow its numbers.
+    /// `U`: whether the units of an object are left out after its numbers.
     pub no_units: bool,
 }
 
@@ -63,7 +63,7 @@ impl Letters {
     ghost use Rattle.smi_value.specs.Letters.{AreLetters, IsWith, first_other, is_one_of};
     ghost use Rattle.smi_value.specs.Letters.{all_letters};
 
-    /// What holds where no letters are given.
+    /// Returns the defaults: how names and values are shown without any letters.
     pub fn new() -> Letters
         ensures { AreLetters [] result }
     {
@@ -79,7 +79,7 @@ impl Letters {
         }
     }
 
-    /// Reads letters, in any order. The error is the first octet that is not one of them.
+    /// Reads letters, in any order. The error is the first octet that isn't one of the letters.
     pub fn parse(text: &[u8]) -> Result<Letters, u8>
         ensures ok { IfOk result (AreLetters text.now) }
         ensures ok_where_all_are_letters { IsOk result ↔ (first_other text.now ≡ None) }
@@ -95,7 +95,7 @@ impl Letters {
         Ok(letters)
     }
 
-    /// What these letters and one more say, or None if the octet is not one of the letters.
+    /// Returns these letters with `octet` as one more, or `None` if it isn't one of the letters.
     fn with(self, octet: u8) -> Option<Letters>
         ensures with { IfSome result (IsWith self octet) }
         ensures letter { IfSome result (λ _. is_one_of all_letters octet ≡ true) }

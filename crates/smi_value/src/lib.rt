@@ -1,8 +1,9 @@
-//! The texts of values, by the letters of `-O` and the syntax of an object, if one is known.
+//! Shows SNMP values as text, by the letters of `-O` and by the syntax of the object, if it is
+//! known. Display hints (RFC 2579, section 3.1) can also be used by themselves.
 //!
 //! # Examples
 //!
-//! The hint of a MAC address:
+//! Shows a MAC address by its display hint:
 //!
 //! ```
 //! let hint = Hint::parse(b"1x:").expect(rt, "a hint");
@@ -26,6 +27,6 @@ pub use letters::{Letters, NameForm, StringForm, TypeForm};
 pub use syntax::ValueSyntax;
 pub use value::{append_identifier_word, append_value};
 
-// For proofs alone.
+// Only for proofs.
 pub use hint::one_text;
 pub use value::one_value_by_names;

@@ -1,4 +1,4 @@
-//! The pieces of the texts of values.
+//! Appends the pieces of a value's text, such as the word of its type, its units or its time.
 ghost use Rattle.std.specs.Prelude.{◌≡◌, ◌<◌, ◌+◌, ◌*◌, ◌++◌, List, ℕ, codes, decimal};
 ghost use Rattle.std.specs.Prelude.{if◌then◌else◌, ◌/◌, ◌^◌};
 ghost use Rattle.std.specs.{Fmt.signed_decimal, Option.option_copied};
@@ -18,7 +18,7 @@ use itoa::Buffer;
 use smi_text::NamedNumber;
 use snmp_io::Draft;
 
-/// Appends the word of a type, with its colon and blank, unless `q` or `Q` is given.
+/// Appends `word`, which is a type with its colon and blank. With `q` or `Q` it appends nothing.
 #[tactic(auto, using(crate::proofs::Growing::adds_none))]
 pub(crate) fn append_word(draft: &mut Draft, letters: &Letters, word: &[u8])
     ensures { Adds draft.old (type_word letters.now word.now) draft.new }
@@ -28,7 +28,7 @@ pub(crate) fn append_word(draft: &mut Draft, letters: &Letters, word: &[u8])
     }
 }
 
-/// Whether values are shown with the words of their types.
+/// Returns whether values are shown after the words of their types.
 fn is_typed(form: TypeForm) -> bool
     ensures { result ≡ is_typed form }
 {
@@ -38,7 +38,7 @@ fn is_typed(form: TypeForm) -> bool
     }
 }
 
-/// Appends a blank and the units, unless there are none or `U` is given.
+/// Appends a blank and the units. If there are none, or with `U`, it appends nothing.
 #[tactic(auto, using(crate::proofs::Growing::adds_none))]
 pub(crate) fn append_units(draft: &mut Draft, letters: &Letters, units: Option<&[u8]>)
     ensures { Adds draft.old (units_text letters.now (option_copied units.entry)) draft.new }
@@ -52,7 +52,7 @@ pub(crate) fn append_units(draft: &mut Draft, letters: &Letters, units: Option<&
     }
 }
 
-/// Appends a string without a display hint.
+/// Appends a string without a display hint, as text between quotes or in hexadecimal.
 pub(crate) fn append_string(draft: &mut Draft, letters: &Letters, octets: &[u8])
     ensures { Adds draft.old (string_text letters.now octets.now) draft.new }
 {
@@ -70,7 +70,7 @@ pub(crate) fn append_string(draft: &mut Draft, letters: &Letters, octets: &[u8])
     }
 }
 
-/// Whether a string is shown as text.
+/// Returns whether a string that isn't empty is shown as text, and not in hexadecimal.
 fn is_text(form: StringForm, octets: &[u8]) -> bool
     ensures { result ≡ is_text form octets.now }
 {
@@ -81,21 +81,21 @@ fn is_text(form: StringForm, octets: &[u8]) -> bool
     }
 }
 
-/// Whether each octet is a character of printable ASCII.
+/// Returns whether each octet is a character of printable ASCII.
 fn are_printable(octets: &[u8]) -> bool
     ensures { result ≡ list_all is_printable octets.now }
 {
     octets.iter().all(|octet| is_printable(*octet))
 }
 
-/// Whether an octet is a character of printable ASCII.
+/// Returns whether an octet is a character of printable ASCII.
 fn is_printable(octet: u8) -> bool
     ensures { result ≡ is_printable octet }
 {
     32 <= octet && octet <= 126
 }
 
-/// Appends octets unchanged between quotes.
+/// Appends octets between double quotes, unchanged.
 fn append_between_quotes(draft: &mut Draft, octets: &[u8])
     ensures { Adds draft.old (codes "\"" ++ octets.now ++ codes "\"") draft.new }
 {
@@ -104,7 +104,7 @@ fn append_between_quotes(draft: &mut Draft, octets: &[u8])
     draft.octet(b'"');
 }
 
-/// Appends octets between quotes, each as [`append_character`] shows it.
+/// Appends octets between double quotes, each as [`append_character`] does.
 fn append_quoted(draft: &mut Draft, octets: &[u8])
     ensures { Adds draft.old (quoted octets.now) draft.new }
 {
@@ -113,7 +113,7 @@ fn append_quoted(draft: &mut Draft, octets: &[u8])
     draft.octet(b'"');
 }
 
-/// Appends octets as characters, each as [`append_character`] shows it.
+/// Appends each of the octets as [`append_character`] does.
 fn append_escaped(draft: &mut Draft, octets: &[u8])
     ensures { Adds draft.old (flat_map (λ octet. escaped (dotted octet)) octets.now) draft.new }
 {
@@ -122,8 +122,8 @@ fn append_escaped(draft: &mut Draft, octets: &[u8])
     }
 }
 
-/// Appends an octet as a character, with a backslash before a double quote or a backslash; a dot
-/// for one that isn't printable.
+/// Appends an octet as a character. A double quote or a backslash gets a backslash before it, and
+/// an octet that isn't printable is shown as a dot.
 fn append_character(draft: &mut Draft, octet: u8)
     ensures { Adds draft.old (escaped (dotted octet)) draft.new }
 {
@@ -136,7 +136,7 @@ fn append_character(draft: &mut Draft, octet: u8)
     }
 }
 
-/// Appends octets in hexadecimal, sixteen a line.
+/// Appends octets in hexadecimal with a blank after each, sixteen a line.
 pub(crate) fn append_hexadecimal(draft: &mut Draft, octets: &[u8])
     ensures { Adds draft.old (hexadecimal_text octets.now) draft.new }
 {
@@ -145,8 +145,8 @@ pub(crate) fn append_hexadecimal(draft: &mut Draft, octets: &[u8])
     }
 }
 
-/// Appends an octet in hexadecimal and a blank, on a new line if a multiple of sixteen others
-/// precede it.
+/// Appends the octet at index `place` in hexadecimal, and a blank. A new line begins at each index
+/// that is a multiple of 16, except 0.
 fn append_dumped(draft: &mut Draft, place: usize, octet: u8)
     ensures { Adds draft.old (dumped (place, octet)) draft.new }
 {
@@ -156,7 +156,7 @@ fn append_dumped(draft: &mut Draft, place: usize, octet: u8)
     draft.hexadecimal_before(octet, b' ');
 }
 
-/// Appends an address: four numbers with dots between them.
+/// Appends an IP address: its four numbers, with dots between them.
 pub(crate) fn append_address(draft: &mut Draft, octets: &[u8; 4])
     ensures { Adds draft.old (address_text octets.now) draft.new }
 {
@@ -167,7 +167,8 @@ pub(crate) fn append_address(draft: &mut Draft, octets: &[u8; 4])
     append_marked_decimal(draft, b'.', fourth);
 }
 
-/// Appends TimeTicks: the number and the time, the time alone or the number alone.
+/// Appends TimeTicks as their number and the time. With `t`, appends only the number; without it,
+/// but with `q` or `Q`, only the time.
 pub(crate) fn append_ticks(draft: &mut Draft, letters: &Letters, ticks: u32)
     ensures { Adds draft.old (ticks_text letters.now ticks) draft.new }
 {
@@ -182,7 +183,7 @@ pub(crate) fn append_ticks(draft: &mut Draft, letters: &Letters, ticks: u32)
     }
 }
 
-/// Appends TimeTicks as their number and the time.
+/// Appends TimeTicks as `Timeticks: `, their number in parentheses, and the time.
 fn append_ticks_and_time(draft: &mut Draft, ticks: u32)
     ensures { Adds draft.old (codes "Timeticks: (" ++ decimal ticks ++ codes ") "
         ++ days_text (ticks / 8640000) ++ clock_text ticks) draft.new }
@@ -194,7 +195,7 @@ fn append_ticks_and_time(draft: &mut Draft, ticks: u32)
     append_clock(draft, ticks);
 }
 
-/// Appends a number of days, if there are any.
+/// Appends a number of days with a comma and a blank, or nothing if it is 0.
 #[tactic(auto, using(crate::proofs::Growing::adds_none))]
 fn append_days(draft: &mut Draft, days: u32)
     ensures { Adds draft.old (days_text days) draft.new }
@@ -209,7 +210,7 @@ fn append_days(draft: &mut Draft, days: u32)
     }
 }
 
-/// Appends the hours of the day, minutes, seconds and hundredths.
+/// Appends `ticks` as a time within a day: hours, minutes, seconds and hundredths.
 fn append_clock(draft: &mut Draft, ticks: u32)
     ensures { Adds draft.old (clock_text ticks) draft.new }
 {
@@ -219,7 +220,7 @@ fn append_clock(draft: &mut Draft, ticks: u32)
     append_two_digits(draft, b'.', ticks % 100);
 }
 
-/// Appends a mark and two decimal digits.
+/// Appends `mark`, and `n` as two decimal digits.
 fn append_two_digits(draft: &mut Draft, mark: u8, n: u32)
     requires { n < 100 }
     ensures { Adds draft.old (two_digits mark n) draft.new }
@@ -227,7 +228,8 @@ fn append_two_digits(draft: &mut Draft, mark: u8, n: u32)
     draft.octets(&[mark, b'0' + (n / 10) as u8, b'0' + (n % 10) as u8]);
 }
 
-/// Appends the name and number of an enumeration, or one of the two.
+/// Appends the name of an enumeration's value, and its number `n` in parentheses. With `e`, appends
+/// only the number; without it, but with `q` or `Q`, only the name.
 pub(crate) fn append_named(draft: &mut Draft, letters: &Letters, name: &[u8], n: i64)
     ensures { Adds draft.old (named_text letters.now name.now (signed_decimal n)) draft.new }
 {
@@ -243,7 +245,7 @@ pub(crate) fn append_named(draft: &mut Draft, letters: &Letters, name: &[u8], n:
     }
 }
 
-/// Appends a value of BITS: its octets in hexadecimal, then the bits that are set.
+/// Appends a value of BITS after its word: its octets in hexadecimal, then the bits that are set.
 pub(crate) fn append_bits(
     draft: &mut Draft,
     letters: &Letters,
@@ -258,7 +260,7 @@ pub(crate) fn append_bits(
     append_set_bits(draft, letters, names, octets);
 }
 
-/// Appends the bits that are set.
+/// Appends the bits of `octets` that are set, from the first octet to the last.
 fn append_set_bits(draft: &mut Draft, letters: &Letters, names: &[NamedNumber], octets: &[u8])
     ensures { let bits = flat_map (octet_bits letters.now names.now) (enumerate_from 0 octets.now)
         in
@@ -269,7 +271,7 @@ fn append_set_bits(draft: &mut Draft, letters: &Letters, names: &[NamedNumber], 
     }
 }
 
-/// Appends the bits of an octet that are set.
+/// Appends the bits that are set in the octet at index `place`, the most significant bit first.
 fn append_octet_bits(
     draft: &mut Draft,
     letters: &Letters,
@@ -291,7 +293,7 @@ fn append_octet_bits(
     append_if_set(draft, letters, names, first + 7, octet % 2);
 }
 
-/// Appends a bit, if it is set.
+/// Appends the bit with the number `bit` if `set` is 1.
 #[tactic(auto, using(crate::proofs::Growing::adds_none))]
 fn append_if_set(draft: &mut Draft, letters: &Letters, names: &[NamedNumber], bit: u128, set: u8)
     requires { bit < 2 ^ 68 }
@@ -302,7 +304,7 @@ fn append_if_set(draft: &mut Draft, letters: &Letters, names: &[NamedNumber], bi
     }
 }
 
-/// Appends a bit that is set: its name and number, or its number.
+/// Appends the bit with the number `bit` as [`append_bit_name`] does, by its name in `names`.
 fn append_bit(draft: &mut Draft, letters: &Letters, names: &[NamedNumber], bit: u128)
     requires { bit < 2 ^ 68 }
     ensures { Adds draft.old (set_bit_text letters.now names.now bit) draft.new }
@@ -312,7 +314,8 @@ fn append_bit(draft: &mut Draft, letters: &Letters, names: &[NamedNumber], bit: 
     append_bit_name(draft, letters, name_of(names, bit as i128), number);
 }
 
-/// Appends a bit by its name, if it has one, and the digits of its number.
+/// Appends the name of a bit, the digits of its number in parentheses, and a blank. If it has no
+/// name, or with `e`, appends only the digits and the blank.
 fn append_bit_name(draft: &mut Draft, letters: &Letters, name: Option<&[u8]>, number: &[u8])
     ensures { Adds draft.old
         (bit_name letters.now (option_copied name.entry) number.now) draft.new }

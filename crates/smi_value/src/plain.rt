@@ -1,4 +1,4 @@
-//! Whether a string stands between quotes as it is, looked at sixteen or eight octets at a time.
+//! Finds strings that are shown unchanged between quotes, by up to sixteen octets at a time.
 ghost use Rattle.std.specs.Prelude.{◌≡◌, ◌+◌, ◌≤◌, length, true};
 ghost use Rattle.std.specs.Bool.{OnTrue};
 ghost use Rattle.smi_value.specs.Pieces.{ArePlain, IsShownPlain};
@@ -6,8 +6,8 @@ ghost use Rattle.smi_value.specs.Pieces.{ArePlain, IsShownPlain};
 use crate::letters::StringForm;
 use std::simd::prelude::*;
 
-/// Whether a string is shown as text, and each of its octets as itself, as most are. `false` says
-/// nothing: the caller looks at each octet then.
+/// Returns `true` only if a string is shown as text with each octet unchanged, as most strings are.
+/// After `false` the caller looks at each octet.
 pub(crate) fn is_shown_plain(form: StringForm, octets: &[u8]) -> bool
     ensures { OnTrue result (IsShownPlain form octets.now) }
 {
@@ -17,7 +17,7 @@ pub(crate) fn is_shown_plain(form: StringForm, octets: &[u8]) -> bool
     }
 }
 
-/// Whether each octet is a character of printable ASCII other than a double quote or a backslash.
+/// Returns whether each octet is printable ASCII, and neither a double quote nor a backslash.
 fn are_plain(octets: &[u8]) -> bool
     ensures { OnTrue result (ArePlain octets.now 0 (length octets.now)) }
 {
@@ -30,7 +30,7 @@ fn are_plain(octets: &[u8]) -> bool
     }
 }
 
-/// [`are_plain`] for 16 octets or more. The last 16 may overlap those before them.
+/// Does what [`are_plain`] does, for at least 16 octets. The last 16 may overlap those before them.
 fn are_plain_many(octets: &[u8]) -> bool
     requires { 16 ≤ length octets.now }
     ensures { OnTrue result (ArePlain octets.now 0 (length octets.now)) }
@@ -45,7 +45,7 @@ fn are_plain_many(octets: &[u8]) -> bool
     are_plain_16(octets, octets.len() - 16)
 }
 
-/// [`are_plain`] one octet at a time.
+/// Does what [`are_plain`] does, one octet at a time.
 fn are_plain_few(octets: &[u8]) -> bool
     ensures { OnTrue result (ArePlain octets.now 0 (length octets.now)) }
 {
@@ -57,7 +57,7 @@ fn are_plain_few(octets: &[u8]) -> bool
     true
 }
 
-/// [`are_plain`] for the sixteen octets from a place on.
+/// Does what [`are_plain`] does, for the sixteen octets from offset `at` on.
 #[inline(always)]
 fn are_plain_16(octets: &[u8], at: usize) -> bool
     requires { at + 16 ≤ length octets.now }
@@ -76,7 +76,7 @@ fn are_plain_16(octets: &[u8], at: usize) -> bool
     these.simd_eq(u8x16::splat(b'\\')).to_bitmask() == 0
 }
 
-/// [`are_plain`] for the eight octets from a place on.
+/// Does what [`are_plain`] does, for the eight octets from offset `at` on.
 #[inline(always)]
 fn are_plain_8(octets: &[u8], at: usize) -> bool
     requires { at + 8 ≤ length octets.now }

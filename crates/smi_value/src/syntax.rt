@@ -1,4 +1,4 @@
-//! What is known of the object of a value.
+//! The syntax of an object, as far as it affects how the values of the object are shown.
 ghost use Rattle.std.specs.Prelude.{◌≡◌, None, Some, IsTrue, ◌↔◌, IfSome, pos};
 ghost use Rattle.std.specs.Option.{option_map, option_copied};
 ghost use Rattle.smi_value.specs.Syntax.{ObjectSyntax, syntax_at, name_of_number, is_number_of};
@@ -9,8 +9,8 @@ use crate::base::ValueBase;
 use smi_text::{NamedNumber, number};
 use std::marker::Model;
 
-/// The syntax of an object, as far as its values are shown by it. It borrows its texts from the
-/// modules.
+/// The syntax of an object, as far as it affects how values are shown. It borrows its names and
+/// strings, usually from loaded modules.
 #[derive(Drop)]
 pub struct ValueSyntax<'a> {
     base: ValueBase,
@@ -31,8 +31,8 @@ impl<'a> Model for ValueSyntax<'a> {
 }
 
 impl<'a> ValueSyntax<'a> {
-    /// The syntax of an object: the type of its values, the names of its numbers or bits, its
-    /// display hint, and its units.
+    /// Returns the syntax of an object: `base` is the type of its values, `names` are the names of
+    /// its numbers or bits, `hint` is its display hint, and `units` are its units.
     pub fn new(
         base: ValueBase,
         names: &'a [NamedNumber],
@@ -54,7 +54,7 @@ impl<'a> ValueSyntax<'a> {
         }
     }
 
-    /// Whether octets are a value of BITS.
+    /// Returns whether octets are a value of BITS: the syntax is known, and is of that type.
     pub(crate) fn is_of_bits(syntax: Option<&'a ValueSyntax<'a>>) -> bool
         ensures { result ≡ is_of_bits (option_copied syntax.entry) }
     {
@@ -64,7 +64,7 @@ impl<'a> ValueSyntax<'a> {
         }
     }
 
-    /// The names of numbers, for values of a base.
+    /// Returns the names in `syntax` if it applies to values of type `base`, otherwise none.
     pub(crate) fn names_at(
         syntax: Option<&'a ValueSyntax<'a>>,
         base: ValueBase,
@@ -77,7 +77,7 @@ impl<'a> ValueSyntax<'a> {
         }
     }
 
-    /// The display hint, for values of a base.
+    /// Returns the display hint in `syntax`, if it has one and applies to values of type `base`.
     pub(crate) fn hint_at(syntax: Option<&'a ValueSyntax<'a>>, base: ValueBase) -> Option<&'a [u8]>
         ensures { option_copied result ≡ (syntax_at base (option_copied syntax.entry)).hint }
     {
@@ -87,7 +87,7 @@ impl<'a> ValueSyntax<'a> {
         }
     }
 
-    /// The units, for values of a base.
+    /// Returns the units in `syntax`, if it has any and applies to values of type `base`.
     pub(crate) fn units_at(syntax: Option<&'a ValueSyntax<'a>>, base: ValueBase) -> Option<&'a [u8]>
         ensures { option_copied result ≡ (syntax_at base (option_copied syntax.entry)).units }
     {
@@ -98,7 +98,7 @@ impl<'a> ValueSyntax<'a> {
     }
 }
 
-/// The name of a number: of two names, the first in the text.
+/// Returns the name of the number `n`, if it has one: the first in `names` if it has several.
 #[inline]
 pub(crate) fn name_of(names: &[NamedNumber], n: i128) -> Option<&[u8]>
     ensures { option_copied result ≡ name_of_number names.now n }
@@ -110,7 +110,7 @@ pub(crate) fn name_of(names: &[NamedNumber], n: i128) -> Option<&[u8]>
     }
 }
 
-/// [`name_of`] among some names.
+/// Does what [`name_of`] does, by a search.
 fn first_name(names: &[NamedNumber], n: i128) -> Option<&[u8]>
     ensures { option_copied result ≡ name_of_number names.now n }
 {
@@ -120,7 +120,7 @@ fn first_name(names: &[NamedNumber], n: i128) -> Option<&[u8]>
     }
 }
 
-/// Whether a named number has this number.
+/// Returns whether `named` is a name of the number `n`.
 fn is_number_of(named: &NamedNumber, n: i128) -> bool
     ensures { result ≡ is_number_of n named.now }
 {
@@ -134,8 +134,8 @@ fn is_number_of(named: &NamedNumber, n: i128) -> bool
     }
 }
 
-/// The number that a text of one to three digits states. Most numbers of an enumeration have no
-/// more.
+/// Returns the number that `text` writes if it consists of one to three digits, otherwise `None`.
+/// Most numbers of an enumeration have no more digits.
 fn few_digits(text: &[u8]) -> Option<u16>
     ensures { IfSome result (λ few. stated_number text.now ≡ Some (pos few)) }
 {

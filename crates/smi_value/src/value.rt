@@ -1,4 +1,4 @@
-//! The text of a value, or of an exception in its place.
+//! Appends a value or an exception as text.
 ghost use Rattle.std.specs.Prelude.{◌≡◌, ◌++◌, List, ℕ, Option, Some, None, pos, codes, true};
 ghost use Rattle.std.specs.Option.{option_copied};
 ghost use Rattle.snmp_io.specs.Draft.{Adds};
@@ -20,12 +20,12 @@ use crate::syntax::{ValueSyntax, name_of};
 use snmp_io::Draft;
 use snmp_wire::ValueRef;
 
-/// Appends the text of a value, or of an exception in its place: its type, a colon, a blank and the
-/// value, as the letters say.
+/// Appends `value` as text, as `letters` say: usually its type, a colon, a blank and the value. An
+/// exception (RFC 3416, section 3) is shown as a message.
 ///
-/// The syntax is that of the object that the value belongs to, if it is known; of another type than
-/// the value's it has no effect. The text of an identifier is that of a name, which needs a tree:
-/// the caller appends it after [`append_identifier_word`].
+/// `syntax` is the syntax of the value's object, if it is known. It has no effect if it is of
+/// another type than the value. The value must not be an OBJECT IDENTIFIER: to show one by its name
+/// takes a tree, and the caller does so after [`append_identifier_word`].
 pub fn append_value(
     draft: &mut Draft,
     letters: &Letters,
@@ -84,7 +84,7 @@ pub fn append_value(
     }
 }
 
-/// A value has one text, by the letters and a syntax, where the names of identifiers have one.
+/// A value has only one text by the same letters and syntax, if each identifier has only one name.
 ///
 /// A law: the call does nothing, and its caller may use what it ensures.
 pub fn one_value_by_names()
@@ -95,15 +95,15 @@ pub fn one_value_by_names()
         → ShowsValue others letters syntax value other → text ≡ other }
 {}
 
-/// Appends the word of an identifier, which stands before the text of its name, unless `q` or `Q`
-/// is given.
+/// Appends `OID: `, the word before the name of an OBJECT IDENTIFIER. With `q` or `Q` it appends
+/// nothing.
 pub fn append_identifier_word(draft: &mut Draft, letters: &Letters)
     ensures { Adds draft.old (type_word letters.now (codes "OID: ")) draft.new }
 {
     append_word(draft, letters, b"OID: ");
 }
 
-/// Appends a number without a hint, with its units.
+/// Appends the word of a type, the number `n` in decimal digits, and its units.
 fn append_counter(draft: &mut Draft, letters: &Letters, word: &[u8], units: Option<&[u8]>, n: u64)
     ensures { let units = option_copied units.entry in
         Adds draft.old (counter_text letters.now word.now units n) draft.new }
@@ -113,7 +113,7 @@ fn append_counter(draft: &mut Draft, letters: &Letters, word: &[u8], units: Opti
     append_units(draft, letters, units);
 }
 
-/// Appends an INTEGER.
+/// Appends an INTEGER by its name, if it has one, otherwise as a number with its hint and units.
 fn append_integer(draft: &mut Draft, letters: &Letters, syntax: Option<&ValueSyntax<'_>>, n: i64)
     ensures { let at = syntax_at base.Integer (option_copied syntax.entry) in (text : List ℕ)
         × IsIntegerText letters.now at n (name_of_number at.names n) text
@@ -133,7 +133,7 @@ fn append_integer(draft: &mut Draft, letters: &Letters, syntax: Option<&ValueSyn
     }
 }
 
-/// Appends a number after the word of its type, under a hint if there is one, with its units.
+/// Appends the word of a type, the number `n` as [`append_number`] does, and its units.
 fn append_typed_number(
     draft: &mut Draft,
     letters: &Letters,
@@ -151,7 +151,7 @@ fn append_typed_number(
     append_units(draft, letters, units);
 }
 
-/// Appends a number under a hint of integers, otherwise in decimal digits.
+/// Appends `n` as [`append_hinted_number`] does if there is a hint, otherwise in decimal digits.
 fn append_number(draft: &mut Draft, hint: Option<&[u8]>, n: i64)
     ensures { (text : List ℕ) × IsNumberText (option_copied hint.entry) n text
         × Adds draft.old text draft.new }
@@ -162,7 +162,7 @@ fn append_number(draft: &mut Draft, hint: Option<&[u8]>, n: i64)
     }
 }
 
-/// Appends a number under a hint, if the text is one of integers, otherwise in decimal digits.
+/// Appends `n` as `hint` shows it if that is a hint of integers, otherwise in decimal digits.
 fn append_hinted_number(draft: &mut Draft, hint: &[u8], n: i64)
     ensures { (text : List ℕ) × IsNumberText (Some hint.now) n text
         × Adds draft.old text draft.new }
@@ -173,7 +173,8 @@ fn append_hinted_number(draft: &mut Draft, hint: &[u8], n: i64)
     }
 }
 
-/// Appends octets: of BITS, under a hint, or as a string.
+/// Appends octets as a value of BITS if `syntax` is of that type, otherwise as a string, by its
+/// hint if it has one.
 fn append_octets(
     draft: &mut Draft,
     letters: &Letters,
@@ -195,7 +196,7 @@ fn append_octets(
     }
 }
 
-/// Appends octets under a hint, if the text is one of octets, otherwise as a string.
+/// Appends a string as `hint` shows it if that is a hint of octets, otherwise as without a hint.
 fn append_hinted_string(draft: &mut Draft, letters: &Letters, hint: &[u8], octets: &[u8])
     ensures { (text : List ℕ) × IsStringText letters.now (Some hint.now) octets.now text
         × Adds draft.old text draft.new }

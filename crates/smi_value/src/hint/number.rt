@@ -16,17 +16,17 @@ use snmp_io::Draft;
 /// How an integer is shown (RFC 2579, section 3.1).
 #[derive(Clone, Copy, Debug, PartialEq, Eq)]
 pub enum NumberForm {
-    /// `d` and `d-n`: decimal digits, with a point before the last `n`, 0 to 20.
+    /// `d` and `d-n`: in decimal digits. Holds how many follow a point, 0 to 20, or 0 for no point.
     Decimal(u8),
-    /// `x`: to the base 16.
+    /// `x`: in base 16.
     Hexadecimal,
-    /// `o`: to the base 8.
+    /// `o`: in base 8.
     Octal,
-    /// `b`: to the base 2.
+    /// `b`: in base 2.
     Binary,
 }
 
-/// The integer hint that a text is, if it is one.
+/// Returns how integers are shown if `text` is a hint of integers, otherwise `None`.
 pub(crate) fn number_form(text: &[u8]) -> Option<NumberForm>
     ensures found { IfSome result (IsNumberHint text.now) }
     ensures none { IfNone result ((form : NumberForm) → IsNumberHint text.now form → ⊥) }
@@ -41,7 +41,8 @@ pub(crate) fn number_form(text: &[u8]) -> Option<NumberForm>
     }
 }
 
-/// The form of decimal digits with the number of places that a text says, if it is at most 20.
+/// Returns the form that a hint `d-n` asks for, with `text` as its `n`. Returns `None` if `text`
+/// isn't a decimal number of at most 20.
 fn decimal_places(text: &[u8]) -> Option<NumberForm>
     ensures found { IfSome result (λ form. IsNumberHint (codes "d-" ++ text.now) form) }
     ensures none { IfNone result
@@ -57,8 +58,8 @@ fn decimal_places(text: &[u8]) -> Option<NumberForm>
     }
 }
 
-/// The number that the digits at the front of a text stand for, if it is at most `most`, and what
-/// follows them.
+/// Returns the number that `text` begins with, and the rest of the text. Returns `None` if there is
+/// no digit at the start, or the number is above `most`.
 pub(crate) fn front_number(text: &[u8], most: u32) -> Option<(u32, &[u8])>
     requires { most < 2 ^ 24 }
     ensures found { IfSome result (λ r. StartsWithNumber text.now r.0 r.1.now) }
@@ -73,7 +74,7 @@ pub(crate) fn front_number(text: &[u8], most: u32) -> Option<(u32, &[u8])>
     }
 }
 
-/// The number of the digit at the front of a text, and what follows it, if that is no digit.
+/// Returns the value of the first digit and the rest of `text`, if it begins with just one digit.
 fn front_digit(text: &[u8]) -> Option<(u8, &[u8])>
     ensures { IfSome result (λ r. StartsWithNumber text.now r.0 r.1.now) }
 {
@@ -83,7 +84,7 @@ fn front_digit(text: &[u8]) -> Option<(u8, &[u8])>
     }
 }
 
-/// Whether a digit stands at the front of a text.
+/// Returns whether `text` begins with a decimal digit.
 fn begins_with_digit(text: &[u8]) -> bool
     ensures { result ≡ begins_with_digit text.now }
 {
@@ -93,7 +94,7 @@ fn begins_with_digit(text: &[u8]) -> bool
     }
 }
 
-/// [`front_number`] for any number of digits.
+/// Does what [`front_number`] does, for any number of digits.
 fn long_number(text: &[u8], most: u32) -> Option<(u32, &[u8])>
     requires { most < 2 ^ 24 }
     ensures found { IfSome result (λ r. StartsWithNumber text.now r.0 r.1.now) }
@@ -115,7 +116,7 @@ fn long_number(text: &[u8], most: u32) -> Option<(u32, &[u8])>
     Some((number, rest))
 }
 
-/// The digits at the front of a text, and what stands after them.
+/// Returns the digits that `text` begins with, and the rest of the text.
 fn split_digits(text: &[u8]) -> (&[u8], &[u8])
     ensures front { result.0.now ≡ front_digits text.now }
     ensures after { result.1.now ≡ after_digits text.now }
@@ -125,7 +126,7 @@ fn split_digits(text: &[u8]) -> (&[u8], &[u8])
     text.split_at(count_digits(text))
 }
 
-/// How many digits stand at the front of a text.
+/// Returns the number of digits that `text` begins with.
 fn count_digits(text: &[u8]) -> usize
     ensures count { result ≡ length (take_while is_ascii_digit text.now) }
     ensures within { result ≤ length text.now }
@@ -135,7 +136,7 @@ fn count_digits(text: &[u8]) -> usize
         .count()
 }
 
-/// Appends a number as an integer hint says.
+/// Appends `n` in the form `form`, after a `-` if it is negative.
 pub(crate) fn append_number(draft: &mut Draft, form: NumberForm, n: i64)
     ensures { Adds draft.old (number_text form n) draft.new }
 {
@@ -145,7 +146,7 @@ pub(crate) fn append_number(draft: &mut Draft, form: NumberForm, n: i64)
     append_magnitude(draft, form, n.unsigned_abs());
 }
 
-/// Appends the digits of a number as an integer hint says.
+/// Appends the digits of `n` in the form `form`.
 fn append_magnitude(draft: &mut Draft, form: NumberForm, n: u64)
     ensures { Adds draft.old (magnitude_text form n) draft.new }
 {
@@ -158,8 +159,8 @@ fn append_magnitude(draft: &mut Draft, form: NumberForm, n: u64)
     }
 }
 
-/// Appends a number in decimal digits with a point before the last `places` of them, and zeros
-/// before them if there are too few.
+/// Appends `n` in decimal digits with a point before the last `places` of them. If there are too
+/// few digits, zeros are put before them, so that one digit precedes the point.
 fn append_with_point(draft: &mut Draft, places: usize, n: u64)
     requires { 0 < places }
     ensures { Adds draft.old (with_point places (decimal n)) draft.new }
@@ -178,7 +179,7 @@ fn append_with_point(draft: &mut Draft, places: usize, n: u64)
     }
 }
 
-/// Appends zeros.
+/// Appends the digit 0, `count` times.
 fn append_zeros(draft: &mut Draft, count: usize)
     ensures { Adds draft.old (replicate count 48) draft.new }
 {
@@ -187,7 +188,7 @@ fn append_zeros(draft: &mut Draft, count: usize)
     }
 }
 
-/// Appends the digits of a number to the base 16, lower case.
+/// Appends `n` in base 16, with digits in lower case.
 #[inline(never)]
 pub(crate) fn append_base_16(draft: &mut Draft, n: u64)
     ensures { Adds draft.old (digits 16 false n) draft.new }
@@ -195,7 +196,7 @@ pub(crate) fn append_base_16(draft: &mut Draft, n: u64)
     append_digits(draft, 16, n);
 }
 
-/// Appends the digits of a number to the base 8.
+/// Appends `n` in base 8.
 #[inline(never)]
 pub(crate) fn append_base_8(draft: &mut Draft, n: u64)
     ensures { Adds draft.old (digits 8 false n) draft.new }
@@ -203,7 +204,7 @@ pub(crate) fn append_base_8(draft: &mut Draft, n: u64)
     append_digits(draft, 8, n);
 }
 
-/// Appends the digits of a number to the base 2.
+/// Appends `n` in base 2.
 #[inline(never)]
 fn append_base_2(draft: &mut Draft, n: u64)
     ensures { Adds draft.old (digits 2 false n) draft.new }
@@ -211,8 +212,8 @@ fn append_base_2(draft: &mut Draft, n: u64)
     append_digits(draft, 2, n);
 }
 
-/// Appends the digits of a number to a base, lower case. Inlined, so that a base that is known
-/// takes no division.
+/// Appends `n` in `base`, 2 to 16, with digits in lower case. `inline(always)`: its callers pass
+/// constant bases, which then take no division.
 #[inline(always)]
 fn append_digits(draft: &mut Draft, base: u64, n: u64)
     requires low { 2 ≤ base }
@@ -224,7 +225,7 @@ fn append_digits(draft: &mut Draft, base: u64, n: u64)
     draft.octets(&text[start..]);
 }
 
-/// Writes the digits of a number to a base to the end of a text, and returns where they start.
+/// Writes `n` in `base`, 2 to 16, at the end of `text`, and returns the offset of its first digit.
 #[inline(always)]
 fn put_digits(text: &mut [u8; 64], base: u64, n: u64) -> usize
     requires low { 2 ≤ base }
@@ -245,7 +246,7 @@ fn put_digits(text: &mut [u8; 64], base: u64, n: u64) -> usize
     at
 }
 
-/// A lower-case digit to a base of at most 16.
+/// Returns the digit for `n` in base 16, in lower case.
 #[inline]
 pub(crate) fn digit(n: u8) -> u8
     requires { n < 16 }

@@ -1,5 +1,5 @@
-//! Octets under a display hint: the specs are applied one after the other, the last one again and
-//! again.
+//! Shows octets by a display hint: its specs are applied one after the other, and the last one is
+//! repeated while octets remain.
 ghost use Rattle.std.specs.Prelude.{◌≡◌, ◌≢◌, ◌<◌, ◌≤◌, List, ℕ, [], ◌++◌, length, drop, take};
 ghost use Rattle.std.specs.Prelude.{if◌then◌else◌, true, decimal, ◌∷◌, false, ◌+◌, ◌*◌};
 ghost use Rattle.std.specs.{Fmt.digits, List.flat_map};
@@ -14,7 +14,7 @@ use crate::hint::number::{append_base_8, append_base_16, digit};
 use crate::hint::spec::{OctetFormat, Spec, first_spec};
 use snmp_io::Draft;
 
-/// Appends octets as a hint shows them, of which `first` is the first spec and `after` the rest.
+/// Appends `octets` as `hint` shows them. `first` is its first spec, and `after` is the rest of it.
 pub(crate) fn append_octets(
     draft: &mut Draft,
     hint: &[u8],
@@ -31,7 +31,7 @@ pub(crate) fn append_octets(
     let mut ahead = after;
     let mut left = octets;
     'groups: while !left.is_empty() {
-        // Hints often end so: each octet that is left is a group of its own.
+        // Hints often end with such a spec: each octet that is left is then a group of its own.
         if ahead.is_empty() && spec.is_single() {
             append_singles(draft, spec.format, spec.last_mark(), left);
             return;
@@ -43,8 +43,8 @@ pub(crate) fn append_octets(
     }
 }
 
-/// Appends octets one by one, with a mark before each but the first. An address of six octets takes
-/// 641 instructions so, and 1,544 as six groups.
+/// Appends octets one by one, with the mark, if any, before each but the first. An address of six
+/// octets takes 641 instructions this way, and 1,544 as six groups.
 fn append_singles(draft: &mut Draft, format: OctetFormat, mark: Option<u8>, octets: &[u8])
     ensures { Adds draft.old (singles_text format mark octets.now) draft.new }
 {
@@ -57,7 +57,7 @@ fn append_singles(draft: &mut Draft, format: OctetFormat, mark: Option<u8>, octe
     }
 }
 
-/// Appends octets one by one, with a mark before each.
+/// Appends octets one by one, with the mark, if any, before each.
 fn append_others(draft: &mut Draft, format: OctetFormat, mark: Option<u8>, octets: &[u8])
     ensures { Adds draft.old (flat_map (marked_text format mark) octets.now) draft.new }
 {
@@ -66,8 +66,8 @@ fn append_others(draft: &mut Draft, format: OctetFormat, mark: Option<u8>, octet
     }
 }
 
-/// Appends a mark, if there is one, and an octet. Both go there at once in the forms that are seen
-/// most.
+/// Appends the mark, if there is one, and an octet. In the most frequent formats both are appended
+/// in one piece.
 fn append_marked(draft: &mut Draft, format: OctetFormat, mark: Option<u8>, octet: u8)
     ensures { Adds draft.old (marked_text format mark octet) draft.new }
 {
@@ -82,7 +82,7 @@ fn append_marked(draft: &mut Draft, format: OctetFormat, mark: Option<u8>, octet
     }
 }
 
-/// Appends a mark and an octet to the base 16.
+/// Appends `mark`, and `octet` in base 16.
 fn append_marked_hexadecimal(draft: &mut Draft, mark: u8, octet: u8)
     ensures { Adds draft.old (mark ∷ digits 16 false octet) draft.new }
 {
@@ -93,7 +93,7 @@ fn append_marked_hexadecimal(draft: &mut Draft, mark: u8, octet: u8)
     }
 }
 
-/// Appends a mark and an octet to the base 10.
+/// Appends `mark`, and `octet` in base 10.
 pub(crate) fn append_marked_decimal(draft: &mut Draft, mark: u8, octet: u8)
     ensures { Adds draft.old (mark ∷ decimal octet) draft.new }
 {
@@ -111,7 +111,7 @@ pub(crate) fn append_marked_decimal(draft: &mut Draft, mark: u8, octet: u8)
     }
 }
 
-/// Appends one octet.
+/// Appends one octet in the format `format`.
 fn append_single(draft: &mut Draft, format: OctetFormat, octet: u8)
     ensures { Adds draft.old (single_text format octet) draft.new }
 {
@@ -123,7 +123,7 @@ fn append_single(draft: &mut Draft, format: OctetFormat, octet: u8)
     }
 }
 
-/// Appends an octet to the base 16.
+/// Appends an octet in base 16, without a leading zero.
 fn append_octet_hexadecimal(draft: &mut Draft, octet: u8)
     ensures { Adds draft.old (digits 16 false octet) draft.new }
 {
@@ -134,7 +134,7 @@ fn append_octet_hexadecimal(draft: &mut Draft, octet: u8)
     }
 }
 
-/// The first of the specs of a text, and what stands after it.
+/// Returns the first spec of `text`, which must begin with one, and the rest of the text.
 fn next_spec(text: &[u8]) -> (Spec, &[u8])
     requires { (spec : Spec) × (rest : List ℕ) × IsFirstSpec text.now spec rest }
     ensures first { IsFirstSpec text.now result.0 result.1.now }
@@ -146,7 +146,8 @@ fn next_spec(text: &[u8]) -> (Spec, &[u8])
     }
 }
 
-/// Appends what one spec shows of the first octets, and returns the octets after them.
+/// Appends what one use of `spec` shows, and returns the octets that remain. If the spec has a `*`,
+/// the first octet says how many times it is applied to those after it.
 fn append_group<'a>(draft: &mut Draft, spec: &Spec, octets: &'a [u8]) -> &'a [u8]
     requires some { octets.now ≢ [] }
     requires fits { spec.now.length ≤ most_octets spec.now.format }
@@ -161,8 +162,8 @@ fn append_group<'a>(draft: &mut Draft, spec: &Spec, octets: &'a [u8]) -> &'a [u8
     }
 }
 
-/// Appends what a spec shows when it is applied a number of times, and returns the octets after
-/// that.
+/// Appends what `spec` shows if it is applied `times` times, or until no octets remain, and returns
+/// the octets that remain.
 fn append_pieces<'a>(draft: &mut Draft, spec: &Spec, times: usize, octets: &'a [u8]) -> &'a [u8]
     requires { spec.now.length ≤ most_octets spec.now.format }
     ensures { (pieces : List (List ℕ))
@@ -170,7 +171,7 @@ fn append_pieces<'a>(draft: &mut Draft, spec: &Spec, times: usize, octets: &'a [
         × Adds draft.old (pieces_text spec.now pieces result.now) draft.new }
 {
     if spec.length == 0 && spec.separator.is_none() && times > 1 {
-        // Empty pieces with no marks between them have no text: one is enough for all.
+        // Empty pieces without marks between them add nothing: one is enough for all.
         append_cut(draft, spec, 1, octets)
     } else if spec.length == 1 {
         append_cut_singles(draft, spec, times, octets)
@@ -179,7 +180,7 @@ fn append_pieces<'a>(draft: &mut Draft, spec: &Spec, times: usize, octets: &'a [
     }
 }
 
-/// Appends the pieces of [`append_pieces`] where each has one octet.
+/// Does what [`append_pieces`] does, for a spec of length 1.
 fn append_cut_singles<'a>(
     draft: &mut Draft,
     spec: &Spec,
@@ -200,7 +201,7 @@ fn append_cut_singles<'a>(
     rest
 }
 
-/// Appends the pieces of [`append_pieces`] one after the other.
+/// Does what [`append_pieces`] does, one application after the other.
 fn append_cut<'a>(draft: &mut Draft, spec: &Spec, times: usize, octets: &'a [u8]) -> &'a [u8]
     requires { spec.now.length ≤ most_octets spec.now.format }
     ensures { (pieces : List (List ℕ))
@@ -216,7 +217,8 @@ fn append_cut<'a>(draft: &mut Draft, spec: &Spec, times: usize, octets: &'a [u8]
     left
 }
 
-/// Appends one application of a spec with the mark after it, and returns the octets that remain.
+/// Appends what one application of `spec` shows, with the mark after it if octets remain, and
+/// returns the octets that remain. The mark is the last one if `is_last`, otherwise the separator.
 fn append_piece<'a>(draft: &mut Draft, spec: &Spec, is_last: bool, octets: &'a [u8]) -> &'a [u8]
     requires { spec.now.length ≤ most_octets spec.now.format }
     ensures rest { result.now ≡ drop spec.now.length octets.now }
@@ -235,7 +237,7 @@ fn append_piece<'a>(draft: &mut Draft, spec: &Spec, is_last: bool, octets: &'a [
     rest
 }
 
-/// Appends a mark, if there is one and octets remain.
+/// Appends the mark, if there is one and octets remain.
 #[tactic(auto, using(crate::proofs::Growing::adds_none))]
 fn append_mark(draft: &mut Draft, mark: Option<u8>, rest: &[u8])
     ensures { Adds draft.old (mark_before mark rest.now) draft.new }
@@ -246,7 +248,7 @@ fn append_mark(draft: &mut Draft, mark: Option<u8>, rest: &[u8])
     }
 }
 
-/// Appends the octets of one application.
+/// Appends the octets of one application in the format `format`.
 #[tactic(auto, using(crate::proofs::Growing::adds_none))]
 fn append_formatted(draft: &mut Draft, format: OctetFormat, piece: &[u8])
     requires { length piece.now ≤ most_octets format }
@@ -265,19 +267,19 @@ fn append_formatted(draft: &mut Draft, format: OctetFormat, piece: &[u8])
     }
 }
 
-/// Appends octets as one number to the base 16.
+/// Appends octets as one number in base 16.
 fn append_hexadecimal(draft: &mut Draft, octets: &[u8])
     requires { length octets.now ≤ 8 }
     ensures { Adds draft.old (digits 16 false (number_of_octets octets.now)) draft.new }
 {
     match octets {
-        // As in the address of an interface (IPv6).
+        // Hints of IPv6 addresses show two octets at a time.
         [high, low] if *high > 0 => append_pair(draft, *high, *low),
         _ => append_base_16(draft, number_of(octets)),
     }
 }
 
-/// Appends two octets as one number to the base 16.
+/// Appends two octets, the first above 0, as one number in base 16.
 fn append_pair(draft: &mut Draft, high: u8, low: u8)
     requires { 0 < high }
     ensures { Adds draft.old (digits 16 false (high * 256 + low)) draft.new }
@@ -294,7 +296,7 @@ fn append_pair(draft: &mut Draft, high: u8, low: u8)
     }
 }
 
-/// Octets as one number, the most significant first.
+/// Returns up to eight octets as one number, the most significant octet first.
 fn number_of(octets: &[u8]) -> u64
     requires { length octets.now ≤ 8 }
     ensures { result ≡ number_of_octets octets.now }

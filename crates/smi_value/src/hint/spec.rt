@@ -1,4 +1,4 @@
-//! Display hints of octets (RFC 2579, section 3.1): the specs of a text.
+//! Reads display hints of octets (RFC 2579, section 3.1), which consist of specs.
 ghost use Rattle.std.specs.Prelude.{◌≡◌, ◌<◌, ◌≤◌, ◌+◌, ◌↔◌, List, ℕ, length, IfSome, IfNone};
 ghost use Rattle.std.specs.Prelude.{IsTrue, slice_get, option_and_then, option_to_list, drop};
 ghost use Rattle.smi_value.specs.hint.Spec.{IsFirstSpec, IsOctetHint, format_of, has_star};
@@ -8,35 +8,36 @@ ghost use Rattle.smi_value.specs.declared.hint.spec.Spec.{Spec};
 
 use crate::hint::number::front_number;
 
-/// How the octets of one application are shown.
+/// How the octets of one application of a spec are shown.
 #[derive(Clone, Copy, Debug, PartialEq, Eq)]
 pub enum OctetFormat {
-    /// `x`: as one number to the base 16.
+    /// `x`: as one number in base 16.
     Hexadecimal,
-    /// `d`: as one number to the base 10.
+    /// `d`: as one number in base 10.
     Decimal,
-    /// `o`: as one number to the base 8.
+    /// `o`: as one number in base 8.
     Octal,
     /// `a` and `t`: as text, unchanged.
     Text,
 }
 
-/// One spec of a hint: how many octets are shown, in which format, and what stands after them.
+/// One spec of a hint: how many octets are shown, in what format, and what is shown after them.
 #[derive(Clone, Copy, Debug, PartialEq, Eq)]
 pub struct Spec {
-    /// Whether the first octet says how often the spec is applied (`*`).
+    /// Whether the first octet is the number of times that the spec is applied (`*`).
     pub is_counted: bool,
-    /// How many octets one application takes, 0 to 65535.
+    /// The number of octets that one application takes, if as many remain: 0 to 65535.
     pub length: u16,
-    /// How they are shown.
+    /// How the octets are shown.
     pub format: OctetFormat,
     /// The octet shown after an application, if octets remain.
     pub separator: Option<u8>,
-    /// The octet shown in place of the separator after the last application that a `*` counts.
+    /// The octet shown instead of the separator after the last application that a `*` counts.
     pub terminator: Option<u8>,
 }
 
-/// The first spec of a text, and what stands after it. Inlined, so that it stays in registers.
+/// Returns the first spec of `text` and the rest of the text, or `None` if it begins with no spec.
+/// `inline(always)`: the spec then stays in registers.
 #[inline(always)]
 pub(crate) fn first_spec(text: &[u8]) -> Option<(Spec, &[u8])>
     ensures found { IfSome result (λ r. IsFirstSpec text.now r.0 r.1.now) }
@@ -70,7 +71,7 @@ pub(crate) fn first_spec(text: &[u8]) -> Option<(Spec, &[u8])>
     Some((spec, text))
 }
 
-/// Whether a star stands at the front, and what stands after it.
+/// Returns whether `text` begins with a `*`, and `text` without it.
 fn split_star(text: &[u8]) -> (bool, &[u8])
     ensures star { result.0 ≡ has_star text.now }
     ensures after { result.1.now ≡ after_star text.now }
@@ -81,7 +82,8 @@ fn split_star(text: &[u8]) -> (bool, &[u8])
     }
 }
 
-/// The format of the letter at the front, and what stands after it.
+/// Returns the format that the first letter of `text` names, and the rest of the text. Returns
+/// `None` if it isn't the letter of a format.
 fn split_format(text: &[u8]) -> Option<(OctetFormat, &[u8])>
     ensures found { IfSome result
         (λ r. option_and_then format_of (slice_get text.now 0) ≡ Some r.0) }
@@ -98,7 +100,7 @@ fn split_format(text: &[u8]) -> Option<(OctetFormat, &[u8])>
     }
 }
 
-/// How many octets one application takes at most.
+/// Returns the greatest number of octets that one application may take.
 fn longest(format: OctetFormat) -> u32
     ensures { result ≡ most_octets format }
 {
@@ -108,8 +110,8 @@ fn longest(format: OctetFormat) -> u32
     }
 }
 
-/// The mark at the front, which is the octet there unless a spec begins with it, and what stands
-/// after it.
+/// Returns the first octet of `text` as a mark, and the rest. If a spec can begin with that octet,
+/// or `text` is empty, there is no mark, and the rest is `text`.
 fn split_mark(text: &[u8]) -> (Option<u8>, &[u8])
     ensures mark { result.0 ≡ mark_of text.now }
     ensures after { result.1.now ≡ after_mark text.now }
@@ -120,7 +122,7 @@ fn split_mark(text: &[u8]) -> (Option<u8>, &[u8])
     }
 }
 
-/// The first spec of a hint of octets and what stands after it, if a text is such a hint.
+/// Returns the first spec and the rest of `text` if it is a hint of octets, otherwise `None`.
 pub(crate) fn octet_hint(text: &[u8]) -> Option<(Spec, &[u8])>
     ensures found { IfSome result (λ r. (specs : List Spec) × IsOctetHint text.now specs
         × IsFirstSpec text.now r.0 r.1.now) }
@@ -136,7 +138,7 @@ pub(crate) fn octet_hint(text: &[u8]) -> Option<(Spec, &[u8])>
     }
 }
 
-/// Whether a text is a hint of octets, by what stands after its first spec.
+/// Returns whether `text` is a hint of octets. `first` is its first spec, and `ahead` is the rest.
 fn ends_hint(text: &[u8], first: &Spec, ahead: &[u8]) -> bool
     requires { IsFirstSpec text.now first.now ahead.now }
     ensures { IsTrue result ↔ ((specs : List Spec) × IsOctetHint text.now specs) }
@@ -154,21 +156,21 @@ fn ends_hint(text: &[u8], first: &Spec, ahead: &[u8]) -> bool
 }
 
 impl Spec {
-    /// Whether each application uses up octets: its count, or `length` of them.
+    /// Returns whether each use of the spec takes octets: its count (`*`), or `length` octets.
     pub(crate) fn takes_octets(&self) -> bool
         ensures { result ≡ takes_octets self.now }
     {
         self.is_counted || self.length > 0
     }
 
-    /// Whether each octet is shown alone, by one application of its own.
+    /// Returns whether each use of the spec shows one octet: it has no `*`, and the length 1.
     pub(crate) fn is_single(&self) -> bool
         ensures { result ≡ is_single self.now }
     {
         !self.is_counted && self.length == 1
     }
 
-    /// The mark after the last application: the terminator, if any, in place of the separator.
+    /// Returns the mark after the last application: the terminator or, without one, the separator.
     pub(crate) fn last_mark(&self) -> Option<u8>
         ensures { result ≡ last_mark self.now }
     {

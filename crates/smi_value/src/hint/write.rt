@@ -1,4 +1,4 @@
-//! Appending a value as a hint shows it.
+//! Appends values to a `Vec<u8>` as display hints show them.
 ghost use Rattle.std.specs.Prelude.{◌≡◌, List, ℕ, ◌++◌, OnOk, OnErr};
 ghost use Rattle.smi_value.specs.hint.Hint.{IsHintFor, Shows};
 ghost use Rattle.smi_value.specs.declared.hint.HintValue.{HintValue};
@@ -7,7 +7,7 @@ use crate::hint::{Hint, HintValue};
 use snmp_io::Draft;
 use std::alloc::AllocError;
 
-/// Appends a value to `out` as a hint shows it. If memory runs out, `out` is unchanged.
+/// Appends `value` to `out` as `hint` shows it. Fails if memory runs out; `out` is then unchanged.
 ///
 /// The value must be a number for a hint of integers, and octets for a hint of octets.
 pub fn write_hint(
@@ -25,7 +25,7 @@ pub fn write_hint(
     draft.finish(out)
 }
 
-/// A hint shows a value in one way.
+/// A hint shows a value as only one text.
 ///
 /// A law: the call does nothing, and its caller may use what it ensures.
 pub fn one_text()
