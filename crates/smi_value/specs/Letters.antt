@@ -10,27 +10,27 @@ use Rattle.smi_value.specs.declared.letters.StringForm.{StringForm}
 use Rattle.smi_value.specs.declared.letters.StringForm.TheVariants as strings
 use Rattle.smi_value.specs.declared.letters.Letters.{Letters}
 
--- the octet is one of these letters
+-- whether `octet` is one of `letters`
 abbrev pub is_one_of : List ℕ → ℕ → Bool
 is_one_of letters octet = list_any (λ letter. letter == octet) letters
 
--- the letters that there are
+-- all letters of `-O`
 abbrev pub all_letters : List ℕ
 all_letters = codes "nfsSqQvetbUxa"
 
--- the first octet that is not one of the letters
+-- the first octet of `text` that isn't one of the letters, if there is one
 abbrev pub first_other : List ℕ → Option ℕ
 first_other text = find (λ octet. not (is_one_of all_letters octet)) text
 
--- of letters that exclude each other, the last one that stands in the text
+-- the last octet of `text` that is one of `letters`, which exclude each other
 abbrev pub last_of : List ℕ → List ℕ → Option ℕ
 last_of letters text = find (is_one_of letters) (reverse text)
 
--- the letter stands in the text
+-- whether `text` contains `letter`
 abbrev pub has_letter : ℕ → List ℕ → Bool
 has_letter letter text = list_any (λ octet. octet == letter) text
 
--- n, f and s; S, which is also the default
+-- how names are shown, by the last of n, f, s and S; S is the default
 abbrev pub name_form : Option ℕ → NameForm
 name_form None = names.ModuleLabel
 name_form (Some octet) =
@@ -38,17 +38,17 @@ name_form (Some octet) =
     (if octet == 102 then names.Full else
     (if octet == 115 then names.Label else names.ModuleLabel))
 
--- q and Q
+-- whether types are shown, by the last of q and Q; without either they are
 abbrev pub type_form : Option ℕ → TypeForm
 type_form None = types.Typed
 type_form (Some octet) = if octet == 113 then types.Quick else types.Untyped
 
--- x and a
+-- how strings without a hint are shown, by the last of x and a
 abbrev pub string_form : Option ℕ → StringForm
 string_form None = strings.Plain
 string_form (Some octet) = if octet == 120 then strings.Hexadecimal else strings.Text
 
--- what the letters of a text say
+-- `letters` is what the letters in `text` say together
 pub record AreLetters (text : List ℕ) (letters : Letters) : Type 0 where
   pub n_f_s_S : letters.names ≡ name_form (last_of (codes "nfsS") text)
   pub q_Q : letters.types ≡ type_form (last_of (codes "qQ") text)
@@ -61,7 +61,7 @@ pub record AreLetters (text : List ℕ) (letters : Letters) : Type 0 where
 
 -- ---- for private functions
 
--- what the letters and one more say
+-- `new` is `old` with the letter `octet` as one more
 pub record IsWith (old : Letters) (octet : ℕ) (new : Letters) : Type 0 where
   pub n_f_s_S : new.names
       ≡ (if is_one_of (codes "nfsS") octet then name_form (Some octet) else old.names)

@@ -1,21 +1,23 @@
--- The syntax of an object, as far as its values are shown by it (RFC 2578, section 7; RFC 2579).
+-- The syntax of an object, as far as it affects how values are shown (RFC 2578, section 7; RFC
+-- 2579).
 use Rattle.std.specs.Prelude.{ℕ, ℤ, Bool, true, false, if◌then◌else◌, List, [], Option, Some, None}
 use Rattle.std.specs.{Option.option_map, List.find, Ordering.int_eq}
 use Rattle.smi_text.specs.{declared.trees.tree.NamedNumber.NamedNumber, trees.Number.stated_number}
 use Rattle.smi_value.specs.declared.base.ValueBase.{ValueBase}
 use Rattle.smi_value.specs.declared.base.ValueBase.TheVariants as base
 
--- the base, the names of numbers or bits, the display hint, and the units
+-- a syntax: the type of the values, the names of numbers or bits, the display hint, and the units
 pub record ObjectSyntax : Type 0 where
   pub base : ValueBase
   pub names : List NamedNumber
   pub hint : Option (List ℕ)
   pub units : Option (List ℕ)
 
--- nothing is known of the object
+-- the syntax without names, hint or units, for values that no other syntax applies to
 abbrev pub no_syntax : ObjectSyntax
 no_syntax = record { base = base.Other; names = []; hint = None; units = None }
 
+-- whether a syntax of one type applies to values of the other: they are the same, and not `Other`
 abbrev pub same_base : ValueBase → ValueBase → Bool
 same_base base.Integer base.Integer = true
 same_base base.OctetString base.OctetString = true
@@ -26,17 +28,17 @@ same_base base.TimeTicks base.TimeTicks = true
 same_base base.Counter64 base.Counter64 = true
 same_base _ _ = false
 
--- the syntax by which values of a base are shown: the object's, if it is of that base
+-- the syntax for values of type `base`: the object's if it is of that type, otherwise `no_syntax`
 abbrev pub syntax_at : ValueBase → Option ObjectSyntax → ObjectSyntax
 syntax_at base None = no_syntax
 syntax_at base (Some syntax) = if same_base syntax.base base then syntax else no_syntax
 
--- the object's type is BITS
+-- whether the object's type is known to be BITS
 abbrev pub is_of_bits : Option ObjectSyntax → Bool
 is_of_bits None = false
 is_of_bits (Some syntax) = same_base syntax.base base.Bits
 
--- the name stands for this number
+-- whether `named` is a name of the number `n`
 abbrev pub is_number_of : ℤ → NamedNumber → Bool
 is_number_of n named = is_same (stated_number named.number)
   where
@@ -44,6 +46,6 @@ is_number_of n named = is_same (stated_number named.number)
     is_same None = false
     is_same (Some m) = int_eq m n
 
--- the name of a number: of two names, the first in the text
+-- the name of the number `n`, if it has one: the first in `names` if it has several
 abbrev pub name_of_number : List NamedNumber → ℤ → Option (List ℕ)
 name_of_number names n = option_map (λ named. named.name.octets) (find (is_number_of n) names)

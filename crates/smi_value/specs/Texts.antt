@@ -1,4 +1,4 @@
--- The texts of octets and of time, which no letter changes.
+-- Octets and times as text, in forms that no letter changes.
 use Rattle.std.specs.Prelude.{ℕ, ◌+◌, ◌/◌, ◌%◌, Bool, ◌&&◌, ◌||◌, ◌==◌, nat_le, nat_lt}
 use Rattle.std.specs.Prelude.{if◌then◌else◌, List, [], ◌∷◌, ◌++◌, codes, decimal}
 use Rattle.std.specs.List.{flat_map, enumerate_from}
@@ -6,40 +6,42 @@ use Rattle.snmp_io.specs.Draft.{hexadecimal_octet}
 
 -- ---- octets
 
--- a character of printable ASCII
+-- whether an octet is a character of printable ASCII
 abbrev pub is_printable : ℕ → Bool
 is_printable octet = nat_le 32 octet && nat_le octet 126
 
--- a backslash before each double quote and each backslash
+-- the octet, with a backslash before it if it is a double quote or a backslash
 abbrev pub escaped : ℕ → List ℕ
 escaped octet = if (octet == 34) || (octet == 92) then 92 ∷ octet ∷ [] else octet ∷ []
 
--- two digits and a blank, on a new line after each 16 octets
+-- the octet at index `place` as two digits and a blank, on a new line after each 16 octets
 abbrev pub dumped : ℕ × ℕ → List ℕ
 dumped (place, octet) =
     (if nat_lt 0 place && (place % 16 == 0) then 10 ∷ [] else [])
     ++ hexadecimal_octet octet ++ codes " "
 
+-- the octets in hexadecimal, sixteen a line
 abbrev pub hexadecimal_text : List ℕ → List ℕ
 hexadecimal_text octets = flat_map dumped (enumerate_from 0 octets)
 
--- the octets of an address as numbers with dots between
+-- the octets of an address as numbers, with dots between them
 abbrev pub address_text : List ℕ → List ℕ
 address_text [] = []
 address_text (first ∷ more) = decimal first ++ flat_map (λ n. 46 ∷ decimal n) more
 
 -- ---- hundredths of a second
 
--- a mark and two decimal digits
+-- the mark, and `n`, which is below 100, as two decimal digits
 abbrev pub two_digits : ℕ → ℕ → List ℕ
 two_digits mark n = mark ∷ (48 + n / 10) ∷ (48 + n % 10) ∷ []
 
+-- a number of days with a comma and a blank, or nothing if it is 0
 abbrev pub days_text : ℕ → List ℕ
 days_text days =
     if days == 0 then [] else
     (if days == 1 then codes "1 day, " else decimal days ++ codes " days, ")
 
--- hundredths of a second as hours of the day, minutes, seconds and hundredths
+-- `ticks`, hundredths of a second, as a time within a day: hours, minutes, seconds and hundredths
 abbrev pub clock_text : ℕ → List ℕ
 clock_text ticks =
     decimal (ticks / 360000 % 24)

@@ -1,4 +1,4 @@
--- The text of a value, or of an exception in its place: a case for each type.
+-- The text of a value or an exception, with a case for each type.
 use Rattle.std.specs.Prelude.{◌≡◌, ℕ, ℤ, pos, ◌⊎◌, List, ◌++◌, Option, Some, None, codes, decimal}
 use Rattle.std.specs.Prelude.{MatchBool}
 use Rattle.std.specs.Fmt.{signed_decimal}
@@ -13,57 +13,59 @@ use Rattle.smi_value.specs.Syntax.{ObjectSyntax, syntax_at, is_of_bits, name_of_
 use Rattle.smi_value.specs.Pieces.{IsBitsText, type_word, units_text, named_text, ticks_text}
 use Rattle.smi_value.specs.Pieces.{string_text}
 
--- a number under a hint of integers, otherwise in decimal digits
+-- `text` is `n` as the hint shows it, if it is a hint of integers, otherwise `n` in decimal digits
 abbrev pub IsNumberText : Option (List ℕ) → ℤ → List ℕ → Type 0
 IsNumberText None n text = text ≡ signed_decimal n
 IsNumberText (Some hint) n text =
     ShowsNumber hint n text ⊎ ((IsOfNumbers hint → ⊥) × (text ≡ signed_decimal n))
 
--- a number after the word of its type, with the units after it
+-- `text` is the word of a type, the number `n` by its hint, if it has one, and the units
 pub record IsTypedNumber (letters : Letters) (word : List ℕ) (hint units : Option (List ℕ)) (n : ℤ)
     (text : List ℕ) : Type 0 where
   pub shown : List ℕ
   pub is_number : IsNumberText hint n shown
   pub whole : text ≡ type_word letters word ++ shown ++ units_text letters units
 
--- an INTEGER: by the name of its number, without units, if it has one; otherwise as any number
+-- `text` shows the INTEGER `n`: by its name, without units, if it has one, otherwise as a number
+-- with its hint and units
 abbrev pub IsIntegerText : Letters → ObjectSyntax → ℤ → Option (List ℕ) → List ℕ → Type 0
 IsIntegerText letters syntax n None text =
     IsTypedNumber letters (codes "INTEGER: ") syntax.hint syntax.units n text
 IsIntegerText letters syntax n (Some name) text =
     text ≡ type_word letters (codes "INTEGER: ") ++ named_text letters name (signed_decimal n)
 
--- octets under a hint of octets
+-- `text` is the word of a string, and `octets` as `hint` shows them
 pub record IsHintedString (letters : Letters) (hint octets text : List ℕ) : Type 0 where
   pub shown : List ℕ
   pub shows : ShowsOctets hint octets shown
   pub whole : text ≡ type_word letters (codes "STRING: ") ++ shown
 
--- an OCTET STRING that isn't of BITS
+-- `text` shows an OCTET STRING that isn't of BITS: by its hint if that is a hint of octets,
+-- otherwise as a string without a hint
 abbrev pub IsStringText : Letters → Option (List ℕ) → List ℕ → List ℕ → Type 0
 IsStringText letters None octets text = text ≡ string_text letters octets
 IsStringText letters (Some hint) octets text =
     IsHintedString letters hint octets text
     ⊎ ((IsOfOctets hint → ⊥) × (text ≡ string_text letters octets))
 
--- octets: of an object of BITS, or a string
+-- `text` shows `octets`: as BITS if the object is of that type, otherwise as a string
 abbrev pub IsOctetsText : Letters → Option ObjectSyntax → List ℕ → List ℕ → Type 0
 IsOctetsText letters syntax octets text =
     MatchBool (is_of_bits syntax)
     (IsBitsText letters (syntax_at base.Bits syntax).names octets text)
     (IsStringText letters (syntax_at base.OctetString syntax).hint octets text)
 
--- the value is no OBJECT IDENTIFIER
+-- the value isn't an OBJECT IDENTIFIER
 abbrev pub IsNoIdentifier : Datum → Type 0
 IsNoIdentifier (object_id _) = ⊥
 IsNoIdentifier _ = Unit {0}
 
--- a number without a hint
+-- the text of a number without a hint: the word of its type, `n` in decimal digits, and the units
 abbrev pub counter_text : Letters → List ℕ → Option (List ℕ) → ℕ → List ℕ
 counter_text letters word units n = type_word letters word ++ decimal n ++ units_text letters units
 
--- the text of a value by the syntax of its object, if that is known; `names` gives identifiers
--- their texts
+-- `text` shows a value by the letters and by the syntax of its object, if that is known; `names`
+-- maps each identifier to its name
 abbrev pub ShowsValue : (List ℕ → List ℕ) → Letters → Option ObjectSyntax → Datum → List ℕ → Type 0
 ShowsValue names letters syntax (integer_value n) text =
     let at = syntax_at base.Integer syntax in

@@ -1,10 +1,10 @@
--- What is kept of a display hint.
+-- What is stored of a display hint.
 use Rattle.std.specs.Prelude.{ℕ, List}
 use Rattle.smi_value.specs.{declared.hint.HintForm.HintForm, declared.hint.spec.Spec.Spec}
 use Rattle.smi_value.specs.{hint.Number.IsNumberHint, hint.Spec.IsOctetHint, hint.Spec.IsFirstSpec}
 use Rattle.smi_value.specs.declared.hint.HintForm.TheVariants as form
 
--- the form is that of the hint with this text
+-- `text` is a hint, and the form is what was read of it
 abbrev pub IsFormOf : List ℕ → HintForm → Type 0
 IsFormOf text (form.Number number) = IsNumberHint text number
 IsFormOf text (form.Octets first ahead) =

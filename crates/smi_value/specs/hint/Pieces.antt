@@ -1,4 +1,5 @@
--- Octets under a display hint (RFC 2579, section 3.1): count octets and pieces, and their text.
+-- Octets as a display hint shows them (RFC 2579, section 3.1): each spec is applied to a group of
+-- octets, which is cut into pieces.
 use Rattle.std.specs.Prelude.{◌≡◌, ◌≢◌, ℕ, ◌≤◌, ◌⊎◌, false, if◌then◌else◌, is_some, List, [], ◌∷◌}
 use Rattle.std.specs.Prelude.{◌++◌, length, take, drop, slice_index, Option, option_to_list}
 use Rattle.std.specs.Prelude.{decimal, Bool, not, ◌&&◌, ◌==◌}
@@ -7,11 +8,11 @@ use Rattle.smi_value.specs.{hint.Spec.IsOctetHint, declared.hint.spec.Spec.Spec}
 use Rattle.smi_value.specs.declared.hint.spec.OctetFormat.{OctetFormat}
 use Rattle.smi_value.specs.declared.hint.spec.OctetFormat.TheVariants as octet_format
 
--- octets as one number, the most significant first
+-- the octets as one number, the most significant octet first
 abbrev pub number_of_octets : List ℕ → ℕ
 number_of_octets octets = number_from_digits 256 octets
 
--- one application: text unchanged, or one number; no octets give no text
+-- the text of one application: the octets unchanged, or as one number; nothing without octets
 abbrev pub piece_text : OctetFormat → List ℕ → List ℕ
 piece_text format [] = []
 piece_text octet_format.Text (octet ∷ more) = octet ∷ more
@@ -20,28 +21,30 @@ piece_text octet_format.Hexadecimal (octet ∷ more) = digits 16 false
 piece_text octet_format.Decimal (octet ∷ more) = decimal (number_of_octets (octet ∷ more))
 piece_text octet_format.Octal (octet ∷ more) = digits 8 false (number_of_octets (octet ∷ more))
 
--- pieces of a width, or all that remains if fewer, are cut from the front while octets remain
+-- `pieces` are cut one by one from the start of `octets`, while octets remain: `width` octets each,
+-- or all that remain if there are fewer; `rest` is what remains after them
 abbrev pub ArePieces : ℕ → List (List ℕ) → List ℕ → List ℕ → Type 0
 ArePieces width [] octets rest = rest ≡ octets
 ArePieces width (piece ∷ pieces) octets rest =
     (octets ≢ []) × (piece ≡ take width octets) × ArePieces width pieces (drop width octets) rest
 
--- `times` pieces, or fewer if nothing remains after them
+-- `pieces` are cut from the start of `octets`, and `rest` remains: `times` pieces, or fewer if
+-- nothing remains after them
 pub record IsCut (width times : ℕ) (pieces : List (List ℕ)) (octets rest : List ℕ) : Type 0 where
   pub are_pieces : ArePieces width pieces octets rest
   pub at_most : length pieces ≤ times
   pub enough : (length pieces ≡ times) ⊎ (rest ≡ [])
 
--- a mark is shown if octets remain
+-- the mark, if there is one and octets remain
 abbrev pub mark_before : Option ℕ → List ℕ → List ℕ
 mark_before mark [] = []
 mark_before mark (_ ∷ _) = option_to_list mark
 
--- the mark after the last application: the terminator, if any, in place of the separator
+-- the mark after the last application: the terminator or, without one, the separator
 abbrev pub last_mark : Spec → Option ℕ
 last_mark spec = if is_some spec.terminator then spec.terminator else spec.separator
 
--- the text of the pieces of one spec, before octets that remain
+-- the text of the pieces of one spec, with the marks after them; `rest` is what remains
 abbrev pub pieces_text : Spec → List (List ℕ) → List ℕ → List ℕ
 pieces_text spec [] rest = []
 pieces_text spec (piece ∷ []) rest =
@@ -50,26 +53,27 @@ pieces_text spec (piece ∷ next ∷ more) rest =
     piece_text spec.format piece ++ option_to_list spec.separator
     ++ pieces_text spec (next ∷ more) rest
 
--- how often a spec is applied: as often as the first octet says if it has a star, otherwise once
+-- the number of times that a spec is applied: the first octet if the spec has a star, otherwise 1
 abbrev pub times_of : Spec → List ℕ → ℕ
 times_of spec octets = if spec.is_counted then slice_index octets 0 else 1
 
--- the octets that a spec is applied to
+-- the octets that a spec is applied to: all of them, but for the count if the spec has a star
 abbrev pub body_of : Spec → List ℕ → List ℕ
 body_of spec octets = if spec.is_counted then drop 1 octets else octets
 
--- the specs after one: the last spec comes again
+-- the specs after `spec`: those that follow it, or `spec` itself again if it is the last one
 abbrev pub specs_after : Spec → List Spec → List Spec
 specs_after spec [] = spec ∷ []
 specs_after spec (next ∷ more) = next ∷ more
 
--- the pieces of a first spec, and what comes after them
+-- `spec` is applied to the start of `octets`, which aren't empty, and cuts `pieces` from it; `rest`
+-- remains
 pub record IsGroup (spec : Spec) (pieces : List (List ℕ)) (octets rest : List ℕ) : Type 0 where
   pub some : octets ≢ []
   pub cut : IsCut spec.length (times_of spec octets) pieces (body_of spec octets) rest
 
--- the specs are applied one after the other while octets remain, to these groups of pieces, with
--- this text
+-- the specs are applied one after the other while octets remain: `groups` has the pieces that each
+-- cuts off, and `text` is the text of all of them
 abbrev pub AreGroups : List Spec → List (List (List ℕ)) → List ℕ → List ℕ → Type 0
 AreGroups specs [] octets text = (octets ≡ []) × (text ≡ [])
 AreGroups [] (pieces ∷ groups) octets text = ⊥
@@ -78,7 +82,7 @@ AreGroups (spec ∷ specs) (pieces ∷ groups) octets text =
     × AreGroups (specs_after spec specs) groups rest later
     × (text ≡ pieces_text spec pieces rest ++ later)
 
--- a hint shows octets as this text
+-- `hint` shows `octets` as `text`
 pub record ShowsOctets (hint octets text : List ℕ) : Type 0 where
   pub specs : List Spec
   pub groups : List (List (List ℕ))
@@ -87,19 +91,19 @@ pub record ShowsOctets (hint octets text : List ℕ) : Type 0 where
 
 -- ---- for private functions
 
--- the spec has no star, and takes one octet each time
+-- whether the spec has no star, and takes one octet each time
 abbrev pub is_single : Spec → Bool
 is_single spec = not spec.is_counted && (spec.length == 1)
 
--- the text of one octet
+-- the text of one octet by itself
 abbrev pub single_text : OctetFormat → ℕ → List ℕ
 single_text format octet = piece_text format (octet ∷ [])
 
--- an octet after a mark
+-- the mark, if there is one, and the text of one octet
 abbrev pub marked_text : OctetFormat → Option ℕ → ℕ → List ℕ
 marked_text format mark octet = option_to_list mark ++ single_text format octet
 
--- octets one by one, with a mark before each but the first
+-- the text of octets one by one, with the mark, if any, before each but the first
 abbrev pub singles_text : OctetFormat → Option ℕ → List ℕ → List ℕ
 singles_text format mark [] = []
 singles_text format mark (octet ∷ more) =

@@ -1,4 +1,4 @@
--- Display hints of octets (RFC 2579, section 3.1): specs, and the texts that they are read from.
+-- Display hints of octets (RFC 2579, section 3.1): how a text is read as specs.
 use Rattle.std.specs.Prelude.{◌≡◌, ◌≢◌, ℕ, ◌≤◌, nat_lt, Bool, true, false, ◌&&◌, ◌||◌, ◌==◌}
 use Rattle.std.specs.Prelude.{if◌then◌else◌, List, [], ◌∷◌, length, drop, Option, Some, None}
 use Rattle.std.specs.Prelude.{is_some, slice_get, option_and_then, option_to_list}
@@ -8,7 +8,7 @@ use Rattle.smi_value.specs.declared.hint.spec.OctetFormat.{OctetFormat}
 use Rattle.smi_value.specs.declared.hint.spec.OctetFormat.TheVariants as octet_format
 use Rattle.smi_value.specs.declared.hint.spec.Spec.{Spec}
 
--- the letter of a format: x, d, o, and a or t
+-- the format with this letter: x, d, o, and a or t; None for any other octet
 abbrev pub format_of : ℕ → Option OctetFormat
 format_of letter =
     if letter == 120 then Some octet_format.Hexadecimal else
@@ -16,12 +16,12 @@ format_of letter =
     (if letter == 111 then Some octet_format.Octal else
     (if (letter == 97) || (letter == 116) then Some octet_format.Text else None)))
 
--- how many octets one application takes at most: of a number those of 64 bits
+-- the most octets that one application may take: if shown as one number, this has up to 64 bits
 abbrev pub most_octets : OctetFormat → ℕ
 most_octets octet_format.Text = 65535
 most_octets _ = 8
 
--- a star at the front
+-- whether the text begins with a star
 abbrev pub has_star : List ℕ → Bool
 has_star [] = false
 has_star (octet ∷ _) = octet == 42
@@ -29,11 +29,11 @@ has_star (octet ∷ _) = octet == 42
 abbrev pub after_star : List ℕ → List ℕ
 after_star text = if has_star text then drop 1 text else text
 
--- where a spec begins: a star or a digit
+-- whether a spec can begin with the octet: it is a star or a digit
 abbrev pub begins_spec : ℕ → Bool
 begins_spec octet = (octet == 42) || is_ascii_digit octet
 
--- the mark at the front: the octet there, unless a spec begins with it
+-- the mark that the text begins with: its first octet, unless a spec can begin with that
 abbrev pub mark_of : List ℕ → Option ℕ
 mark_of [] = None
 mark_of (octet ∷ _) = if begins_spec octet then None else Some octet
@@ -41,18 +41,20 @@ mark_of (octet ∷ _) = if begins_spec octet then None else Some octet
 abbrev pub after_mark : List ℕ → List ℕ
 after_mark text = drop (length (option_to_list (mark_of text))) text
 
--- the text from the format letter of the first spec on, and the text after that letter
+-- the text from the format letter of its first spec on
 abbrev pub at_letter : List ℕ → List ℕ
 at_letter text = after_digits (after_star text)
 
+-- the text after the format letter of its first spec
 abbrev pub after_format_letter : List ℕ → List ℕ
 after_format_letter text = drop 1 (at_letter text)
 
--- a spec may have a terminator only if it has a star and a separator
+-- whether a spec may have a terminator: it has a star and a separator
 abbrev pub may_end : Spec → Bool
 may_end spec = spec.is_counted && is_some spec.separator
 
--- the first spec of a text: [*] length format [separator [terminator]]
+-- `text` begins with `spec`, in the form [*] length format [separator [terminator]], and `rest`
+-- follows
 pub record IsFirstSpec (text : List ℕ) (spec : Spec) (rest : List ℕ) : Type 0 where
   pub star : spec.is_counted ≡ has_star text
   pub digits : front_digits (after_star text) ≢ []
@@ -66,22 +68,22 @@ pub record IsFirstSpec (text : List ℕ) (spec : Spec) (rest : List ℕ) : Type 
       ≡ (if may_end spec then after_mark (after_mark (after_format_letter text))
       else after_mark (after_format_letter text))
 
--- the specs of a text, one after the other
+-- `text` consists of `specs`, one after the other
 abbrev pub AreSpecs : List ℕ → List Spec → Type 0
 AreSpecs text [] = text ≡ []
 AreSpecs text (spec ∷ specs) = (rest : List ℕ) × IsFirstSpec text spec rest × AreSpecs rest specs
 
--- a spec that uses up octets each time: its count, or its length
+-- whether a spec uses up octets each time: the count that a star asks for, or `length` octets
 abbrev pub takes_octets : Spec → Bool
 takes_octets spec = spec.is_counted || nat_lt 0 spec.length
 
--- the last spec, which is applied again and again, uses up octets each time
+-- the list isn't empty, and its last spec, which is repeated, uses up octets each time
 abbrev pub LastTakesOctets : List Spec → Type 0
 LastTakesOctets [] = ⊥
 LastTakesOctets (spec ∷ []) = takes_octets spec ≡ true
 LastTakesOctets (_ ∷ next ∷ more) = LastTakesOctets (next ∷ more)
 
--- the text is a hint of octets with these specs
+-- `text` is a hint of octets, which consists of `specs`
 pub record IsOctetHint (text : List ℕ) (specs : List Spec) : Type 0 where
   pub read : AreSpecs text specs
   pub ends : LastTakesOctets specs
