@@ -1,4 +1,4 @@
--- The bits of a value of BITS that are set.
+-- The bits that are set in a value of BITS: they are one increasing list (`same_bits`), and are shown octet by octet (`bits_shown`).
 use Rattle.std.proofs.{lemmas.Grind.common_steps, lemmas.List.get_or_default, lemmas.List.Kept.AllPairs-filter, lemmas.Map.Made.Contains-tail}
 use Rattle.std.proofs.Common.{◌≡◌, ℕ, zero, suc, ◌+◌, ◌-◌, ◌*◌, ◌/◌, ◌%◌, ◌^◌, ◌<◌, ◌≤◌, Bool, true, eqb, List, [], ◌∷◌, ◌++◌, length, get_or, refl}
 use Rattle.std.proofs.Common.{sym, ◌∙◌, ap, arith, append_assoc}
@@ -10,7 +10,7 @@ use Rattle.smi_text.specs.declared.trees.tree.NamedNumber.{NamedNumber}
 use Rattle.smi_value.specs.{declared.letters.Letters.Letters, Texts.hexadecimal_text}
 use Rattle.smi_value.specs.Pieces.{AreSetBits, IsBitSet, IsBitsText, bit_text, octet_bits, set_bit_text, type_word}
 
--- ---- rising numbers
+-- ---- increasing numbers
 
 abbrev Rises : List ℕ → Type 0
 Rises ns = (i j : ℕ) → i < j → j < length ns → get_or ns i 0 < get_or ns j 0
@@ -25,7 +25,7 @@ least : (n : ℕ) (ns : List ℕ) (m : ℕ) → Rises (n ∷ ns) → Contains (n
 least n ns m h (zero, l, e) = omega (arith, e)
 least n ns m h (suc i, l, e) = let less = below n ns m h (i, omega arith, e) in omega arith
 
--- two lists of the same numbers that rise are one
+-- if two increasing lists contain the same numbers, then they are equal
 one_list : (xs ys : List ℕ) → Rises xs → Rises ys → ((n : ℕ) → Contains xs n → Contains ys n) → ((n : ℕ) → Contains ys n → Contains xs n) → xs ≡ ys
 one_list [] [] h k to back = refl
 one_list [] (y ∷ ys) h k to back = let there = back y (0, omega arith, refl) in absurd (omega (arith, there.1))
@@ -42,7 +42,7 @@ one_list (x ∷ xs) (y ∷ ys) h k to back =
 pub same_bits : (octets a b : List ℕ) → AreSetBits octets a → AreSetBits octets b → a ≡ b
 same_bits octets a b h k = one_list a b h.rising k.rising (λ n there. k.all n (h.set n there)) (λ n there. h.all n (k.set n there))
 
--- ---- the numbers from n on, `count` of them, at which s is 1
+-- ---- the numbers m with s m = 1, among the `count` numbers from n on
 
 kept : (p : ℕ → Bool) (ns : List ℕ) (m : ℕ) → p m ≡ true → Contains ns m → Contains (filter p ns) m
 kept p [] m pass there = there
@@ -112,7 +112,7 @@ module _ (letters : Letters) (names : List NamedNumber) where
   shown : (ℕ → ℕ) → ℕ → ℕ → List ℕ
   shown s n count = flat_map (set_bit_text letters names) (picked s n count)
 
-  -- one bit more at the front: bit m, which is a
+  -- if bit m is a, and `rest` shows the bits after it, then the text of bit m, followed by `rest`, shows all of them
   one_more : (s : ℕ → ℕ) (n count m a : ℕ) (rest : List ℕ) → n ≡ m → s n ≡ a → shown s (n + 1) count ≡ rest
       → shown s n (suc count) ≡ bit_text letters names m a ++ rest
   unfolding shown

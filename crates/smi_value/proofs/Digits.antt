@@ -1,4 +1,4 @@
--- Digits read from the front of a text, and written from the last to the first.
+-- Digits read from the start of a text (`value_more`), and written from the last to the first (`written_before`, `written_last`).
 use Rattle.std.proofs.{lemmas.Grind.common_steps, Math.ListN.set, lemmas.List.drop-set, lemmas.List.get_or-take, lemmas.List.take_more}
 use Rattle.std.proofs.{lemmas.List.Sums.prefix_len_passes, lemmas.List.Folds.length-prefix_len, lemmas.Int.Digits.digits_value_more}
 use Rattle.std.proofs.{lemmas.Int.Digits.number_after_append, lemmas.Str.digit_value_digit, lemmas.Str.Parse.digits_value-take-le, Math.Pow.pow_mono}
@@ -10,7 +10,7 @@ use Rattle.smi_value.specs.hint.Number.{front_digits, StartsWithNumber, IsNumber
 use Rattle.smi_value.specs.{hint.Pieces.number_of_octets, declared.hint.number.NumberForm.NumberForm}
 use Rattle.smi_value.specs.declared.hint.number.NumberForm.TheVariants as form
 
--- the digits that are still to be written stand before the ones that are there
+-- up to `at` digits of `left` are still to be written before `written`: together they are the digits of `n`
 pub record AreLeft (at base left : ℕ) (written : List ℕ) (n : ℕ) : Type 0 where
   pub same : digits_onto at base false left written ≡ digits base false n
 
@@ -29,7 +29,7 @@ last_written at base left n written h e = rw e at h.same
 pub front_is_digits : (text : List ℕ) (k : ℕ) → k < length (front_digits text) → IsInRange 48 57 (get_or (front_digits text) k 0)
 front_is_digits text k low = grind (arith, common_steps, length-prefix_len, get_or-take, prefix_len_passes)
 
--- a digit written before those that are there
+-- if another digit is written, and it isn't the last one, then the digits of `left / base` are still to be written
 pub written_before : (at base left n digit : ℕ) (text : List ℕ) → 0 < at → at ≤ length text → AreLeft at base left (drop at text) n
     → digit ≡ digit_glyph false (left % base)
     → (left / base == 0) ≡ false → AreLeft (at - 1) base (left / base) (drop (at - 1) (set text (at - 1) digit)) n
@@ -40,7 +40,7 @@ pub written_last : (at base left n digit : ℕ) (text : List ℕ) → 0 < at →
     → (left / base == 0) ≡ true → drop (at - 1) (set text (at - 1) digit) ≡ digits base false n
 written_last at base left n digit text some within h is_digit no_more = grind (arith, common_steps, drop-set, add-one, last_written)
 
--- one digit more
+-- if n is the value of the first i digits, and d is the next digit, then n * 10 + d is the value of the first i + 1
 pub value_more : (digits : List ℕ) (i n d : ℕ) → i < length digits → IsInRange 48 57 (get_or digits i 0) → n ≡ digits_value 10 (take i digits)
     → d ≡ get_or digits i 0 - 48
     → n * 10 + d ≡ digits_value 10 (take (i + 1) digits)
@@ -50,7 +50,7 @@ pub value_above : (text : List ℕ) (i n most : ℕ) → n ≡ digits_value 10 (
     → (number : ℕ) (rest : List ℕ) → StartsWithNumber text number rest → most < number
 value_above text i n most e above number rest h = grind (arith, common_steps, digits_value-take-le)
 
--- one octet more of a number
+-- the number of the first i + 1 octets is 256 times the number of the first i, plus the next octet
 pub number_more : (octets : List ℕ) (i : ℕ) → i < length octets → number_of_octets (take (i + 1) octets)
     ≡ number_of_octets (take i octets) * 256 + get_or octets i 0
 number_more octets i low = grind (arith, common_steps, take_more, number_after_append)
@@ -66,7 +66,7 @@ below_56_bits n i low short =
     let le : 2 ^ (8 * i) ≤ 2 ^ 56 = pow_mono {i = 8 * i} {j = 56} (omega arith) in
     omega (arith, le, low)
 
--- a text that names no number of places
+-- if a text isn't a number of at most 20, then `d-` with the text after it isn't a hint of integers
 pub no_places : (text : List ℕ) → ((places : ℕ) → StartsWithNumber text places [] → places ≤ 20 → ⊥) → (form : NumberForm)
     → IsNumberHint (100 ∷ 45 ∷ text) form → ⊥
 no_places text none (form.Decimal places) (inl h) = absurd (cc h.0)
@@ -75,9 +75,9 @@ no_places text none (form.Decimal places) (inr h) =
     none places (rw same at h.number) h.at_most
 no_places text none _ h = absurd (cc h)
 
--- ---- octets, of one to four digits
+-- ---- one or two octets, in two to four digits
 
--- the last two digits of two octets
+-- if the last two digits of two octets are written, then the digits of the first octet are still to be written
 low_two : (a b : ℕ) → 0 < a → b < 256
     → AreLeft 62 16 a (digit_glyph false (b / 16) ∷ digit_glyph false (b % 16) ∷ []) (a * 256 + b)
 low_two a b some within =

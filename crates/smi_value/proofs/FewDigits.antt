@@ -1,4 +1,4 @@
--- Numbers that one to three digits state.
+-- The number that one to three digits write (`one_stated`, `two_stated`, `three_stated`).
 use Rattle.std.proofs.lemmas.Grind.{common_steps}
 use Rattle.std.proofs.Common.{◌≡◌, ℕ, pos, ◌+◌, ◌-◌, ◌*◌, ◌≤◌, true, false, [], ◌∷◌, List, Some, refl, length, get_or, arith, rules, tests}
 use Rattle.std.specs.{Bool.nat_le, Int.IsInRange}

@@ -1,4 +1,4 @@
--- The pieces and groups that octets are still to be cut into, and those that they were cut into.
+-- Octets are cut into pieces and groups in two loops: their invariants (`PiecesAhead`, `GroupsAhead`), and what each step appends.
 use Rattle.std.proofs.{lemmas.Grind.common_steps, lemmas.Bool.and_parts, lemmas.Bool.not-true, lemmas.Bool.eqb-true, lemmas.Bool.cases_order}
 use Rattle.std.proofs.Common.{◌≡◌, ◌≢◌, ℕ, zero, suc, ◌+◌, ◌-◌, ◌<◌, ◌≤◌, true, false, List, [], ◌∷◌, ◌++◌, length, take, drop, replicate, refl, sym}
 use Rattle.std.proofs.Common.{◌∙◌, ap, subst, arith, inl, inr, ◌⊎◌, append-nil, Option, None, option_to_list, if◌then◌else◌, length-drop, map}
@@ -12,13 +12,13 @@ use Rattle.smi_value.specs.hint.Pieces.{ArePieces, IsCut, IsGroup, AreGroups, Sh
 use Rattle.smi_value.specs.hint.Pieces.{specs_after, is_single, single_text, singles_text}
 use Rattle.smi_value.proofs.{Growing.grows_none, Growing.grows_both, Growing.adds_from, Specs.after_first, Specs.first_some, Specs.Begins}
 
--- from `old` to `new` the text of some pieces of the octets is appended
+-- from `old` to `new` the text of the pieces that `times` applications of the spec cut from `octets` is appended, and `rest` remains
 pub record AppendsPieces (spec : Spec) (times : ℕ) (octets : List ℕ) (old new : Written) (rest : List ℕ) : Type 0 where
   pub pieces : List (List ℕ)
   pub cut : IsCut spec.length times pieces octets rest
   pub grows : Grows old (pieces_text spec pieces rest) new
 
--- what suffices from here on suffices from the start
+-- if the text of `ahead` applications to `left` is appended from `now` on, then the text of `times` applications to `octets` is appended from `old` on
 pub record PiecesAhead (spec : Spec) (times : ℕ) (octets : List ℕ) (old : Written) (ahead : ℕ) (left : List ℕ) (now : Written) : Type 0 where
   pub whole : (new : Written) (rest : List ℕ) → AppendsPieces spec ahead left now new rest → AppendsPieces spec times octets old new rest
 
@@ -74,7 +74,7 @@ one_piece spec ahead left old now new rest some first h = go h.pieces h.cut h.gr
           grows = grows_both old now new _ _ (rw marks at first) grows;
         }
 
--- pieces of no octets, with no mark between them, have the text of one
+-- if a spec has no separator, then one or more empty pieces have the same text as one
 empty_pieces : (spec : Spec) (n : ℕ) (octets : List ℕ) → spec.separator ≡ None
     → pieces_text spec (replicate (suc n) []) octets ≡ mark_before (last_mark spec) octets
 empty_pieces spec zero octets e = refl
@@ -117,18 +117,21 @@ one_for_all spec times octets old new rest short bare more h = go h.pieces h.cut
         }
     go (piece ∷ next ∷ pieces) cut grows = absurd (omega (arith, cut.at_most))
 
--- from `old` to `new` the text of some groups of the octets is appended
+-- from `old` to `new` the text of the groups that `specs` cut `octets` into is appended
 pub record AppendsGroups (specs : List Spec) (octets : List ℕ) (old new : Written) : Type 0 where
   pub groups : List (List (List ℕ))
   pub text : List ℕ
   pub are_groups : AreGroups specs groups octets text
   pub grows : Grows old text new
 
+-- from `old` to `new` the text that `hint` shows for `octets` is appended
 pub record AppendsShown (hint octets : List ℕ) (old new : Written) : Type 0 where
   pub text : List ℕ
   pub shows : ShowsOctets hint octets text
   pub grows : Grows old text new
 
+-- `ahead` is the text of the specs after `spec`; if the groups that `spec` and these cut `left` into are appended from `now` on, then what `hint`
+-- shows for `octets` is appended from `old` on
 pub record GroupsAhead (hint octets : List ℕ) (old : Written) (spec : Spec) (ahead left : List ℕ) (now : Written) : Type 0 where
   pub specs : List Spec
   pub are_specs : AreSpecs ahead specs
@@ -181,7 +184,7 @@ groups_begin hint octets old spec ahead all is_hint is_first =
       };
     }
 
--- one group before the others
+-- if one group is appended, and then the groups after it, then all of them are appended
 group_before : (spec : Spec) (specs : List Spec) (pieces : List (List ℕ)) (left rest : List ℕ) (old now new : Written) → IsGroup spec pieces left rest
     → Adds old (pieces_text spec pieces rest) now
     → AppendsGroups (specs_after spec specs) rest now new → AppendsGroups (spec ∷ specs) left old new
@@ -238,7 +241,7 @@ groups_end hint octets old spec ahead left now none h =
     let all = h.whole now (record { groups = []; text = []; are_groups = (none, refl); grows = grows_none now }) in
     (all.text, all.shows, adds_from old now all.text all.grows)
 
--- ---- a last spec that shows each octet alone
+-- ---- a last spec that shows one octet each time
 
 alone : ℕ → List (List ℕ)
 alone octet = (octet ∷ []) ∷ []

@@ -1,4 +1,4 @@
--- Texts that are appended in two steps.
+-- A text that is appended in two steps (`grows_both`, `adds_from`), or that is empty (`adds_none`).
 use Rattle.std.proofs.lemmas.Grind.{common_steps}
 use Rattle.std.proofs.Common.{◌≡◌, ℕ, List, [], ◌++◌, refl, sym, append_assoc, append-nil, Bool, true, ◌∷◌, length, arith}
 use Rattle.std.specs.Bool.{◌==◌}
@@ -13,11 +13,11 @@ grows_both first middle last front back h k = grind (arith, common_steps, append
 pub adds_from : (old new : Written) (text : List ℕ) → Grows old text new → Adds old text new
 adds_from old new text h = record { grows = h; goes_on = λ first front k. grows_both first old new front text k h }
 
--- nothing is appended
+-- if nothing changes, then the empty text is appended
 pub adds_none : (old : Written) → Adds old [] old
 adds_none old = adds_from old old [] (grows_none old)
 
--- what a test for emptiness says
+-- if a test says that a list has the length 0, then the list is empty
 pub none_left : (b : Bool) (xs : List ℕ) → b ≡ (length xs == 0) → b ≡ true → xs ≡ []
 none_left b [] e f = refl
 none_left b (x ∷ xs) e f = grind (arith, common_steps)

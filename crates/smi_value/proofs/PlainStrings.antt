@@ -1,4 +1,4 @@
--- Strings that stand between quotes as they are.
+-- Strings that are shown unchanged between quotes (`shown_where_plain`), and the test of their octets in lanes (`plain_lanes`).
 use Rattle.std.proofs.{lemmas.Grind.common_steps, lemmas.List.length-map}
 use Rattle.std.proofs.Common.{◌≡◌, ℕ, suc, ◌+◌, ◌%◌, ◌^◌, ◌≤◌, Bool, true, false, cond, ltb, eqb, List, [], ◌∷◌, length, get_or, map, replicate, w8}
 use Rattle.std.proofs.Common.{refl, sym, ap, ◌∙◌, arith, ◌||◌, not}
@@ -10,7 +10,7 @@ use Rattle.smi_value.specs.{declared.letters.StringForm.StringForm, Texts.is_pri
 use Rattle.smi_value.specs.declared.letters.StringForm.TheVariants as strings
 use Rattle.smi_value.specs.Pieces.{ArePlain, IsShownPlain, is_plain, dotted}
 
--- what the mask of a test of lanes is, with the octet that all are compared with on the left
+-- if lanes are tested against `y`, with `y` on the left, then the mask has one bit for each lane: the result of its test
 left_mask : (t : ℕ → ℕ → Bool) (lanes : List ℕ) (n y : ℕ) → length lanes ≡ n → n ≤ 64
     → mask_l (map (top 7) (zip2 (λ a b. cond (t a b) 255 0) (replicate n y) lanes)) % 2 ^ 64 ≡ mask_l (map (λ x. t y x) lanes)
 left_mask t lanes n y long few =
@@ -20,7 +20,7 @@ left_mask t lanes n y long few =
 plain_by_tests : (octet : ℕ) → ltb octet 32 ≡ false → ltb 126 octet ≡ false → eqb octet 34 ≡ false → eqb octet 92 ≡ false → is_plain octet ≡ true
 plain_by_tests octet low high quote backslash = grind (arith, common_steps)
 
--- the masks of the octets from one place on: those below and those above another, and those equal to it
+-- the masks of the `n` octets from offset `at` on: which of them are below `y`, above `y` and equal to `y`
 abbrev mask_below : List ℕ → ℕ → ℕ → ℕ → ℕ
 mask_below octets at n y = mask_l (map (top 7) (zip2 (λ a b. cond (ltb a b) 255 0) (chunk at n octets) (replicate n y))) % 2 ^ 64
 
@@ -45,7 +45,7 @@ lanes_pass octets at n room few low high quote backslash k from to =
     (none_from_empty_mask (λ x. eqb x 34) octets at n 0 room c k from to)
     (none_from_empty_mask (λ x. eqb x 92) octets at n 0 room d k from to)
 
--- four masks, of which three are zero, and the last where that is answered
+-- if three masks are 0, and a test says that the fourth is 0 too, then the octets are plain
 pub plain_lanes : (octets : List ℕ) (at n : ℕ) → at + n ≤ length octets → n ≤ 64 → mask_below octets at n 32 ≡ 0 → mask_above octets at n 126 ≡ 0
     → mask_equal octets at n 34 ≡ 0 → OnTrue (mask_equal octets at n 92 == 0) (ArePlain octets at (at + n))
 plain_lanes octets at n room few low high quote =

@@ -1,4 +1,4 @@
--- Letters that are read one after the other.
+-- The letters of `-O`, read one after the other: what they say (`letters_at`), and the first octet that isn't one (`other_at`).
 use Rattle.std.proofs.Common.{arith, ◌≡◌, ℕ, ◌+◌, ◌<◌, Bool, true, false, not, List, [], ◌∷◌, ◌++◌, Option, Some, None, refl, sym, ◌∙◌, ap, take}
 use Rattle.std.proofs.Common.{drop, length, get_or, if◌then◌else◌, suc, drop-cons, take-append-drop, ◌||◌}
 use Rattle.std.proofs.{lemmas.Grind.common_steps, lemmas.List.reverse-append, lemmas.List.take_more, lemmas.List.Folds.find-append}
@@ -22,7 +22,7 @@ has_more : (letter : ℕ) (text : List ℕ) (octet : ℕ) → has_letter letter 
 has_more letter [] octet = grind (arith, common_steps)
 has_more letter (x ∷ text) octet = grind (arith, common_steps, has_more letter text octet, either_way)
 
--- the letters of a text with one more
+-- if `old` is what the letters of a text say, then `new`, with `octet` as one more, is what they say with `octet` after them
 pub letters_more : (text : List ℕ) (octet : ℕ) (old new : Letters) → AreLetters text old → IsWith old octet new → AreLetters (text ++ octet ∷ []) new
 letters_more text octet old new h k = grind (arith, common_steps, choice_of, last_more, has_more)
 

@@ -1,4 +1,4 @@
--- The specs of a text, read from the front.
+-- The specs of a text: it has at most one first spec (`same_spec`); the invariant of the loop over them (`GoesOn`); the two kinds of hints (`not_both`).
 use Rattle.std.proofs.lemmas.Grind.{common_steps}
 use Rattle.std.proofs.Common.{◌≡◌, ◌≢◌, ℕ, Bool, true, false, List, [], ◌∷◌, refl, inl, inr, subst, arith, ◌<◌, ◌≤◌, Bor}
 use Rattle.smi_value.specs.{hint.Number.StartsWithNumber, hint.Number.IsNumberHint, hint.Hint.IsOfNumbers, hint.Hint.IsOfOctets}
@@ -13,14 +13,14 @@ same_fields : (a b : Spec) → a.is_counted ≡ b.is_counted → a.length ≡ b.
     → a.terminator ≡ b.terminator → a ≡ b
 same_fields a b e f g h k = λ i. record { is_counted = e i; length = f i; format = g i; separator = h i; terminator = k i }
 
--- a text has one first spec
+-- if `a` and `b` are first specs of a text, then they are equal
 pub same_spec : (text : List ℕ) (a b : Spec) (r s : List ℕ) → IsFirstSpec text a r → IsFirstSpec text b s → a ≡ b
 same_spec text a b r s h k = grind (arith, common_steps, same_fields)
 
 pub same_rest : (text : List ℕ) (a b : Spec) (r s : List ℕ) → IsFirstSpec text a r → IsFirstSpec text b s → r ≡ s
 same_rest text a b r s h k = grind (arith, common_steps, same_spec)
 
--- the last spec takes octets, or where there is none the one before did
+-- the last of the specs takes octets or, if there are none, `before` is true: the spec before them takes octets
 abbrev pub TakesAfter : Bool → List Spec → Type 0
 TakesAfter before [] = before ≡ true
 TakesAfter before (spec ∷ specs) = TakesAfter (takes_octets spec) specs
@@ -35,7 +35,7 @@ takes_after_to [] h = absurd (cc)
 takes_after_to (spec ∷ []) h = h
 takes_after_to (spec ∷ next ∷ more) h = takes_after_to (next ∷ more) h
 
--- the text is a hint exactly where the rest goes on to the end of one
+-- `text` is a hint of octets if and only if `rest` consists of specs and the last one takes octets or, if `rest` is empty, `before` is true
 pub record GoesOn (text rest : List ℕ) (before : Bool) : Type 0 where
   pub whole : (specs : List Spec) → AreSpecs rest specs → TakesAfter before specs → (all : List Spec) × IsOctetHint text all
   pub part : (all : List Spec) → IsOctetHint text all → (specs : List Spec) × AreSpecs rest specs × TakesAfter before specs
@@ -43,7 +43,7 @@ pub record GoesOn (text rest : List ℕ) (before : Bool) : Type 0 where
 pub goes_on_first : (text : List ℕ) → GoesOn text text false
 goes_on_first text = grind (arith, common_steps, takes_after_to, takes_after_from)
 
--- what a rest that isn't empty begins with
+-- `text` is `spec` and then `rest`, which consists of the specs `more`; `specs` are `spec` and then `more`
 pub record Begins (text : List ℕ) (specs : List Spec) : Type 0 where
   pub spec : Spec
   pub rest : List ℕ
@@ -60,7 +60,7 @@ pub first_some : (text : List ℕ) (spec : Spec) (rest : List ℕ) → IsFirstSp
 first_some [] spec rest h = λ _. h.digits refl
 first_some (octet ∷ more) spec rest h = λ no. absurd (cc no)
 
--- what stands after the first spec of a text
+-- if a text consists of specs, and `spec` is its first, then the others are the specs of the rest
 pub after_first : (text : List ℕ) (specs : List Spec) (spec : Spec) (rest : List ℕ) → IsFirstSpec text spec rest → AreSpecs text specs
     → (more : List Spec) × AreSpecs rest more × (specs ≡ spec ∷ more)
 after_first text [] spec rest h are = absurd (first_some text spec rest h are)
@@ -95,7 +95,7 @@ most_octets-le : (format : OctetFormat) → most_octets format ≤ 65535
 most_octets-le octet_format.Text = omega arith
 most_octets-le _ = omega arith
 
--- no number of a length that a spec may have
+-- if a text, without its star, doesn't begin with a number up to 65535, then it has no first spec
 pub no_length : (text after : List ℕ) → after ≡ after_star text → ((number : ℕ) (rest : List ℕ) → StartsWithNumber after number rest → 65535 < number)
     → (spec : Spec) (rest : List ℕ) → IsFirstSpec text spec rest → ⊥
 no_length text after e none spec rest h =
@@ -104,17 +104,18 @@ no_length text after e none spec rest h =
     let le = most_octets-le spec.format in
     absurd (omega (arith, above, le, h.fits))
 
--- no text is a hint of integers and one of octets
+-- if a text is a hint of integers, then it isn't a hint of octets
 pub not_both : (text : List ℕ) (form : NumberForm) (specs : List Spec) → IsNumberHint text form → IsOctetHint text specs → ⊥
 not_both text form [] h k = k.ends
 not_both text (form.Decimal places) (spec ∷ more) (inl h) k = (rw h.0 at k.read.1.digits) refl
 not_both text (form.Decimal places) (spec ∷ more) (inr h) k = (rw h.whole at k.read.1.digits) refl
 not_both text _ (spec ∷ more) h k = (rw h at k.read.1.digits) refl
 
--- what is kept of a hint, by its kind
+-- if the form of a hint is one of integers, then the text is the hint of integers for that form
 pub of_number : (text : List ℕ) (form : HintForm) (number : NumberForm) → form ≡ kept.Number number → IsFormOf text form → IsNumberHint text number
 of_number text form number e h = let P : HintForm → Type 0 = λ f. IsFormOf text f in subst P e h
 
+-- if the form of a hint is one of octets, then the text is a hint of octets that begins with the spec in the form
 pub of_octets : (text : List ℕ) (form : HintForm) (first : Spec) (ahead : Bor (List ℕ)) → form ≡ kept.Octets first ahead → IsFormOf text form
     → (specs : List Spec) × IsOctetHint text specs × IsFirstSpec text first ahead.now
 of_octets text form first ahead e h = let P : HintForm → Type 0 = λ f. IsFormOf text f in subst P e h

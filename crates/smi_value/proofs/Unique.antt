@@ -1,4 +1,4 @@
--- A hint shows a value in one way.
+-- A hint shows a value as only one text (`same_by_hint`).
 use Rattle.std.proofs.lemmas.Grind.{common_steps}
 use Rattle.std.proofs.Common.{◌≡◌, ℕ, ℤ, ◌-◌, inl, inr, List, [], ◌∷◌, ◌++◌, drop, get_or, refl, sym, ◌∙◌, ap, subst, arith}
 use Rattle.smi_value.specs.{hint.Number.IsNumberHint, hint.Hint.ShowsNumber, hint.Hint.Shows, declared.hint.number.NumberForm.NumberForm}
@@ -50,7 +50,7 @@ same_shown hint octets first second h k = grind (arith, common_steps, same_specs
 
 -- ---- numbers
 
--- the letter that a hint of integers begins with
+-- the letter that a hint of integers with this form begins with
 letter : NumberForm → ℕ
 letter (form.Decimal places) = 100
 letter form.Hexadecimal = 120

@@ -1,4 +1,4 @@
--- A value has one text, where the names of identifiers have one.
+-- A value has only one text, if each identifier has only one name (`value_once`).
 use Rattle.std.proofs.Common.{arith, ◌≡◌, ℕ, ℤ, Bool, true, false, MatchBool, inl, inr, List, ◌++◌, Option, Some, None, sym, ◌∙◌, ap}
 use Rattle.std.proofs.lemmas.Grind.{common_steps}
 use Rattle.std.specs.Prelude.{codes}
