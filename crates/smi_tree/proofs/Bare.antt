@@ -1,4 +1,4 @@
--- The tree of no modules is that of the three roots.
+-- The tree of no modules has only the three roots.
 use Rattle.std.proofs.Common.{◌≡◌, ℕ, suc, List, [], ◌∷◌, slice_index_or, Option, Some, None, refl, arith}
 use Rattle.std.proofs.lemmas.Grind.{common_steps}
 use Rattle.std.specs.List.{slice_get}
@@ -21,7 +21,7 @@ no_object (d, o, e, k) = cc
 root-index : (k : ℕ) (n : Node) → slice_get roots k ≡ Some n → IsIndex [] roots n None
 root-index = grind (arith, common_steps, root-case, no_object)
 
--- no modules give the roots alone
+-- if there are no modules, the tree is `bare`
 pub is_bare : IsTree [] bare []
 is_bare = record {
   passed = refl;

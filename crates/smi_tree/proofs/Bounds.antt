@@ -1,4 +1,4 @@
--- The value of an end of a range fits 64 bits.
+-- The value of an end of a range is at most 18446744073709551615, the greatest number of 64 bits.
 use Rattle.std.proofs.Common.{◌≡◌, ℕ, true, List, Some, ℤ, pos, ◌≤ℤ◌, arith}
 use Rattle.std.proofs.{lemmas.Int.ints, Math.Bool.or-false}
 use Rattle.smi_text.specs.declared.lexer.token.TokenKind.{TokenKind}

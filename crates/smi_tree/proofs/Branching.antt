@@ -1,4 +1,4 @@
--- Branches stay those of a list as it grows.
+-- The branches of a list of identifiers, as identifiers are appended and their branches are added.
 use Rattle.std.proofs.{lemmas.Grind.common_steps, lemmas.Bool.cases_lt, lemmas.Bool.cases_eq, Math.Seq.take-append_seam}
 use Rattle.std.proofs.lemmas.Option.{slice_get_past, slice_get_read}
 use Rattle.std.proofs.Common.{◌≡◌, ◌≢◌, ℕ, ◌+◌, ◌<◌, ◌⊎◌, inl, inr, List, [], ◌∷◌, ◌++◌, length, take, drop, set, get_or, MatchOption, Option, Some}
@@ -16,28 +16,28 @@ use Rattle.smi_tree.proofs.Growing.{follower_past, standing_inside, get-set_same
 use Rattle.smi_tree.proofs.Walking.{walk_push, walk_off, walk_within, walk_kept, walk_back}
 
 module _ (bs new : List Branch) (at n b : ℕ) (grows : GrowsBranch bs new at n b) where
-  -- where numbers led to a branch they still do
+  -- if numbers reached a branch, they still reach it
   pub branch_kept : (o : List ℕ) (c : ℕ) → branch_of bs o ≡ Some c → branch_of new o ≡ Some c
   branch_kept o = walk_kept (follower bs) (follower new) grows.kept o 0
 
-  -- one number more leads to what was there, or is made
+  -- if numbers reached the branch `at`, then with `n` appended they reach `b`
   pub branch_grown : (q : List ℕ) → branch_of bs q ≡ Some at → branch_of new (q ++ n ∷ []) ≡ Some b
   branch_grown q here = walk_push (follower new) 0 q n ∙ rw (branch_kept q at here) grows.leads
 
 module _ (known oids : List (List ℕ)) (bs : List Branch) (are : AreBranches known oids bs) where
-  -- what no branch leads to is none of the identifiers
+  -- if numbers reach no branch, they aren't one of the identifiers
   pub place_off : (o : List ℕ) → branch_of bs o ≡ None → place_of oids o ≡ None
   place_off o e = none_if (place_of oids o) (λ k h. let f = place_found oids o k h in let b = are.each k f.0 in let same = rw f.1 at b.1 in cc)
 
-  -- nor is anything that goes on from it
+  -- if numbers reach no branch, no identifier begins with them
   pub places_off : (xs ys : List ℕ) → branch_of bs xs ≡ None → place_of oids (xs ++ ys) ≡ None
   places_off xs ys e = place_off (xs ++ ys) (walk_off (follower bs) 0 xs ys e)
 
-  -- a branch lies within
+  -- if numbers reach a branch, it is in the list of branches
   pub branch_inside : (o : List ℕ) (b : ℕ) → branch_of bs o ≡ Some b → b < length bs
   branch_inside o b e = walk_within (follower bs) (length bs) are.within o 0 b are.some e
 
-  -- the numbers of what stands at a branch lead there
+  -- if an index is stored at a branch, the numbers of this identifier reach the branch
   pub standing_way : (at place : ℕ) → standing_at bs at ≡ Some place → branch_of bs (oid_at oids place) ≡ Some at
   standing_way at place e =
       let r = are.reached at (standing_inside bs at place e) in rw (place_found oids r.0 place (sym (are.standing r.0 at r.1) ∙ e)).1 r.1
@@ -70,16 +70,16 @@ module _ (known oids : List (List ℕ)) (bs : List Branch) (are : AreBranches kn
     pub Branches-grown : IsBeginning known (q ++ n ∷ []) → AreBranches known oids new
     Branches-grown begins = elim grows.adds [ inl e ↦ rw e are | inr a ↦ added a begins ]
 
--- more is known: what was known is, at the place that it had
+-- if branches are right for the known identifiers, they are right with one more: each of the others has the index that it had
 pub Branches-known : (known oids : List (List ℕ)) (p : List ℕ) (bs : List Branch) → AreBranches known oids bs → AreBranches (known ++ p ∷ []) oids bs
 Branches-known known oids p bs are = grind (arith, common_steps, length_push, get_or_append_left)
 
--- the new identifier's own beginnings are known
+-- the prefixes of an identifier that is appended to the known ones are prefixes of a known one
 pub begins_push : (known : List (List ℕ)) (p : List ℕ) (j : ℕ) → IsBeginning (known ++ p ∷ []) (take j p)
 begins_push known p j =
     (length known, drop j p, omega (arith, length_push known p), get_or_push known p [] (length known) refl ∙ sym (take-append-drop j p))
 
--- the new identifier stands where its numbers lead, if none stands there
+-- if the numbers of an identifier reach a branch, and its index is stored there unless one is already, the branches are right for the list with it appended
 module _ (oids : List (List ℕ)) (p : List ℕ) (bs : List Branch) (at : ℕ) (a : Branch) (s : Option ℕ) (are : AreBranches (oids ++ p ∷ []) oids bs)
     (here : branch_of bs p ≡ Some at) (read : a ≡ get_or bs at a) where
   abbrev new : List Branch
@@ -134,7 +134,7 @@ module _ (oids : List (List ℕ)) (p : List ℕ) (bs : List Branch) (at : ℕ) (
         reached = λ c l. let r = are.reached c (omega (arith, l, long)) in (r.0, stays r.0 c r.1);
       }
 
--- the branches of no identifier
+-- if no number follows a single branch, and no index is stored there, it is right for an empty list
 pub Branches-none : (b : Branch) → ((n : ℕ) → follower (b ∷ []) 0 n ≡ None) → b.standing ≡ None → AreBranchesOf [] (b ∷ [])
 Branches-none b none stands = record {
   some = omega arith;
@@ -150,7 +150,7 @@ Branches-none b none stands = record {
     first [] c e = (refl, cc)
     first (n ∷ o) c e = grind (arith, common_steps, none n)
 
--- the walk goes on by the next of the numbers
+-- if the first `i` numbers reach a branch, one more reaches what the next number reaches from there
 pub branch_more : (bs : List Branch) (o : List ℕ) (i at : ℕ) → i < length o → branch_of bs (take i o) ≡ Some at
     → branch_of bs (take (i + 1) o) ≡ follower bs at (get_or o i 0)
 branch_more bs o i at l e = rw (take_more o i 0 l, walk_push (follower bs) 0 (take i o) (get_or o i 0), e) refl
@@ -163,14 +163,14 @@ pub SoFar-whole : (oids : List (List ℕ)) (o : List ℕ) (r : Option Deepest) �
     → MatchOption r (HasNoBeginning oids o) (λ d. IsDeepestAt oids o d.place d.depth)
 SoFar-whole oids o r f = grind (arith, common_steps)
 
--- no longer beginning is there where the numbers lead no further
+-- if the number after the first `i` reaches no branch, no prefix of more than `i` numbers is in the list
 pub none_beyond : (oids : List (List ℕ)) (bs : List Branch) → AreBranchesOf oids bs → (o : List ℕ) (i at : ℕ) → i < length o → branch_of bs (take i o) ≡ Some at
     → follower bs at (get_or o i 0) ≡ None → (j : ℕ) → i < j → place_of oids (take j o) ≡ None
 none_beyond oids bs are o i at l e f j m =
     let none = rw (← take-take (i + 1) j o (omega arith)) at (branch_more bs o i at l e ∙ f) in
     rw take-append-drop at (places_off oids oids bs are (take (i + 1) (take j o)) (drop (i + 1) (take j o)) none)
 
--- an identifier below the one that stands at a branch is on the way there
+-- if an identifier is below the one whose index is stored at a branch, a search for it can begin at that branch
 pub way_known : (oids : List (List ℕ)) (bs : List Branch) → AreBranchesOf oids bs → (o known : List ℕ) (at place : ℕ) → standing_at bs at ≡ Some place
     → oid_at oids place ≡ known → IsBelow o known
     → IsUnderWay oids bs o (length known) at (Some (record { place = place; depth = length known; branch = at }))

@@ -1,4 +1,4 @@
--- Nodes and their sources, one for each.
+-- Nodes and their sources, one source for each node.
 use Rattle.std.proofs.lemmas.Grind.{common_steps}
 use Rattle.std.proofs.Common.{◌≡◌, ℕ, ◌+◌, Bool, List, [], ◌∷◌, length, Some, is_some, refl, arith}
 use Rattle.std.specs.List.{slice_get, position_from, find}
@@ -9,7 +9,7 @@ use Rattle.smi_tree.specs.Nodes.{has_label, is_of, place_anywhere, place_in_modu
 use Rattle.smi_tree.specs.{branches.Standing.oid_at, Places.home_from, Places.label_from, Places.definition_from, Places.label_in}
 use Rattle.smi_tree.specs.Places as places
 
--- a node of a source, by its parts: in both cases of a source each part is read from the same module
+-- the parts of a source's node: in both cases of a source each part is read from the same module
 pub parts : (ms : List Module) (s : Source) (o : List ℕ)
     → node_from ms s o ≡ record { home = home_from ms s; label = label_from ms s; oid = o; definition = definition_from ms s }
 parts ms (S.Root n) o = refl
@@ -24,13 +24,13 @@ module _ (ms : List Module) where
   oids_nodes [] os e = grind (arith, common_steps)
   oids_nodes (s ∷ ss) os e = grind (arith, common_steps, oids_nodes ss, parts)
 
-  -- the node of a source has the identifier at the source's place
+  -- if a source has the index `k`, so does its node, with the identifier at that index
   pub node-at : (ss : List Source) (os : List (List ℕ)) → length ss ≡ length os → (k : ℕ) (s : Source) → slice_get ss k ≡ Some s
       → slice_get (nodes_of ms ss os) k ≡ Some (node_from ms s (oid_at os k))
   node-at [] os l k s e = grind (arith, common_steps)
   node-at (x ∷ ss) os l k s e = grind (arith, common_steps, node-at ss)
 
-  -- a test of nodes that is one of sources
+  -- if a test of nodes is a test of their sources, it finds the same index in both lists
   position-nodes : (t : Node → Bool) (u : Source → Bool) → ((s : Source) (o : List ℕ) → t (node_from ms s o) ≡ u s)
       → (ss : List Source) (os : List (List ℕ)) (b : ℕ) → length ss ≡ length os → position_from t b (nodes_of ms ss os) ≡ position_from u b ss
   position-nodes t u e [] os b l = refl

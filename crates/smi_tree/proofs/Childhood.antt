@@ -9,19 +9,19 @@ use Rattle.smi_tree.specs.Nodes.{IsOfLowest, nothing, lowest, IsFirstChild, is_l
 use Rattle.smi_tree.specs.Nodes.{last_number}
 use Rattle.smi_tree.proofs.{PlacesLemmas.place_found, First.none_if}
 
--- what the first of numbers gives that gives anything
+-- the first result of `f` for the numbers, in their order, that isn't `None`
 abbrev pub of_first : (ℕ → Option ℕ) → List ℕ → Option ℕ
 of_first f [] = None
 of_first f (n ∷ ns) = or_else (f n) (of_first f ns)
 
--- one number is the lowest
+-- `f` has at most one result for the lowest number
 one_lowest : {f : ℕ → Option ℕ} {r s : Option ℕ} → IsOfLowest f r → IsOfLowest f s → r ≡ s
 one_lowest (nothing h) (nothing k) = refl
 one_lowest (nothing h) (lowest m j d before) = cc (h m)
 one_lowest (lowest n k e before) (nothing h) = cc (h n)
 one_lowest (lowest n k e before) (lowest m j d earlier) = grind (arith, cases_order n m, before m, earlier n)
 
--- what the lowest number below b gives that gives anything
+-- the result is `Some k` if `f` returns this for the lowest number below `b` for which it isn't `None`, or `None` if there is none below `b`
 abbrev IsLowestBelow : (ℕ → Option ℕ) → ℕ → Option ℕ → Type 0
 IsLowestBelow f b None = (m : ℕ) → m < b → f m ≡ None
 IsLowestBelow f b (Some k) = (n : ℕ) × (f n ≡ Some k) × ((m : ℕ) → m < n → f m ≡ None)
@@ -38,7 +38,7 @@ of_lowest-lowest f b within = by (of_lowest f b) (lowest_below f b)
     by None below = nothing (λ m. none_if (f m) (λ k e. let none = below m (within m k e) in cc))
     by (Some k) (n, e, before) = lowest n k e before
 
--- what rising numbers give first, if no other number gives anything
+-- if numbers increase, and `f` is `None` for all others, then its first result for them is the result for the lowest number
 in-rest : (n m : ℕ) (ns : List ℕ) → Contains (n ∷ ns) m → n ≢ m → Contains ns m
 in-rest n m ns (i, l, e) other = grind (arith, common_steps)
 
@@ -58,14 +58,14 @@ of_first-lowest f (n ∷ ns) rising all =
     by None e rest = rw e (rest (λ m k h same. let at : f n ≡ Some k = rw same h in cc))
     by (Some k) e rest = rw e (lowest n k e before)
 
--- the first of numbers' places with the label
+-- if `h` is `g` with a test, then the first index that passes, of those that `g` finds for numbers, is the first result of `h`
 find-first : (p : ℕ → Bool) (g : ℕ → Option ℕ) (h : ℕ → Option ℕ) (ns : List ℕ)
     → ((n : ℕ) → g n ≡ None → h n ≡ None) → ((n k : ℕ) → g n ≡ Some k → h n ≡ cond (p k) (Some k) None)
     → find p (filter_map g ns) ≡ of_first h ns
 find-first p g h [] none some = refl
 find-first p g h (n ∷ ns) none some = grind (arith, common_steps, find-first p g h ns none some, none n, some n)
 
--- an identifier of the list ends with a number up to the highest
+-- the last number of an identifier of the list is at most the highest
 last_number-push : (o : List ℕ) (n : ℕ) → last_number (o ++ n ∷ []) ≡ n
 last_number-push (m ∷ k ∷ o) n = last_number-push (k ∷ o) n
 last_number-push _ n = refl
@@ -74,7 +74,7 @@ up_to_highest : (oids : List (List ℕ)) (k : ℕ) → k < length oids → last_
 up_to_highest [] k l = absurd (omega arith)
 up_to_highest (o ∷ oids) k l = grind (arith, common_steps, up_to_highest oids)
 
--- a number that gives anything for a child is that of a node, and at most the highest
+-- if a child of `o` is found for a number, it is the node of `o` with that number appended, and the number is at most the highest
 child-place : (nodes : List Node) (o label : List ℕ) (n k : ℕ) → child_at nodes o label n ≡ Some k → place_of (oids_of nodes) (o ++ n ∷ []) ≡ Some k
 child-place nodes o label n k e = grind (arith, common_steps)
 
@@ -83,14 +83,14 @@ child-below nodes o label n k e =
     let at = place_found (oids_of nodes) (o ++ n ∷ []) k (child-place nodes o label n k e) in
     omega (arith, up_to_highest (oids_of nodes) k at.0, ap last_number at.1, last_number-push o n)
 
--- the computed child is the first one, and no other is
+-- the computed child is the first child, and no other is
 pub child_first : (nodes : List Node) (o label : List ℕ) → IsFirstChild nodes o label (child_of nodes o label)
 child_first nodes o label = of_lowest-lowest (child_at nodes o label) (suc (highest (oids_of nodes))) (child-below nodes o label)
 
 pub child_is : (nodes : List Node) (o label : List ℕ) (r : Option ℕ) → IsFirstChild nodes o label r → r ≡ child_of nodes o label
 child_is nodes o label r is = one_lowest is (child_first nodes o label)
 
--- the first child is found among the children
+-- if the children are searched in order, the first one with the label is the first child
 pub child_found : (nodes : List Node) (o label : List ℕ) (places : List ℕ) → AreChildren (oids_of nodes) o places
     → IsFirstChild nodes o label (find (is_labelled nodes label) places)
 child_found nodes o label places c =

@@ -1,4 +1,4 @@
--- A type has one chain, and so one syntax.
+-- A type has at most one chain, and so at most one syntax.
 use Rattle.std.proofs.{Common.arith, Common.◌≡◌, Common.List, Common.◌∷◌, Common.refl, Common.ap, lemmas.Grind.common_steps}
 use Rattle.smi_text.specs.declared.trees.tree.Module.{Module}
 use Rattle.smi_names.specs.{meaning.Meaning.QualifiedName, declared.meaning.base.TypeBase.TypeBase}

@@ -1,4 +1,4 @@
--- A column has one index.
+-- A column has at most one index.
 use Rattle.std.proofs.{lemmas.Grind.common_steps, lemmas.List.ext_get_or, lemmas.Option.slice_get_within}
 use Rattle.std.proofs.Common.{◌≡◌, ℕ, Bool, List, Option, Some, None, refl, sym, ap, ◌∙◌, arith}
 use Rattle.smi_tree.specs.{declared.columns.index_part.Extent.Extent, declared.columns.index_part.IndexPart.IndexPart}
@@ -13,7 +13,7 @@ use Rattle.smi_tree.specs.columns.Parts.{StatesBound, IsFixedBy, HasExtent, IsPa
 use Rattle.smi_tree.specs.columns.Index.{IsIndexPart, AreParts, IsIndexed, IsIndexOf, IsIndex, AreIndexesOf, index_at, is_implied}
 use Rattle.smi_tree.proofs.{Choosing.one_syntax, Lists.get_within, Lists.same_items, Parting.defined_once, Indexing.index_once}
 
--- sizes fix one bound, and its text states one number
+-- if a SIZE is fixed, it has one bound, and that has one value
 fixed_once : (sizes : Option (List Range)) (n m : ℕ) (a : (bound : TokenText) × IsFixedBy sizes bound × StatesBound bound n)
     (b : (bound : TokenText) × IsFixedBy sizes bound × StatesBound bound m) → n ≡ m
 fixed_once sizes n m a b = grind (arith, common_steps)
@@ -60,7 +60,7 @@ module _ (ms : List Module) where
       same_indexed b.index_module b.index_definition ps qs (index_once ms nodes column b.row b.row_module b.row_definition b.index_module
       b.index_definition ps b.of_row b.home b.defined b.uses a) b.indexed
 
--- each node has one index or none, so the lists of them are the same
+-- each node has one index or none, so two lists of indexes of the same nodes are the same
 module _ (ms : List Module) (nodes : List Node) where
   index_or_none : (node : Node) (r s : Option (List IndexPart)) → IsIndex ms nodes node r → IsIndex ms nodes node s → r ≡ s
   index_or_none node None None a b = refl

@@ -1,4 +1,4 @@
--- The first thing of a list that passes a test.
+-- The first item of a list that passes a test.
 use Rattle.std.proofs.{lemmas.Grind.common_steps, lemmas.Bool.cases_lt, lemmas.Option.slice_get_within, Math.Bool.and-false}
 use Rattle.std.proofs.Common.{◌≡◌, ℕ, zero, suc, ◌+◌, ◌<◌, Bool, true, false, cond, ◌&&◌, List, [], ◌∷◌, ◌++◌, length, take, drop, get_or}
 use Rattle.std.proofs.Common.{Option, Some, None, MatchOption, refl, ◌∙◌, arith}
@@ -6,18 +6,18 @@ use Rattle.std.proofs.lemmas.List.{take_more, take-append-drop, length-take-le}
 use Rattle.std.specs.{List.slice_get, List.position_from, Option.option_map}
 use Rattle.smi_names.specs.meaning.Meaning.{or_else}
 
--- none of the first n things passes
+-- none of the first `n` items passes
 abbrev pub NonePasses : {A : Type 0} → (A → Bool) → List A → ℕ → Type 0
 NonePasses {A = A} t xs n = (i : ℕ) (x : A) → i < n → slice_get xs i ≡ Some x → t x ≡ false
 
--- the thing at place k passes, and none before it
+-- the item at index `k` passes, and none before it does
 pub record IsFirst {A : Type 0} (t : A → Bool) (xs : List A) (k : ℕ) : Type 0 where
   pub x : A
   pub at : slice_get xs k ≡ Some x
   pub passes : t x ≡ true
   pub before : NonePasses t xs k
 
--- what isn't Some is None
+-- if an option isn't `Some`, it is `None`
 pub none_if : {A : Type 0} (r : Option A) → ((x : A) → r ≡ Some x → ⊥) → r ≡ None
 none_if None h = refl
 none_if (Some x) h = absurd (h x refl)
@@ -45,7 +45,7 @@ module _ {A : Type 0} (t : A → Bool) where
   pub none_first : (xs : List A) → NonePasses t xs (length xs) → position_from t 0 xs ≡ None
   none_first xs none = grind (arith, common_steps, first xs, none, slice_get_within)
 
-  -- where a thing passes there is a first one
+  -- if an item passes, there is a first one that passes
   pub passing : (xs : List A) (i : ℕ) (x : A) → slice_get xs i ≡ Some x → t x ≡ true → (k : ℕ) × (position_from t 0 xs ≡ Some k) × IsFirst t xs k
   passing xs i x at passes = grind (arith, common_steps, first xs, slice_get_within)
 
@@ -53,16 +53,16 @@ module _ {A : Type 0} (t : A → Bool) where
   append-from b [] ys = let all : b + 0 ≡ b = omega arith in rw all refl
   append-from b (x ∷ xs) ys = grind (arith, common_steps, append-from (b + 1) xs ys)
 
-  -- one thing more
+  -- the first of `i + 1` items that passes is the first of `i` items, or, if none of these passes, the last item if it does
   pub more : (xs : List A) (i : ℕ) (d : A) → i < length xs
       → position_from t 0 (take (i + 1) xs) ≡ or_else (position_from t 0 (take i xs)) (cond (t (get_or xs i d)) (Some i) None)
   more xs i d l = grind (arith, common_steps, length-take-le, take_more, append-from)
 
-  -- what is first in the front is first
+  -- if an item is the first that passes in a prefix of a list, it is the first in the list
   pub of_front : (xs : List A) (n k : ℕ) → position_from t 0 (take n xs) ≡ Some k → position_from t 0 xs ≡ Some k
   of_front xs n k e = rw take-append-drop at (append-from 0 (take n xs) (drop n xs)) ∙ rw e refl
 
--- what passes the one test first passes both first, if it passes the other too
+-- if the first item that passes `t` also passes `g`, it is the first that passes both
 module _ {A : Type 0} (g t : A → Bool) (xs : List A) where
   pub both_none : position_from t 0 xs ≡ None → position_from (λ y. g y && t y) 0 xs ≡ None
   both_none e = grind (arith, common_steps, first t xs, none_first, and-false)

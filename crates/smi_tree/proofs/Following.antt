@@ -15,11 +15,11 @@ use Rattle.smi_tree.specs.types.Kept.{refines}
 pub past_get : {X : Type 0} (xs : List X) (i : ℕ) → slice_get xs i ≡ None → length xs ≤ i
 past_get xs i e = grind (arith, slice_get_cases xs i)
 
--- what no chain begins with has no syntax
+-- if the origin isn't a type, there is no syntax
 pub no_syntax : (ms : List Module) (o : TypeOrigin QualifiedName) → o ≡ no_type → HasNoSyntax ms o
 no_syntax ms o e f h = grind (arith, common_steps)
 
--- the name that a type refines
+-- the name of the type that a type refines
 abbrev refined_name : TypeOrigin QualifiedName → Option QualifiedName
 refined_name (at_base l b) = None
 refined_name (on_name l a) = Some a

@@ -1,4 +1,4 @@
--- A branch is made.
+-- A branch is added.
 use Rattle.std.proofs.{lemmas.Grind.common_steps, lemmas.Bool.cases_eq}
 use Rattle.std.proofs.Common.{◌≡◌, ◌≢◌, ℕ, ◌<◌, ◌≤◌, inr, List, [], ◌∷◌, ◌++◌, length, set, get_or, Some, None, refl, ◌∙◌, arith}
 use Rattle.std.proofs.lemmas.List.{length_push, length-set, get_or_append_left, get_or-set_same}
@@ -55,6 +55,6 @@ module _ (old : List Branch) (e a b : Branch) (at n : ℕ) (inside : at < length
     });
   }
 
--- a place stands at a branch that is there
+-- if an index is stored at a branch, the branch is in the list
 pub standing_inside : (bs : List Branch) (at place : ℕ) → standing_at bs at ≡ Some place → at < length bs
 standing_inside bs at place e = grind (arith, common_steps, slice_get_within)

@@ -1,4 +1,4 @@
--- The index of each node, by its row and by the parts of the INDEX clause that the row uses.
+-- The index of each node, from its row and the parts of the INDEX clause that the row uses.
 use Rattle.std.proofs.{lemmas.Grind.common_steps, lemmas.List.same_from_push, lemmas.List.length-map, lemmas.Option.slice_get-map}
 use Rattle.std.proofs.lemmas.Option.{get_or_from_slice_get}
 use Rattle.std.proofs.Common.{◌≡◌, ℕ, List, Option, Some, None, refl, sym, ◌∙◌, arith}
@@ -25,13 +25,13 @@ uses_once ms m d None n k e f a b = absurd a
 uses_once ms m d (Some (Own clause)) n k e f a b = (a.0 ∙ sym b.0, a.1 ∙ sym b.1)
 uses_once ms m d (Some (Augments name)) n k e f a b = defined_once a b
 
--- the definition whose clause a column uses
+-- if the row of a column uses the clause of definition `e`, then the parts of the column's index are the parts of that clause
 pub index_once : (ms : List Module) (nodes : List Node) (column : Node) (row : Node) (m : Module) (d : Def) (n : Module) (e : Def) (parts : List IndexPart)
     → IsColumnOf nodes column row → row.home ≡ Some m → row.definition ≡ Some d → UsesIndexOf ms m d (clause_of d.kind) n e
     → IsIndexOf ms nodes column parts → IsIndexed ms n e parts
 index_once ms nodes column row m d n e parts of_row home defined uses is = grind (arith, common_steps, column_once, uses_once)
 
--- ---- what is kept
+-- ---- what is stored
 
 pub index-at : (kept : List KeptOfModule) (rows : List (Option (ℕ × ℕ))) (k : ℕ) (at : Option (ℕ × ℕ)) → slice_get rows k ≡ Some at
     → index_at (indexes_of kept rows) k ≡ option_and_then (λ p. parts_at kept p.0 p.1) at

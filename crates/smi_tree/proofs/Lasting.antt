@@ -1,4 +1,4 @@
--- An identifier below which there is none stands for all that are below it.
+-- If no identifier of a list is below another one of it, that is the longest prefix in the list of each identifier below it.
 use Rattle.std.proofs.Common.{◌≡◌, ℕ, ◌+◌, List, [], ◌∷◌, ◌++◌, length, take, drop, Option, Some, None, IfSome, MatchOption, refl, ap, ◌∙◌}
 use Rattle.std.proofs.Common.{append_assoc, arith}
 use Rattle.std.proofs.lemmas.List.{length-append, length-take-le, length-drop, take-take, take-append-drop}
@@ -9,7 +9,7 @@ use Rattle.snmp_oid.specs.Identifier.{IsBelow}
 use Rattle.smi_tree.specs.declared.branches.branch.Branch.{Branch}
 use Rattle.smi_tree.proofs.{Branching.places_off, Branching.standing_way, PlacesLemmas.place_found, Walking.walk_push}
 
--- nothing is below what stands at a branch after which no number follows
+-- if no number follows a branch, no identifier is below the one whose index is stored there
 pub none_below : (oids : List (List ℕ)) (bs : List Branch) → AreBranchesOf oids bs → (at place : ℕ) → standing_at bs at ≡ Some place
     → ((n : ℕ) → follower bs at n ≡ None) → HasNoneBelow oids (oid_at oids place)
 none_below oids bs are at place stands ends p ([], some, is) = absurd (some refl)
@@ -18,7 +18,7 @@ none_below oids bs are at place stands ends p (n ∷ more, some, is) =
     let off = walk_push (follower bs) 0 (oid_at oids place) n ∙ rw (standing_way oids oids bs are at place stands) (ends n) in
     rw (is, ← append_assoc known (n ∷ []) more) (places_off oids oids bs are (known ++ n ∷ []) more off)
 
--- what stands for one identifier stands for each that is below it
+-- if the longest prefix of `o` has none of the list below it, it is the longest prefix of each identifier below it
 pub deepest_below : (oids : List (List ℕ)) (o p root : List ℕ) (place depth : ℕ) → IsDeepestAt oids o place depth → root ≡ oid_at oids place
     → HasNoneBelow oids root → IsBelow p root → IsDeepestAt oids p place depth
 deepest_below oids o p root place depth at read last (rest, some, is) =
@@ -35,12 +35,12 @@ deepest_below oids o p root place depth at read last (rest, some, is) =
       );
     }
 
--- what is read at a place, if it is there
+-- if no identifier is below the one at an index, and that was read, then none is below what was read
 pub last_if_some : {X : Type 0} (value : X → List ℕ) (r : Option X) (oids : List (List ℕ)) (place : ℕ) → IfSome r (λ o. value o ≡ oid_at oids place)
     → HasNoneBelow oids (oid_at oids place) → IfSome r (λ o. HasNoneBelow oids (value o))
 last_if_some value r oids place at last = grind (arith, common_steps)
 
--- what holds of each identifier for which the place stands holds of those below it
+-- if something holds of each identifier that has this longest prefix, it holds of each identifier below the prefix
 pub holds_below : {X : Type 0} (value : X → List ℕ) (r : Option X) (oids : List (List ℕ)) (o : List ℕ) (place depth : ℕ) → IsDeepestAt oids o place depth
     → IfSome r (λ root. value root ≡ oid_at oids place) → IfSome r (λ root. HasNoneBelow oids (value root))
     → (Holds : List ℕ → Type 0) → ((p : List ℕ) → IsDeepestAt oids p place depth → Holds p)

@@ -1,4 +1,4 @@
--- Texts that are the same.
+-- Equal strings of octets.
 use Rattle.std.proofs.{Common.◌≡◌, Common.ℕ, Common.true, Common.List, Common.refl, lemmas.Slice.Eq.bytes_eq-Decides}
 use Rattle.smi_text.specs.trees.Mark.{same_text}
 

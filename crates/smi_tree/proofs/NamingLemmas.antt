@@ -1,4 +1,4 @@
--- The definition to which a name leads.
+-- The definition that a name refers to.
 use Rattle.std.proofs.Common.{◌≡◌, ℕ, inl, inr, List, MatchOption, Option, Some, None, refl}
 use Rattle.smi_names.specs.chains.Chain.{HasEnd, ends, leads_on}
 use Rattle.smi_text.specs.{declared.trees.tree.Module.Module, declared.trees.tree.Def.Def, declared.trees.tree.Import.Import}
@@ -8,7 +8,7 @@ use Rattle.smi_names.specs.meaning.Along.{stands_at}
 use Rattle.smi_tree.specs.columns.Definitions.{IsDefinedBy, own, through}
 use Rattle.smi_tree.specs.private.Named.{IsFoundAt, IsUndefined}
 
--- the definition to which an imported name leads is that of the name in the module after FROM
+-- if an imported name refers to a definition, so does the same name in the module after FROM
 behind : (ms : List Module) (home : Module) (i : Import) {a : QualifiedName} {m : Module} {d : Def} → IsDefinedBy ms a m d
     → module_named ms a.home ≡ Some home → decision home a.name ≡ Some (imported i)
     → IsDefinedBy ms (record { home = i.source.octets; name = a.name }) m d
@@ -22,7 +22,7 @@ behind ms home i (through {m = m} {i = j} named by rest) here decided =
     let clause : j ≡ i = cc in
     rw clause at rest
 
--- a name that leads to a definition is decided by it or by an import
+-- if a name refers to a definition, it is decided by a definition or by an import
 undecided : (ms : List Module) {a : QualifiedName} {m : Module} {d : Def} → IsDefinedBy ms a m d
     → ((d : Def) → decided ms a ≡ Some (defined d) → ⊥) → ((i : Import) → decided ms a ≡ Some (imported i) → ⊥) → ⊥
 undecided ms (own {d = d} named by) f g = f d (rw (named, by) refl)

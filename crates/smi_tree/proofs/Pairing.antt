@@ -1,11 +1,11 @@
--- A list is made item by item, each for one of another list.
+-- A list is made item by item, with one item for each of another list.
 use Rattle.std.proofs.{lemmas.Grind.common_steps, lemmas.List.length_push, lemmas.Option.slice_get_within, lemmas.Option.slice_get_read}
 use Rattle.std.proofs.Common.{◌≡◌, ℕ, ◌+◌, ◌<◌, List, [], ◌∷◌, ◌++◌, length, get_or, Some, refl, ◌∙◌, arith}
 use Rattle.std.specs.List.{slice_get}
 use Rattle.smi_tree.specs.Pairwise.{ArePairwise}
 use Rattle.smi_tree.proofs.Lists.{get_within, get_push}
 
--- this holds of the first of them, and of what the list has at their places
+-- `xs` has `i` items, and each is in relation `R` with the item of `ts` at the same index
 pub record AreFirst {A X : Type 0} (R : ℕ → A → X → Type 0) (ts : List A) (i : ℕ) (xs : List X) : Type 0 where
   pub long : length xs ≡ i
   pub each : (p : ℕ) (t : A) (x : X) → slice_get ts p ≡ Some t → slice_get xs p ≡ Some x → R p t x
@@ -13,12 +13,12 @@ pub record AreFirst {A X : Type 0} (R : ℕ → A → X → Type 0) (ts : List A
 pub first_none : {A X : Type 0} (R : ℕ → A → X → Type 0) (ts : List A) → AreFirst R ts 0 []
 first_none R ts = record { long = refl; each = λ p t x e f. absurd (cc) }
 
--- a place before i has the item that it had, and the place i has the new one
+-- if an item in relation `R` with the one at index `i` is appended, there is one more such item
 pub first_more : {A X : Type 0} (R : ℕ → A → X → Type 0) (ts : List A) (i : ℕ) (xs ys : List X) (t : A) (x : X) → AreFirst R ts i xs
     → ys ≡ xs ++ x ∷ [] → slice_get ts i ≡ Some t → R i t x → AreFirst R ts (i + 1) ys
 first_more R ts i xs ys t x first pushed at new = grind (arith, common_steps, length_push, get_push)
 
--- the same, for what is read there
+-- the same, if that item was read from the list
 pub first_next : {A X : Type 0} (R : ℕ → A → X → Type 0) (ts : List A) (i : ℕ) (xs ys : List X) (t : A) (x : X) → AreFirst R ts i xs
     → ys ≡ xs ++ x ∷ [] → i < length ts → t ≡ get_or ts i t → R i t x → AreFirst R ts (i + 1) ys
 first_next R ts i xs ys t x first pushed inside is new =

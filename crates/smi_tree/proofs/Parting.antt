@@ -1,4 +1,4 @@
--- The part of an object, by where its definition is found.
+-- The part for an object, from the indices of its definition.
 use Rattle.std.proofs.Common.{arith, ◌≡◌, ℕ, Bool, List, MatchOption, Option, Some, None, refl}
 use Rattle.std.proofs.lemmas.Grind.{common_steps}
 use Rattle.smi_names.specs.{chains.Resolution.ComesTo, meaning.Meaning.QualifiedName, meaning.Meaning.origin}
@@ -10,7 +10,7 @@ use Rattle.smi_tree.specs.types.Types.{Facts, HasSyntax, HasNoSyntax, object_ori
 use Rattle.smi_tree.specs.columns.Definitions.{qualified_name, IsDefinedBy, own, through}
 use Rattle.smi_tree.specs.private.Named.{IsFoundAt}
 
--- ---- a name leads to one definition
+-- ---- a name refers to one definition
 
 pub defined_once : {ms : List Module} {p : QualifiedName} {m n : Module} {d e : Def} → IsDefinedBy ms p m d → IsDefinedBy ms p n e → (m ≡ n) × (d ≡ e)
 defined_once (own home by) (own other also) = grind (arith, common_steps)
@@ -28,7 +28,7 @@ module _ (ms : List Module) (m : Module) (x : List ℕ) (i k : ℕ) (found : IsF
   at_object : object_origin ms i k ≡ origin_of_object found.home.name.octets found.definition
   at_object = rw (found.at_module, found.there) refl
 
-  -- the syntax of the object that the name leads to
+  -- if the name has a part, the syntax of the part is the syntax of the definition that was found
   syntax_here : (implied : Bool) (part : IndexPart) (p : IsIndexPart ms m x implied part) → HasSyntax ms (object_origin ms i k) p.facts
   syntax_here implied part p = grind (arith, common_steps, defined_once, at_object)
 

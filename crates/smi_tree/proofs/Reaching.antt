@@ -1,4 +1,4 @@
--- The longest beginning of an identifier for which a node stands.
+-- The longest prefix of an identifier that is in a list.
 use Rattle.std.proofs.{lemmas.Grind.common_steps, lemmas.Bool.cases_eq}
 use Rattle.std.proofs.Common.{◌≡◌, ℕ, zero, suc, ◌≤◌, inl, inr, List, length, take, Option, Some, None, refl, arith}
 use Rattle.std.specs.Prelude.{MatchOption, ◌<◌, option_map}
@@ -24,7 +24,7 @@ longest-some oids o p d at = up_to-some oids o p d (length o) at at.within (omeg
 pub longest-none : (oids : List (List ℕ)) (o : List ℕ) → HasNoBeginning oids o → longest_up_to oids o (length o) ≡ None
 longest-none oids o h = up_to-none oids o (length o) h (omega arith)
 
--- the longest up to a length, where no longer one is in the list
+-- if no prefix of more than `j` numbers is in the list, then the longest of at most `j` is the longest of all
 up_to : (oids : List (List ℕ)) (o : List ℕ) (j : ℕ) → j ≤ length o → ((k : ℕ) → j < k → k ≤ length o → place_of oids (take k o) ≡ None)
     → MatchOption (longest_up_to oids o j) (HasNoBeginning oids o) (λ at. IsDeepestAt oids o at.place at.depth)
 unfolding longest_up_to
@@ -40,7 +40,7 @@ up_to oids o (suc j) within above = by (place_of oids (take (suc j) o)) refl (up
     by None e rest = rest (λ k more l. elim (cases_eq k (suc j)) [ inl same ↦ rw same e | inr other ↦ above k (omega arith) l ])
     by (Some place) e rest = record { within = within; here = e; none_longer = above }
 
--- what is found is the longest
+-- if a search finds the longest prefix, or that there is none, it finds what is computed
 pub longest_found : {D : Type 0} (of : D → Longest) (oids : List (List ℕ)) (o : List ℕ) (r : Option D)
     → MatchOption r (HasNoBeginning oids o) (λ d. IsDeepestAt oids o (of d).place (of d).depth) → option_map of r ≡ longest_up_to oids o (length o)
 longest_found of oids o r h = grind (arith, common_steps, longest-none, longest-some)

@@ -1,4 +1,4 @@
--- What a type states is nearer than what the type states that it refines.
+-- What a type defines itself takes precedence over what it inherits from the type that it refines.
 use Rattle.std.proofs.Common.{◌≡◌, ℕ, inl, inr, cond, is_some, List, [], ◌∷◌, Option, Some, None, MatchOption, Vec, refl, ap, ◌∙◌, arith}
 use Rattle.std.proofs.{lemmas.Grind.common_steps, lemmas.List.get_or_past, lemmas.Option.slice_get_within, lemmas.Option.get_or_from_slice_get}
 use Rattle.std.specs.{Global.Global, Borrow.Bor, List.slice_get, Option.option_and_then, Option.option_copied, Option.option_map}
@@ -20,7 +20,7 @@ use Rattle.smi_tree.proofs.{Pairing.pair_at, Following.by_decision, Following.ha
 pub is_some_copied : {X : Type 0} (r : Option (Bor X)) → is_some r ≡ is_some (option_copied r)
 is_some_copied r = grind (arith, common_steps, is_some)
 
--- a definition of an object states its type and no hint
+-- if an object has a type in its SYNTAX, that is the type in its definition, which has no hint
 pub object_states : (kind : DefKind) (s : SimpleType) → option_and_then simple_in (object_syntax kind) ≡ Some s
     → (type_in kind ≡ Some s) × (type_hint kind ≡ None)
 object_states (D.ObjectType o) s e = (e, refl)
@@ -84,11 +84,11 @@ module _ (ms : List Module) (at : ℕ × ℕ) (d : Def) (there : def_at ms at.0 
       → IsKept ms (origin_of_simple home hint (Some s)) (refined_by at (is_some hint) s far)
   refined_right home far named = by_base home s.base (base_in s.base) refl far named
 
--- a result by its facts
+-- if `P` holds of the facts of a syntax, it can be said of the syntax
 pub by_facts : (N : Type 0) (P : Facts → Type 0) (r : Option TypeSyntax) → MatchOption (option_map facts_of r) N P → MatchOption r N (λ s. P (facts_of s))
 by_facts N P r h = grind (arith, common_steps)
 
--- what is kept for each definition is its syntax as an object
+-- if the stored syntaxes of the definitions of each module are right, so is the one at any two indices
 pub are_types : (ms : List Module) (os : List (Vec (Option KeptSyntax) Global)) → AreKeptOfAll ms os → (i j : ℕ)
     → IsKept ms (object_origin ms i j) (option_and_then (λ v. at_place v.items j) (slice_get os i))
 are_types ms os are i j = by (slice_get ms i) (slice_get os i) refl refl

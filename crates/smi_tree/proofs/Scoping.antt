@@ -1,4 +1,4 @@
--- Labels that several modules share: the first source of each module.
+-- Labels that several modules define: the first source in each module.
 use Rattle.std.proofs.Common.{◌≡◌, ℕ, ◌+◌, ◌<◌, ◌==◌, ◌&&◌, Bool, true, false, cond, List, length, take, get_or, Option, Some, None, unwrap_or, arith}
 use Rattle.std.proofs.Common.{option_map, refl, sym, ◌∙◌}
 use Rattle.std.proofs.{lemmas.Grind.common_steps, lemmas.Bool.eqb-true, Math.Bool.and-false}
@@ -13,27 +13,27 @@ use Rattle.smi_tree.specs.Nodes.{is_named}
 use Rattle.smi_tree.specs.Places.{Others, home_from, label_from, has_label, is_of, same_key, key_of, AreOthers}
 use Rattle.smi_tree.proofs.{First.IsFirst, First.first, First.none_first, First.more, First.of_front, Listing.same, Listing.same_itself}
 
--- the first place of a name is that of a thing of this name
+-- if a name has a first index, the item there has this name
 named : {A : Type 0} (name : A → List ℕ) (xs : List A) (a : List ℕ) (j : ℕ) → position_from (λ x. same_text (name x) a) 0 xs ≡ Some j
     → (x : A) × (slice_get xs j ≡ Some x) × (name x ≡ a)
 named name xs a j e =
     let f : IsFirst (λ x. same_text (name x) a) xs j = rw e at (first (λ x. same_text (name x) a) xs) in (f.x, f.at, same (name f.x) a f.passes)
 
--- names are the same where their first places are
+-- two names that are found are the same if and only if their first indices are
 places_decide : {A : Type 0} (name : A → List ℕ) (xs : List A) (a b : List ℕ) (j k : ℕ) → position_from (λ x. same_text (name x) a) 0 xs ≡ Some j
     → position_from (λ x. same_text (name x) b) 0 xs ≡ Some k → (j == k) ≡ same_text a b
 places_decide name xs a b j k e f =
     let g = named name xs a j e in let h = named name xs b k f in
     grind (arith, common_steps, same a b, same_itself b, g.1, g.2, h.1, h.2)
 
--- it is this key
+-- whether the key is `other`
 abbrev pub fits : Option (ℕ × ℕ) → ℕ × ℕ → Bool
 fits None other = false
 fits (Some key) other = same_key key other
 
 module _ (ms : List Module) (homes : NamePlaces) (ss : List Source) (old new : Others) (k f : ℕ) (d : Source)
     (placed : (x : List ℕ) → place_in homes x ≡ module_place ms x) (inside : k < length ss) where
-  -- one source more, by its key
+  -- if the source at index `k` is entered by its key, the map is right for one source more
   pub others-more : position_from (has_label ms (label_from ms (get_or ss k d))) 0 ss ≡ Some f
       → ((y : ℕ × ℕ) → get same_key new y ≡ or_else (get same_key old y) (cond (fits (key_of ms homes (get_or ss k d) f k) y) (Some k) None))
       → AreOthers ms ss old (take k ss) → AreOthers ms ss new (take (k + 1) ss)
@@ -63,14 +63,14 @@ module _ (ms : List Module) (homes : NamePlaces) (ss : List Source) (old new : O
       key : fits (key_of ms homes s f k) (p, g) ≡ is_of ms home x s
       key = rw (← places_decide (label_from ms) ss (label_from ms s) x f g labelled begins) (by (f == k) refl (home_from ms s) refl)
 
--- the label's first source is known
+-- if `f` is the index of the label after the source at index `k` is entered, it is the index of the first source with that label
 pub first_is : (ms : List Module) (labels : NamePlaces) (ss : List Source) (k f : ℕ) (d : Source) → k < length ss
     → ((x : List ℕ) → place_in labels x ≡ position_from (has_label ms x) 0 (take k ss))
     → f ≡ unwrap_or (place_in labels (label_from ms (get_or ss k d))) k → position_from (has_label ms (label_from ms (get_or ss k d))) 0 ss ≡ Some f
 first_is ms labels ss k f d inside are is = let x = label_from ms (get_or ss k d) in
     grind (arith, common_steps, of_front (has_label ms x) ss (k + 1) f, more (has_label ms x) ss k d inside, same_itself x, are x)
 
--- no source is of a module that isn't there
+-- if no module has this name, no source is in it
 pub no_module : (ms : List Module) (ss : List Source) (home x : List ℕ) → module_place ms home ≡ None → position_from (is_of ms home x) 0 ss ≡ None
 no_module ms ss home x e = none_first (is_of ms home x) ss (λ i s l at. rw (none s) refl)
   where

@@ -1,4 +1,4 @@
--- Modules have one tree, by one list of nodes, of syntaxes, of indexes and of warnings.
+-- Modules have at most one tree: one list of nodes, one of syntaxes, one of indexes and one of warnings.
 use Rattle.std.proofs.Common.{◌≡◌, List, ◌++◌, Option, Some, None, slice_index_or, refl, sym, ap, ◌∙◌, arith}
 use Rattle.std.proofs.lemmas.List.{ext_get_or}
 use Rattle.smi_text.specs.declared.trees.tree.Module.{Module}

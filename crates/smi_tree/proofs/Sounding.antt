@@ -1,4 +1,4 @@
--- Names of nodes are sound: labels are words, and lead to the nodes that they are shown for.
+-- Names of nodes are sound: labels are words, and a look-up of a node's label returns its identifier.
 use Rattle.std.proofs.{lemmas.Grind.common_steps, lemmas.List.length-map, lemmas.Option.slice_get-map, lemmas.Option.get_or_from_slice_get}
 use Rattle.std.proofs.Common.{◌≡◌, ℕ, zero, suc, ◌≤◌, ◌⊎◌, inl, inr, Bool, true, ◌&&◌, List, [], ◌++◌, length, take, Option, Some, None, refl}
 use Rattle.std.proofs.Common.{sym, ap, subst, ◌∙◌, arith}
@@ -15,7 +15,7 @@ use Rattle.smi_tree.proofs.{First.first, First.passing, Listing.same, Listing.sa
 use Rattle.smi_tree.specs.Defined.{IsDefined}
 use Rattle.smi_tree.proofs.Soundness.{root-case, root-or-definition}
 
--- the place of the longest beginning is that of its first numbers
+-- the longest prefix has at most `j` numbers, and its index is the first index of these numbers
 abbrev Reaches : List (List ℕ) → List ℕ → ℕ → Longest → Type 0
 Reaches oids o j l = (l.depth ≤ j) × (place_of oids (take l.depth o) ≡ Some l.place)
 
@@ -27,12 +27,12 @@ reached oids o (suc j) l e = grind (arith, common_steps, reached oids o j l)
 oid-at : (nodes : List Node) (i : ℕ) (n : Node) → slice_get nodes i ≡ Some n → slice_get (oids_of nodes) i ≡ Some n.oid
 oid-at nodes i n e = slice_get-map (λ (m : Node). m.oid) nodes i ∙ rw e refl
 
--- the node that stands for an identifier has it
+-- if a node represents an identifier, it has this identifier
 pub standing_is : (nodes : List Node) (o : List ℕ) (n : Node) → StandsAt nodes o n → n.oid ≡ o
 standing_is nodes o n s =
     sym (get_or_from_slice_get (oids_of nodes) s.place n.oid [] (oid-at nodes s.place n s.there)) ∙ (place_found (oids_of nodes) o s.place s.first).1
 
--- a node as names see it, and the node that it is
+-- `node` is a node of the tree as names see it, and its identifier is a prefix of `o`
 pub record StandsFor (t : Contents) (o : List ℕ) (node : Standing) : Type 0 where
   pub place : ℕ
   pub n : Node
@@ -74,13 +74,13 @@ root-word = root-case (λ n. is_word n.label ≡ true) refl refl refl
 root-home : (k : ℕ) (n : Node) → slice_get roots k ≡ Some n → n.home ≡ None
 root-home = root-case (λ n. n.home ≡ None) refl refl refl
 
--- a root by its place
+-- if a root has this label, its identifier is found at its index
 pub roots_first : (ns : List Node) (x : List ℕ) (k : ℕ) → Some k ≡ place_anywhere roots x
     → oid_of (roots ++ ns) (Some k) ≡ oid_of roots (place_anywhere roots x)
 roots_first ns x (suc (suc (suc k))) e = grind (arith, common_steps, first)
 roots_first ns x _ e = rw (← e) refl
 
--- a node's module and label lead to its identifier
+-- a name has at most one identifier
 abbrev pub OneMeaning : Type 0
 OneMeaning = (modules : List Module) (a : QualifiedName) (o p : List ℕ) → Means modules a o → Means modules a p → o ≡ p
 
@@ -123,7 +123,7 @@ word-by t n (inr f) = rw f.is f.definition.label.lexical
 leads-alike : (tree : Contents) (h i : Option (List ℕ)) (x y o p : List ℕ) → h ≡ i → x ≡ y → o ≡ p → LabelLeadsTo tree h x o → LabelLeadsTo tree i y p
 leads-alike tree h i x y o p e f g leads = rw (sym e, sym f, sym g) leads
 
--- the names are sound if each node's label is a word that leads to it
+-- if the label of each node is a word, and a look-up of it returns the node's identifier, then names are sound
 pub sound-from : (t : Contents)
     → ((k : ℕ) (n : Node) → slice_get t.nodes k ≡ Some n → (is_word n.label ≡ true) × LabelLeadsTo t (home_name n.home) n.label n.oid)
     → IsSound t

@@ -1,4 +1,4 @@
--- Nodes of modules are those of definitions.
+-- The nodes that modules define are nodes of their definitions.
 use Rattle.std.proofs.Common.{arith, ◌≡◌, ℕ, zero, suc, ◌⊎◌, inl, inr, false, List, [], ◌∷◌, ◌++◌, length, Option, Some, None, is_some, refl, subst}
 use Rattle.std.proofs.lemmas.Grind.{common_steps}
 use Rattle.std.specs.List.{slice_get}
@@ -25,7 +25,7 @@ given ms m d place (Some v) ns ws k n first there (R.Numbers o, comes, is, w) e 
     subst P here (record { home = m; first = first; definition = d; place = place; there = there; is = refl; identifier = comes })
 given ms m d place (Some v) ns ws k n first there (_, comes, is, w) e = let at : slice_get [] k ≡ Some n = rw is at e in cc
 
--- the first definitions of a module
+-- if a node comes from one of the first definitions of a module, it is the node of a definition
 gathered : (ms : List Module) (m : Module) (ds : List Def) (ns : List Node) (ws : List Warning) (k : ℕ) (n : Node)
     → module_named ms m.name.octets ≡ Some m → ((p : ℕ) (d : Def) → slice_get ds p ≡ Some d → slice_get m.defs p ≡ Some d)
     → Gathers ms m ds ns ws → slice_get ns k ≡ Some n → IsDefined ms n
@@ -35,7 +35,7 @@ gathered ms m _ _ _ k n first there (more ds d ns more_nodes ws more_warnings g 
   | inr f ↦ given ms m d (length ds) (identifier_value_of d.kind) more_nodes more_warnings f.0 n first (there (length ds) d (get_at_push ds d)) gives f.1
 ]
 
--- the first module of a name stays the first
+-- if a module is the first of its name, it stays the first when others are added; a new name's first module is the added one
 named-more : (ms : List Module) (m : Module) (x : List ℕ) (f : Module) → module_named ms x ≡ Some f → module_named (ms ++ m ∷ []) x ≡ Some f
 named-more [] m x f e = cc
 named-more (y ∷ ms) m x f e = grind (arith, common_steps, named-more ms m x f)
@@ -58,7 +58,7 @@ each-defined ms _ _ _ k n h (then_module before m ns more_nodes ws more_warnings
   | inr f ↦ brought ms before m more_nodes more_warnings f.0 n (λ new. h m.name.octets m (named-last before m new)) b f.1
 ]
 
--- the roots
+-- if something holds of the three roots, it holds of each node among them
 pub root-case : (P : Node → Type 0) → P (node_of_root 0) → P (node_of_root 1) → P (node_of_root 2)
     → (k : ℕ) (n : Node) → slice_get roots k ≡ Some n → P n
 root-case P c i j zero n e = let is : node_of_root 0 ≡ n = cc in subst P is c
@@ -66,7 +66,7 @@ root-case P c i j (suc zero) n e = let is : node_of_root 1 ≡ n = cc in subst P
 root-case P c i j (suc (suc zero)) n e = let is : node_of_root 2 ≡ n = cc in subst P is j
 root-case P c i j (suc (suc (suc k))) n e = cc
 
--- a node of a tree is a root, or that of a definition
+-- if a node is in a tree, it is a root, or the node of a definition
 pub root-or-definition : (ms : List Module) (ns : List Node) (ws : List Warning) (k : ℕ) (n : Node) → Loads ms ms ns ws
     → slice_get (roots ++ ns) k ≡ Some n → ((j : ℕ) × (slice_get roots j ≡ Some n)) ⊎ IsDefined ms n
 root-or-definition ms ns ws k n l e = grind (arith, common_steps, in-either, each-defined)

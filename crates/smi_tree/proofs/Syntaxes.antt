@@ -1,4 +1,4 @@
--- What is kept for the sources of nodes is their syntax.
+-- The syntax that is stored for a node's source is the syntax of the node.
 use Rattle.std.proofs.{lemmas.Grind.common_steps, lemmas.List.length-map, lemmas.List.get_or_past}
 use Rattle.std.proofs.Common.{◌≡◌, ℕ, zero, suc, ◌≤◌, List, ◌∷◌, Option, Some, None, slice_index_or, length, refl, sym, ◌∙◌, arith}
 use Rattle.std.specs.List.{slice_get}
@@ -33,8 +33,8 @@ module _ (ms : List Module) (t : Types) (right : AreTypesOf ms t) where
 pub kept_none : (ms : List Module) (t : Types) (ss : List Source) (k : ℕ) → length ss ≤ k → slice_index_or (syntaxes_from ms t ss) k None ≡ None
 kept_none ms t ss k past = get_or_past (syntaxes_from ms t ss) k None (rw (length-map ss (syntax_from ms t)) past)
 
--- what is gathered, with the types and indexes of the modules, is a tree: each of its clauses is one of
--- these premises, said of the nodes that the sources and identifiers make
+-- if nodes are gathered, and the syntaxes and indexes are those of the nodes, then they are a tree: each clause of `IsTree` is one of these premises, with the
+-- nodes read from the sources and identifiers
 pub is_tree : (ms : List Module) (g : Gathered) (t : Types) (os : List (List ℕ)) (indexes : List (Option (List IndexPart))) → AreGathered ms g ms
     → os ≡ g.oids.items → AreSyntaxesOf ms (nodes_of ms g.sources.items os) (syntaxes_from ms t g.sources.items)
     → AreIndexesOf ms (nodes_of ms g.sources.items os) indexes → IsTree ms (contents ms g.sources.items os t indexes) g.warnings.items

@@ -96,7 +96,7 @@ module _ (ms : List Module) (ss : List Source) (os : List (List ℕ)) (long : le
         absurd (none column.front column.last column.stands.place (sym (oid_is node there) ∙ column.below) (stands_at column.front row column.stands))
 
     module _ (front : List ℕ) (last r : ℕ) (below : oid_at os k ≡ front ++ last ∷ []) (first : place_of os front ≡ Some r) where
-      -- the row stands at the place that was found
+      -- if a node is a column of a row, the row is at the index that was found
       row_at : (node : Node) → slice_get nodes k ≡ Some node → (row : Node) → IsColumnOf nodes node row → slice_get nodes r ≡ Some row
       row_at node there row column =
           let front_is = (same_from_push column.front front column.last last (sym column.below ∙ oid_is node there ∙ below)).0 in

@@ -1,4 +1,4 @@
--- Walks along branches: one number more at the end, and a branch that is made.
+-- Walks along branches: with one more number at the end, and after a branch was added.
 use Rattle.std.proofs.{lemmas.Grind.common_steps}
 use Rattle.std.proofs.Common.{◌≡◌, ℕ, ◌<◌, ◌⊎◌, inl, inr, List, [], ◌∷◌, ◌++◌, Option, Some, None, refl, ap, arith}
 use Rattle.std.specs.Option.{option_and_then}
@@ -9,27 +9,28 @@ module _ (f : ℕ → ℕ → Option ℕ) where
   walk-append [] ys at = refl
   walk-append (x ∷ xs) ys at = grind (arith, common_steps, walk-append xs ys)
 
-  -- a walk along one number more goes on from where the walk came to, if it came anywhere
+  -- a walk along one more number continues from the branch that the walk reached, if it reached one
   pub walk_push : (at : ℕ) (xs : List ℕ) (n : ℕ) → walk f at (xs ++ n ∷ []) ≡ option_and_then (λ b. f b n) (walk f at xs)
   walk_push at xs n = grind (arith, common_steps, walk-append)
 
-  -- where a walk comes to nothing, none goes on
+  -- if a walk reaches nothing, neither does a walk that continues it
   pub walk_off : (at : ℕ) (xs ys : List ℕ) → walk f at xs ≡ None → walk f at (xs ++ ys) ≡ None
   walk_off at xs ys e = rw (walk-append xs ys at, e) refl
 
-  -- where a walk comes to lies within
+  -- if each step ends below `count`, so does each walk that begins below it
   module _ (count : ℕ) (within : (b m c : ℕ) → f b m ≡ Some c → c < count) where
     pub walk_within : (o : List ℕ) (at b : ℕ) → at < count → walk f at o ≡ Some b → b < count
     walk_within [] at b l e = grind (arith, common_steps)
     walk_within (n ∷ o) at b l e = grind (arith, common_steps, walk_within o, within)
 
--- more leads on
+-- if `g` has the steps of `f`, it has the walks of `f`
 module _ (f g : ℕ → ℕ → Option ℕ) (kept : (c m d : ℕ) → f c m ≡ Some d → g c m ≡ Some d) where
   pub walk_kept : (o : List ℕ) (at b : ℕ) → walk f at o ≡ Some b → walk g at o ≡ Some b
   walk_kept [] at b e = e
   walk_kept (n ∷ o) at b e = grind (arith, common_steps, walk_kept o, kept)
 
--- one branch is made, and a number leads to it from one branch
+-- if `g` has at most one step more than `f`, by `n` from `at` to the branch `count`, from which no step continues, then a walk of `g` is a walk of `f`, or
+-- ends with that step
 module _ (f g : ℕ → ℕ → Option ℕ) (at n count : ℕ) (back : (c m d : ℕ) → g c m ≡ Some d → (f c m ≡ Some d) ⊎ ((c ≡ at) × (m ≡ n) × (d ≡ count)))
     (empty : (m : ℕ) → g count m ≡ None) where
   stops : (o : List ℕ) (c : ℕ) → walk g count o ≡ Some c → (o ≡ []) × (c ≡ count)

@@ -1,4 +1,4 @@
--- Where the nodes of a tree come from (RFC 2578, sections 3.5 and 3.6).
+-- The nodes of a tree are roots and definitions (RFC 2578, sections 3.5 and 3.6).
 use Rattle.std.specs.Prelude.{◌≡◌, ℕ, ◌<◌, List, Some}
 use Rattle.std.specs.List.{slice_get}
 use Rattle.smi_text.specs.{declared.trees.tree.Module.Module, declared.trees.tree.Def.Def}
@@ -8,12 +8,12 @@ use Rattle.smi_names.specs.nodes.Nodes.{node_of_root}
 use Rattle.smi_names.specs.declared.chains.shared.Resolution.TheVariants as R
 use Rattle.smi_tree.specs.columns.Definitions.{qualified_name}
 
--- the node is one of the roots
+-- `node` is one of the three roots
 abbrev pub IsRoot : Node → Type 0
 IsRoot node = (n : ℕ) × (n < 3) × (node ≡ node_of_root n)
 
--- the node is that of a definition: of a module, which is the first of its name; its identifier is
--- what the name of the definition resolves to
+-- `node` is the node of a definition in a module, which is the first with its name; its identifier
+-- is what the label of the definition resolves to in that module
 pub record IsDefined (ms : List Module) (node : Node) : Type 0 where
   pub home : Module
   pub first : module_named ms home.name.octets ≡ Some home

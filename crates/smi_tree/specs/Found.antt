@@ -1,16 +1,17 @@
--- What a tree finds for an identifier: the node of its longest beginning, and the syntax there.
+-- What a tree finds for an identifier: the node of its longest prefix, and the syntax of that
+-- node.
 use Rattle.std.specs.Prelude.{◌≡◌, ℕ, List, option_map, MatchOption}
 use Rattle.snmp_oid.specs.Identifier.{IsBelow}
 use Rattle.smi_tree.specs.{Tree.Contents, declared.nearest.Found.Found}
 use Rattle.smi_tree.specs.Naming.{nearest_node, nearest_syntax, standing_of}
 
--- this is found for o
+-- `found` has the node and the syntax that are found for `o`
 abbrev pub IsFound : Contents → List ℕ → Found → Type 0
 IsFound tree o found =
     (option_map standing_of found.node ≡ nearest_node tree o)
     × (found.syntax ≡ nearest_syntax tree o)
 
--- this is found for each identifier below the one that it names
+-- if `found.below` is an identifier, then `found` is found for each identifier below it
 abbrev pub IsFoundBelow : Contents → Found → Type 0
 IsFoundBelow tree found =
     MatchOption found.below (Unit {0})

@@ -1,4 +1,4 @@
--- What a tree keeps of its nodes.
+-- What a tree stores of its nodes.
 use Rattle.std.specs.Prelude.{◌≡◌, ℕ, List, length, Option}
 use Rattle.std.specs.List.{position_from}
 use Rattle.indexmap.specs.IndexMap.{hasher_of}
@@ -23,7 +23,8 @@ contents ms ss os types indexes = record {
   indexes = indexes;
 }
 
--- what a tree keeps is the tree of its modules, and the places by which it finds names
+-- what a tree stores is the tree of its modules, and its maps have the index of the first module
+-- of each name and of the first sources of each label
 pub record IsTreeKept (ms : List Module) (ss : List Source) (os : List (List ℕ)) (types : Types)
     (indexes : List (Option (List IndexPart))) (of_homes of_labels : NamePlaces)
     (of_others : Others) : Type 0 where
@@ -34,7 +35,7 @@ pub record IsTreeKept (ms : List Module) (ss : List Source) (os : List (List ℕ
   pub labels : (x : List ℕ) → place_in of_labels x ≡ position_from (has_label ms x) 0 ss
   pub others : AreOthers ms ss of_others ss
 
--- what a load keeps, as a tree with its warnings and its key
+-- the tree, the warnings and the key of what a load stores
 abbrev pub load_kept : List Module → Resolved → Load
 load_kept ms r = record {
   tree = contents ms r.sources.items r.identifiers r.types r.indexes;
@@ -42,7 +43,7 @@ load_kept ms r = record {
   key = r.key;
 }
 
--- what a load keeps is what a tree keeps, and each map has the key of those that found the names
+-- what a load stores is what a tree stores, and each of its maps has the key `r.key`
 pub record IsLoadKept (ms : List Module) (r : Resolved) (of_homes : NamePlaces)
     (places : LabelPlaces) : Type 0 where
   pub kept : IsTreeKept ms r.sources.items r.identifiers r.types r.indexes of_homes places.labels

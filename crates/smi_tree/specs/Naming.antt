@@ -1,5 +1,5 @@
--- The names of a tree's nodes, as words are read and identifiers are shown by them: found by module
--- and label, by identifier, or as a child.
+-- Look-ups in a tree, for reading names and showing identifiers: by module and label, by
+-- identifier, or for a child.
 use Rattle.std.specs.Prelude.{◌≡◌, ℕ, ◌≤◌, Bool, true, List, length, take, Option, Some, None}
 use Rattle.std.specs.Prelude.{is_some, option_map, slice_index_or}
 use Rattle.std.specs.{List.slice_get, Option.option_and_then, Option.option_copied}
@@ -13,15 +13,15 @@ use Rattle.smi_tree.specs.{Shown.shown_at, Tree.Contents}
 use Rattle.smi_tree.specs.Nodes.{oids_of, place_in_module, place_anywhere, child_of}
 use Rattle.smi_tree.specs.Standing.{Longest, longest}
 
--- a node: its module, None for a built-in root; its label; how many numbers its identifier has; the
--- parts of the index that reads the numbers after it, None if it isn't a column with such an index
+-- a node: its module, `None` for a built-in root; its label; the number of numbers in its
+-- identifier; the parts of its index, `None` if it isn't a column or its index can't be read
 pub record Standing : Type 0 where
   pub home : Option (List ℕ)
   pub label : List ℕ
   pub depth : ℕ
   pub index : Option (List IndexPart)
 
--- a node that a look-up returned, as definitions see it
+-- the node that a look-up returned, as a value
 abbrev pub standing_of : NearestNode → Standing
 standing_of node = record {
   home = option_copied node.home;
@@ -35,7 +35,7 @@ standing_of node = record {
 abbrev pub home_name : Option Module → Option (List ℕ)
 home_name m = option_map (λ m. m.name.octets) m
 
--- a node, the length of its identifier and its index
+-- the node `n`, with the length of its identifier and its index
 abbrev pub standing_from : ℕ → Option (List IndexPart) → Node → Standing
 standing_from depth index n =
     record { home = home_name n.home; label = n.label; depth = depth; index = index }
@@ -45,54 +45,55 @@ standing_of_longest t l =
     option_map (standing_from l.depth (slice_index_or t.indexes l.place None))
     (slice_get t.nodes l.place)
 
--- the identifier of the node at a place
+-- the identifier of the node at index `place`, if there is one
 abbrev pub oid_of : List Node → Option ℕ → Option (List ℕ)
 oid_of nodes place = option_and_then (slice_get (oids_of nodes)) place
 
--- whether a module of this name is loaded
+-- whether a module named `home` is loaded
 unfoldable pub is_module_loaded : Contents → List ℕ → Bool
 is_module_loaded tree home = is_some (module_named tree.modules home)
 
--- the identifier of the first node of a label in a module
+-- the identifier of the first node with this label in the module named `home`
 unfoldable pub oid_in_module : Contents → List ℕ → List ℕ → Option (List ℕ)
 oid_in_module tree home label = oid_of tree.nodes (place_in_module tree.nodes home label)
 
--- the identifier of the first node of a label, the roots before all others
+-- the identifier of the first node with this label, the roots before all others
 unfoldable pub oid_anywhere : Contents → List ℕ → Option (List ℕ)
 oid_anywhere tree label = oid_of tree.nodes (place_anywhere tree.nodes label)
 
--- the identifier of the root of a label
+-- the identifier of the root with this label
 unfoldable pub oid_of_root : List ℕ → Option (List ℕ)
 oid_of_root label = oid_of roots (place_anywhere roots label)
 
--- the identifier of the first child of an identifier with a label
+-- the identifier of the first child of `o` with this label
 unfoldable pub oid_of_child : Contents → List ℕ → List ℕ → Option (List ℕ)
 oid_of_child tree o label = oid_of tree.nodes (child_of tree.nodes o label)
 
--- the node that stands for the longest beginning of an identifier
+-- the node of the longest prefix of `o` that has one
 unfoldable pub nearest_node : Contents → List ℕ → Option Standing
 nearest_node tree o = option_and_then (standing_of_longest tree) (longest tree.nodes o)
 
--- its definition
+-- the definition of that node; `None` for a root
 unfoldable pub nearest_definition : Contents → List ℕ → Option Def
 nearest_definition tree o =
     option_and_then (λ l. option_and_then (λ n. n.definition) (slice_get tree.nodes l.place))
     (longest tree.nodes o)
 
--- its syntax, as values are shown by it
+-- the syntax of that node, for showing values
 unfoldable pub nearest_syntax : Contents → List ℕ → Option ObjectSyntax
 nearest_syntax tree o =
     option_and_then (λ l. shown_at tree.nodes tree.syntaxes l.place) (longest tree.nodes o)
 
--- a node's label leads to its identifier: in its module, which is loaded, or, for a root, by the
--- label alone
+-- a look-up of the label returns `o`: in the module named `home`, which is loaded and whose name
+-- is a word; or, for a root, by the label only
 abbrev pub LabelLeadsTo : Contents → Option (List ℕ) → List ℕ → List ℕ → Type 0
 LabelLeadsTo tree None label o = oid_anywhere tree label ≡ Some o
 LabelLeadsTo tree (Some home) label o =
     (is_word home ≡ true) × (is_module_loaded tree home ≡ true)
     × (oid_in_module tree home label ≡ Some o)
 
--- labels are words, and lead to the nodes that they are shown for
+-- if a node is found for an identifier, its label is a word, and a look-up of the label returns
+-- the prefix of the identifier that has the node's depth
 pub record IsSound (tree : Contents) : Type 0 where
   pub within : (o : List ℕ) (node : Standing) → nearest_node tree o ≡ Some node
       → node.depth ≤ length o

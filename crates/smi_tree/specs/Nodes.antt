@@ -1,4 +1,4 @@
--- Nodes found by their names and by their identifiers, in a list in order of loading.
+-- Look-ups of nodes by name and by identifier, in a list in order of loading.
 use Rattle.std.specs.Prelude.{◌≡◌, ℕ, Bool, false, ◌&&◌, zero, suc, List, [], ◌∷◌, ◌++◌, ◌<◌, max}
 use Rattle.std.specs.Prelude.{unwrap_or, Option, Some, None, map, option_map, if◌then◌else◌}
 use Rattle.std.specs.List.{slice_get, position_from}
@@ -6,11 +6,11 @@ use Rattle.smi_text.specs.{trees.Mark.same_text, declared.trees.tree.Module.Modu
 use Rattle.smi_tree.specs.branches.Standing.{place_of}
 use Rattle.smi_names.specs.{meaning.Meaning.or_else, nodes.Nodes.Node}
 
--- the node is of this label
+-- whether `n` has this label
 abbrev pub has_label : List ℕ → Node → Bool
 has_label label n = same_text n.label label
 
--- the module of a node, if it has one, is of this name
+-- whether there is a module, and it has the name `home`
 abbrev pub is_named : List ℕ → Option Module → Bool
 is_named home None = false
 is_named home (Some m) = same_text m.name.octets home
@@ -18,19 +18,19 @@ is_named home (Some m) = same_text m.name.octets home
 abbrev pub is_of : List ℕ → List ℕ → Node → Bool
 is_of home label n = is_named home n.home && has_label label n
 
--- the first node of the label in the module of the name
+-- the index of the first node with this label in a module named `home`
 abbrev pub place_in_module : List Node → List ℕ → List ℕ → Option ℕ
 place_in_module nodes home label = position_from (is_of home label) 0 nodes
 
--- the first node of the label
+-- the index of the first node with this label
 abbrev pub place_anywhere : List Node → List ℕ → Option ℕ
 place_anywhere nodes label = position_from (has_label label) 0 nodes
 
--- the identifiers of nodes
+-- the identifiers of the nodes
 abbrev pub oids_of : List Node → List (List ℕ)
 oids_of nodes = map (λ n. n.oid) nodes
 
--- the node at the place has the label
+-- whether there is a node at index `k` that has this label
 abbrev pub is_labelled : List Node → List ℕ → ℕ → Bool
 is_labelled nodes label k = unwrap_or (option_map (has_label label) (slice_get nodes k)) false
 
@@ -38,35 +38,38 @@ abbrev pub if_labelled : List Node → List ℕ → Option ℕ → Option ℕ
 if_labelled nodes label None = None
 if_labelled nodes label (Some k) = if is_labelled nodes label k then Some k else None
 
--- what f gives for the lowest number for which it gives anything; None if there is no such number
+-- the result is `Some k` if `f` returns this for the lowest number for which it isn't `None`, or
+-- `None` if there is no such number
 pub data IsOfLowest (f : ℕ → Option ℕ) : Option ℕ → Type 0 where
   nothing : ((n : ℕ) → f n ≡ None) → IsOfLowest f None
   lowest : (n k : ℕ) → f n ≡ Some k → ((m : ℕ) → m < n → f m ≡ None) → IsOfLowest f (Some k)
 
--- what f gives for the lowest number below a bound for which it gives anything
+-- the result of `f` for the lowest number below a bound for which it isn't `None`
 unfoldable pub of_lowest : (ℕ → Option ℕ) → ℕ → Option ℕ
 of_lowest f zero = None
 of_lowest f (suc n) = or_else (of_lowest f n) (f n)
 
--- the last number of an identifier
+-- the last number of an identifier, or 0 if it is empty
 abbrev pub last_number : List ℕ → ℕ
 last_number [] = 0
 last_number (n ∷ []) = n
 last_number (n ∷ next ∷ more) = last_number (next ∷ more)
 
--- the highest last number of identifiers
+-- the highest of the last numbers of identifiers, or 0
 abbrev pub highest : List (List ℕ) → ℕ
 highest [] = 0
 highest (o ∷ os) = max (last_number o) (highest os)
 
--- the node that stands for o and one number more, if it has the label
+-- the index of the node that represents `o` with `n` appended, if it has this label
 abbrev pub child_at : List Node → List ℕ → List ℕ → ℕ → Option ℕ
 child_at nodes o label n = if_labelled nodes label (place_of (oids_of nodes) (o ++ n ∷ []))
 
--- the first child with the label: the one with the lowest number
+-- the result is the index of the first child of `o` with this label: the one with the lowest
+-- number
 abbrev pub IsFirstChild : List Node → List ℕ → List ℕ → Option ℕ → Type 0
 IsFirstChild nodes o label = IsOfLowest (child_at nodes o label)
 
--- the first child with the label, computed, as the law `look_ups` says
+-- the index of the first child of `o` with this label, computed; the law `look_ups` says that it
+-- is
 abbrev pub child_of : List Node → List ℕ → List ℕ → Option ℕ
 child_of nodes o label = of_lowest (child_at nodes o label) (suc (highest (oids_of nodes)))

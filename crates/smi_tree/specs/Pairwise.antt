@@ -1,8 +1,8 @@
--- Two lists, item by item.
+-- Relations of two lists, item by item.
 use Rattle.std.specs.Prelude.{◌≡◌, ℕ, List, length, Some}
 use Rattle.std.specs.List.{slice_get}
 
--- the lists have one length, and R holds of the two items at each place
+-- the lists have the same length, and `R` holds of the two items at each index
 pub record ArePairwise {A X : Type 0} (R : ℕ → A → X → Type 0) (ts : List A)
     (xs : List X) : Type 0 where
   pub long : length xs ≡ length ts

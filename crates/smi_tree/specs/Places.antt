@@ -1,4 +1,4 @@
--- Sources of nodes found by their names, and maps from names to places.
+-- Look-ups of sources by name, and maps from names to indices.
 use Rattle.std.specs.Prelude.{◌≡◌, ℕ, ◌==◌, ◌&&◌, Bool, false, List, [], if◌then◌else◌, Option}
 use Rattle.std.specs.Prelude.{Some, None, option_map}
 use Rattle.std.specs.{Option.option_and_then, List.slice_get, List.position_from}
@@ -24,24 +24,24 @@ abbrev pub label_from : List Module → Source → List ℕ
 label_from ms (S.Root n) = root_label n
 label_from ms (S.Definition i k) = label_in (def_of_module (slice_get ms i) k)
 
--- the source is of this label
+-- whether the source `s` has the label `x`
 abbrev pub has_label : List Module → List ℕ → Source → Bool
 has_label ms x s = same_text (label_from ms s) x
 
--- the source is of this label, in the module of this name
+-- whether the source `s` has the label `x` and is in a module named `home`
 abbrev pub is_of : List Module → List ℕ → List ℕ → Source → Bool
 is_of ms home x s = is_named home (home_from ms s) && has_label ms x s
 
--- the places of the first sources of labels in modules; the key is the place of the module, and
--- that of the label's first source in any module
+-- the indices of the first sources of labels in modules; the key is the index of the module, and
+-- the index of the label's first source in any module
 abbrev pub Others : Type 0
 Others = IndexMap (ℕ × ℕ) ℕ NameHash
 
 abbrev pub same_key : ℕ × ℕ → ℕ × ℕ → Bool
 same_key a b = (a.0 == b.0) && (a.1 == b.1)
 
--- for each label whose first source is of another module than `home`, the map has the label's first
--- source in `home`, among those in front
+-- for each loaded module `home` and each label whose first source isn't in it, the map has the
+-- index of the label's first source in it, among the sources `front`
 abbrev pub AreOthers : List Module → List Source → Others → List Source → Type 0
 AreOthers ms ss others front = (home x : List ℕ) (p f : ℕ) (s : Source)
     → module_place ms home ≡ Some p → position_from (has_label ms x) 0 ss ≡ Some f
@@ -54,7 +54,8 @@ abbrev pub definition_from : List Module → Source → Option Def
 definition_from ms (S.Root n) = None
 definition_from ms (S.Definition i k) = def_of_module (slice_get ms i) k
 
--- the key of a source: none if it is the first one of its label, or of no module
+-- the key of the source `s` at index `place`, whose label has its first source at index `first`;
+-- `None` if it is that first source, or is in no module
 abbrev pub key_of : List Module → NamePlaces → Source → ℕ → ℕ → Option (ℕ × ℕ)
 key_of ms homes s first place = if first == place then None else
     option_and_then (λ m. option_map (λ p. (p, first)) (place_in homes m.name.octets))

@@ -1,4 +1,4 @@
--- What a tree of names holds.
+-- The contents of a tree of names.
 use Rattle.std.specs.{Prelude.◌≡◌, Prelude.List, Prelude.◌++◌, Prelude.Option, Option.option_copied}
 use Rattle.smi_text.specs.declared.trees.tree.Module.{Module}
 use Rattle.smi_names.specs.{declared.hash.NameHash.NameHash, nodes.Nodes.Node, nodes.Nodes.roots}
@@ -16,8 +16,8 @@ pub record Contents : Type 0 where
   pub syntaxes : List (Option Facts)
   pub indexes : List (Option (List IndexPart))
 
--- the tree has the roots, and then what the modules bring, with these warnings; the syntax of each
--- node is what its chain of types gives, and its index is that of its row
+-- `tree` has the roots, and then the nodes of the modules, which have these warnings; the syntax
+-- of each node is what its chain of types defines, and its index comes from its row
 pub record IsTree (modules : List Module) (tree : Contents) (warnings : List Warning)
     : Type 0 where
   pub passed : tree.modules ≡ modules
@@ -27,14 +27,14 @@ pub record IsTree (modules : List Module) (tree : Contents) (warnings : List War
   pub syntaxes : AreSyntaxesOf modules tree.nodes tree.syntaxes
   pub indexes : AreIndexesOf modules tree.nodes tree.indexes
 
--- a tree as it was loaded: with the warnings of its modules, and with the key of each map of names
+-- a tree as it was loaded, with the warnings about its modules and the key of each map of names
 -- that the load made
 pub record Load : Type 0 where
   pub tree : Contents
   pub warnings : List Warning
   pub key : NameHash
 
--- a node as it is shown
+-- the node that the code returns, as a value
 abbrev pub seen_node : Seen → Node
 seen_node n = record {
   home = option_copied n.home;

@@ -1,8 +1,8 @@
-//! Object identifiers found by their numbers: what follows each beginning of an identifier, in
-//! order.
+//! A list of object identifiers that is searched number by number. Each prefix of an identifier
+//! has a branch, which stores the numbers that follow the prefix, in order.
 //!
-//! Depends on object identifiers alone. The tree of names keeps its nodes' identifiers here, and
-//! finds the deepest node, the node at an identifier and the children of one, number by number.
+//! Depends only on object identifiers. The tree of names stores its nodes' identifiers here, and
+//! finds the node of an identifier, the node of its longest prefix, and its children.
 
 mod branch;
 mod identifiers;

@@ -1,8 +1,8 @@
-//! The indexes of columns: which values the numbers after a column's identifier stand for, by the
-//! INDEX or AUGMENTS clause of its row.
+//! The indexes of columns: how the numbers after a column's identifier encode values, by the INDEX
+//! or AUGMENTS clause of its row.
 //!
-//! Depends on the nodes of modules and on the types of their objects. The tree of names keeps the
-//! index of each node beside the node.
+//! Depends on the nodes of modules and on the types of their objects. The tree of names stores the
+//! index of each of its nodes.
 
 mod index_part;
 mod indexes;

@@ -1,4 +1,5 @@
-//! Laws of trees of names, for any modules.
+//! Laws of trees of names, for any modules. Each call does nothing, and its caller may use what it
+//! ensures.
 ghost use Rattle.std.specs.{Prelude.◌≡◌, Prelude.ℕ, Prelude.List, Prelude.[], Prelude.◌⊎◌};
 ghost use Rattle.std.specs.{Prelude.MatchOption, Prelude.Some, List.slice_get};
 ghost use Rattle.smi_text.specs.declared.trees.tree.Module.{Module};
@@ -12,9 +13,7 @@ ghost use Rattle.smi_tree.specs.branches.Standing.{HasNoBeginning, IsDeepestAt};
 
 use smi_names::one_loading;
 
-/// Modules have one tree at most, with one list of warnings.
-///
-/// A law: the call does nothing, and its caller may use what it ensures.
+/// Modules have at most one tree, with one list of warnings.
 pub fn one_tree()
     ensures { (modules : List Module) (tree other : Contents) (warnings more : List Warning)
         → IsTree modules tree warnings → IsTree modules other more
@@ -23,28 +22,23 @@ pub fn one_tree()
     one_loading();
 }
 
-/// An identifier has one deepest node at most: one place stands for its longest beginning in a list
-/// of identifiers, which has one length.
-///
-/// A law: the call does nothing, and its caller may use what it ensures.
+/// An identifier has at most one longest prefix in a list of identifiers. The prefix has one
+/// length, and one index represents it.
 pub fn one_deepest()
     ensures { (oids : List (List ℕ)) (o : List ℕ) (place other depth more : ℕ)
         → IsDeepestAt oids o place depth → IsDeepestAt oids o other more
         → (place ≡ other) × (depth ≡ more) }
 {}
 
-/// The tree of no modules has the roots alone, without warnings (RFC 2578, section 3.5).
-///
-/// A law: the call does nothing, and its caller may use what it ensures.
+/// The tree of no modules has only the roots, and no warnings (RFC 2578, section 3.5).
 #[tactic(auto, using(crate::proofs::Bare::is_bare))]
 pub fn bare_tree()
     ensures { IsTree [] bare [] }
 {}
 
-/// What look-ups of names, definitions and syntaxes find: the longest beginning of an identifier
-/// for which a node stands, and the first child with a label (RFC 2578, section 3.6).
-///
-/// A law: the call does nothing, and its caller may use what it ensures.
+/// `longest` is the longest prefix of an identifier that has a node, and `child_of` is the first
+/// child with a label (RFC 2578, section 3.6). Look-ups of names, definitions and syntaxes find
+/// these.
 #[tactic(auto, using(crate::proofs::Childhood::child_first, crate::proofs::Reaching::longest_is))]
 pub fn look_ups()
     ensures longest { (nodes : List Node) (o : List ℕ) → MatchOption (longest nodes o)
@@ -54,27 +48,21 @@ pub fn look_ups()
         → IsFirstChild nodes o label (child_of nodes o label) }
 {}
 
-/// Each node of a tree is a root, or that of a definition in its modules (RFC 2578, sections 3.5
-/// and 3.6).
-///
-/// A law: the call does nothing, and its caller may use what it ensures.
+/// Each node of a tree is a root, or the node of a definition in its modules (RFC 2578, sections
+/// 3.5 and 3.6).
 pub fn defined_nodes()
     ensures { (modules : List Module) (tree : Contents) (warnings : List Warning) (place : ℕ)
         (node : Node) → IsTree modules tree warnings → slice_get tree.nodes place ≡ Some node
         → IsRoot node ⊎ IsDefined modules node }
 {}
 
-/// The node that stands for an identifier has that identifier.
-///
-/// A law: the call does nothing, and its caller may use what it ensures.
+/// The node that represents an identifier has this identifier.
 pub fn standing_nodes()
     ensures { (nodes : List Node) (oid : List ℕ) (node : Node) → StandsAt nodes oid node
         → node.oid ≡ oid }
 {}
 
-/// An object has one syntax at most: its chain of types has one end.
-///
-/// A law: the call does nothing, and its caller may use what it ensures.
+/// An object has at most one syntax: its chain of types has one end.
 pub fn one_syntax()
     ensures { (modules : List Module) (object : TypeOrigin QualifiedName) (facts other : Facts)
         → HasSyntax modules object facts → HasSyntax modules object other → facts ≡ other }

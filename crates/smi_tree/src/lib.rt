@@ -1,11 +1,11 @@
 //! The tree of names: the nodes that loaded modules define, found by name and by identifier.
 //!
-//! Depends on module trees, on what their names mean and on the nodes that they define. Names,
-//! values and details are shown by it, and words of the command line are read by it.
+//! Depends on module trees, on what their names mean and on the nodes that they define. Crates
+//! above use it to read the names on a command line, and to show names, values and details.
 //!
 //! # Examples
 //!
-//! A tree of one module, with a warning for its import:
+//! Loads a module, which gets a warning about its import, and finds its node:
 //!
 //! ```
 //! let text = b"A-MIB DEFINITIONS ::= BEGIN IMPORTS b FROM B-MIB;\n\
@@ -38,7 +38,7 @@ pub use node::Node;
 pub use smi_names::{NameHash, TypeBase, Warning};
 pub use tree::{Loaded, NodeId, Tree};
 
-// The parts of a tree by themselves, for tests.
+// Parts of a tree, public only for tests.
 pub use crate::branches::{Deepest, Identifiers};
 pub use crate::columns::Indexes;
 pub use crate::types::Types;

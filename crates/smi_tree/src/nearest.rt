@@ -1,4 +1,4 @@
-//! What a tree finds for an identifier: the node of its longest beginning.
+//! What a tree finds for an identifier: the node of its longest prefix.
 ghost use Rattle.std.specs.{Prelude.◌≡◌, Option.option_copied};
 ghost use Rattle.smi_names.specs.nodes.Nodes.{roots};
 ghost use Rattle.smi_tree.specs.{Naming.home_name, Nodes.place_anywhere};
@@ -9,15 +9,15 @@ use smi_text::Module;
 use smi_value::ValueSyntax;
 use snmp_oid::StoredOid;
 
-/// Where a tree begins its next search: at the node that it found last. No result depends on it.
+/// The start of a tree's next search: the node that it found last. Only speed depends on it.
 #[derive(Clone, Copy, Debug)]
 pub struct Near {
-    /// A number by which the tree finds that node again.
+    /// A number that lets the tree find that node again.
     pub place: usize,
 }
 
 impl Near {
-    /// For the first search.
+    /// Returns the start of the first search.
     pub fn new() -> Near {
         Near { place: 0 }
     }
@@ -26,7 +26,7 @@ impl Near {
 /// What a tree finds for an identifier.
 #[derive(Drop)]
 pub struct Found<'a> {
-    /// The node that stands for the longest beginning of the identifier.
+    /// The node of the longest prefix of the identifier that has one.
     pub node: Option<NearestNode<'a>>,
     /// The syntax of that node, if it is an object whose type is known.
     pub syntax: Option<ValueSyntax<'a>>,
@@ -35,27 +35,27 @@ pub struct Found<'a> {
     pub below: Option<&'a StoredOid>,
 }
 
-/// A node that stands for the beginning of an identifier.
+/// A node whose identifier is a prefix of another.
 #[derive(Clone, Copy, Debug)]
 pub struct NearestNode<'a> {
-    /// The name of its module, None for a built-in root.
+    /// The name of its module; `None` for a built-in root.
     pub home: Option<&'a [u8]>,
     /// Its label.
     pub label: &'a [u8],
-    /// How many numbers its identifier has.
+    /// The number of numbers in its identifier.
     pub depth: usize,
-    /// The parts of the index of a column, None if it isn't a column or its index can't be read.
+    /// The parts of its index; `None` if it isn't a column or its index can't be read.
     pub index: Option<&'a [IndexPart]>,
 }
 
-/// The place of the root of a label (RFC 2578, section 3.5).
+/// Returns the index of the root with this label, if there is one (RFC 2578, section 3.5).
 pub(crate) fn root_place(label: &[u8]) -> Option<usize>
     ensures { result ≡ place_anywhere roots label.now }
 {
     Some(root_arc(label)? as usize)
 }
 
-/// The name of a module.
+/// Returns the name of a module, if there is one.
 pub(crate) fn home_name(home: Option<&Module>) -> Option<&[u8]>
     ensures { option_copied result ≡ home_name (option_copied home.entry) }
 {

@@ -1,4 +1,4 @@
-//! The nodes of a tree, by where each comes from.
+//! The nodes of a tree, and the parts of a node that are read from its source.
 ghost use Rattle.std.specs.{Prelude.◌≡◌, Option.option_copied};
 ghost use Rattle.smi_tree.specs.Nodes.{is_named};
 ghost use Rattle.smi_tree.specs.Places.{home_from, label_from, definition_from};
@@ -11,24 +11,24 @@ use snmp_oid::StoredOid;
 /// A node of a tree: a definition with an identifier, or a root.
 #[derive(Clone, Copy, Debug)]
 pub struct Node<'a> {
-    /// The module that defines it, None for a root.
+    /// The module that defines it; `None` for a root.
     pub home: Option<&'a Module>,
     /// Its label.
     pub label: &'a [u8],
     /// Its identifier.
     pub oid: &'a StoredOid,
-    /// Its definition, None for a root.
+    /// Its definition; `None` for a root.
     pub definition: Option<&'a Def>,
 }
 
-/// What a list has at a place.
+/// Returns the value at index `place` of `list`. Returns `None` past the end too.
 pub(crate) fn kept<T: Copy>(list: &[Option<T>], place: usize) -> Option<T>
     ensures { result ≡ at_place list.now place }
 {
     *list.get(place)?
 }
 
-/// The module of a source, None for a root.
+/// Returns the module of a source, or `None` for a root.
 pub(crate) fn home(modules: &[Module], source: Source) -> Option<&Module>
     ensures { option_copied result ≡ home_from modules.now source }
 {
@@ -38,14 +38,14 @@ pub(crate) fn home(modules: &[Module], source: Source) -> Option<&Module>
     }
 }
 
-/// Whether a source is of a module of this name.
+/// Returns whether a source is in a module of this name.
 pub(crate) fn is_in_module(modules: &[Module], source: Source, name: &[u8]) -> bool
     ensures { result ≡ is_named name.now (home_from modules.now source) }
 {
     matches!(home(modules, source), Some(module) if module.name.as_bytes() == name)
 }
 
-/// The definition of a source, None for a root.
+/// Returns the definition of a source, or `None` for a root.
 pub(crate) fn definition(modules: &[Module], source: Source) -> Option<&Def>
     ensures { option_copied result ≡ definition_from modules.now source }
 {
@@ -55,7 +55,7 @@ pub(crate) fn definition(modules: &[Module], source: Source) -> Option<&Def>
     }
 }
 
-/// The label of a source.
+/// Returns the label of a source.
 pub(crate) fn label(modules: &[Module], source: Source) -> &[u8]
     ensures { result.now ≡ label_from modules.now source }
 {

@@ -1,6 +1,7 @@
-//! Nodes by their names: maps from names to places.
+//! Maps from the names of modules and the labels of nodes to indices.
 //!
-//! Names come from files that others wrote, so the maps hash them by a key that those don't know.
+//! Names come from files that others wrote. Someone who doesn't know the key of the maps can't
+//! choose names that all have the same hash.
 ghost use Rattle.std.specs.Prelude.{◌≡◌, List, ℕ, IfOk};
 ghost use Rattle.std.specs.List.{position_from};
 ghost use Rattle.indexmap.specs.IndexMap.{hasher_of};
@@ -14,14 +15,15 @@ use smi_names::{NameBuf, NameHash, NameRef, Source, insert_if_absent};
 use smi_text::Module;
 use std::alloc::{AllocError, Global};
 
-/// Names, each with its place.
+/// Names, each with its index.
 pub(crate) type Places = IndexMap<NameBuf, usize, NameHash>;
 
-/// The first source of a label in a module, where the label's first source of all is of another
-/// module. The key is the place of the module and that of the label's first source.
+/// The index of a label's first source in a module, if the label's first source of all is in
+/// another module. The key is the index of the module and the index of the label's first source of
+/// all.
 pub(crate) type Others = IndexMap<(usize, usize), usize, NameHash>;
 
-/// The places of labels.
+/// The first sources of labels, by their indices.
 #[derive(Drop)]
 pub(crate) struct LabelPlaces {
     /// The first source of each label.
@@ -30,14 +32,14 @@ pub(crate) struct LabelPlaces {
     pub(crate) others: Others,
 }
 
-/// The place of a name.
+/// Returns the index of `name`.
 pub(crate) fn find(places: &Places, name: &[u8]) -> Option<usize>
     ensures { result ≡ place_in places.now name.now }
 {
     places.get(&NameRef::new(name)).copied()
 }
 
-/// The place of each module, by its name: the first of those that have it.
+/// Returns the index of the first module of each name.
 pub(crate) fn homes(alloc: Global, hash: NameHash, modules: &[Module]) -> Result<Places, AllocError>
     ensures placed { IfOk result (λ homes. (x : List ℕ)
         → place_in homes x ≡ module_place modules.now x) }
@@ -50,7 +52,8 @@ pub(crate) fn homes(alloc: Global, hash: NameHash, modules: &[Module]) -> Result
     Ok(homes)
 }
 
-/// The key of a source in [`Others`]; None for the first source of its label, and for a root.
+/// Returns the key in [`Others`] of the source at index `place`, whose label has its first source
+/// at index `first`. Returns `None` for that first source, and for a root.
 fn key_of(
     modules: &[Module],
     homes: &Places,
@@ -67,7 +70,8 @@ fn key_of(
     Some((home, first))
 }
 
-/// The first place of each label, and the first in each other module.
+/// Returns the index of the first source of each label, and of its first source in each other
+/// module. `homes` has the indices of the modules.
 pub(crate) fn labels(
     alloc: Global,
     hash: NameHash,

@@ -1,4 +1,4 @@
-//! The syntax of objects as values are shown by it.
+//! The syntax of objects, in the form for showing values.
 ghost use Rattle.std.specs.{Prelude.◌≡◌, Prelude.option_map, Option.option_copied};
 ghost use Rattle.smi_tree.specs.types.Kept.{facts_of};
 ghost use Rattle.smi_tree.specs.Shown.{syntax_from, value_base, between_quotes, units_of};
@@ -10,8 +10,8 @@ use smi_names::{Source, TypeBase};
 use smi_text::{DefKind, Module, Text};
 use smi_value::{ValueBase, ValueSyntax};
 
-/// The type that values of a base type have on the wire; `Other` where no syntax changes how they
-/// are shown.
+/// Returns the type that determines how values of `base` are shown; `Other` if they are shown in
+/// one way, whatever their syntax.
 fn value_base(base: TypeBase) -> ValueBase
     ensures { result ≡ value_base base }
 {
@@ -27,7 +27,7 @@ fn value_base(base: TypeBase) -> ValueBase
     }
 }
 
-/// The octets between the quotes of a string.
+/// Returns the octets between the quotes of a string.
 fn between_quotes(text: &Text) -> &[u8]
     ensures { result.now ≡ between_quotes text.now }
 {
@@ -38,7 +38,7 @@ fn between_quotes(text: &Text) -> &[u8]
     &octets[1..octets.len() - 1]
 }
 
-/// UNITS of an OBJECT-TYPE, if it has them.
+/// Returns the UNITS of an OBJECT-TYPE, if it has them.
 pub(crate) fn units_of(kind: &DefKind) -> Option<&Text>
     ensures { option_copied result ≡ units_of kind.now }
 {
@@ -48,7 +48,7 @@ pub(crate) fn units_of(kind: &DefKind) -> Option<&Text>
     }
 }
 
-/// A syntax with UNITS, as values are shown by it.
+/// Returns the syntax for showing values, from a type's syntax and UNITS.
 pub(crate) fn value_syntax<'a>(syntax: TypeSyntax<'a>, units: Option<&'a Text>) -> ValueSyntax<'a>
     ensures { result ≡ shown_syntax (facts_of syntax.entry) (option_copied units.entry) }
 {
@@ -60,7 +60,7 @@ pub(crate) fn value_syntax<'a>(syntax: TypeSyntax<'a>, units: Option<&'a Text>) 
     )
 }
 
-/// The syntax of the object of a source, if it is one with a type of a value.
+/// Returns the syntax of the object of a source, or `None` if it isn't an object with a syntax.
 pub(crate) fn syntax<'a>(
     types: &Types,
     modules: &'a [Module],

@@ -1,4 +1,4 @@
-//! What types state, and the syntax of an object.
+//! The parts of types, and the syntax of an object.
 ghost use Rattle.std.specs.Prelude.{◌≡◌, option_map};
 ghost use Rattle.std.specs.Option.{option_copied, option_and_then};
 ghost use Rattle.smi_tree.specs.types.Types.{names_in, sizes_in, simple_in, type_hint, type_syntax};
@@ -10,20 +10,23 @@ use smi_text::{
     Base, Def, DefKind, Name, NamedNumber, Range, Refinement, SimpleType, Syntax, Text,
 };
 
-/// The syntax of an object: what its chain of types gives. It borrows its texts from the modules.
+/// The syntax of an object: what its chain of types defines. It borrows from the modules.
 #[derive(Clone, Copy, Debug)]
 pub struct TypeSyntax<'a> {
     /// The base type at the end of the chain.
     pub base: TypeBase,
-    /// The nearest names of numbers or bits (RFC 2578, sections 7.1.1 and 7.1.4).
+    /// The named numbers or bits of the first type on the chain that has them (RFC 2578, sections
+    /// 7.1.1 and 7.1.4).
     pub names: Option<&'a [NamedNumber]>,
-    /// The nearest display hint, as the string in quotes (RFC 2579, section 3.1).
+    /// The display hint of the first type on the chain that has one, as the string in quotes (RFC
+    /// 2579, section 3.1).
     pub hint: Option<&'a Text>,
-    /// The nearest SIZE: ranges of lengths (RFC 2578, section 9).
+    /// The SIZE of the first type on the chain that has one: ranges of lengths (RFC 2578, section
+    /// 9).
     pub sizes: Option<&'a [Range]>,
 }
 
-/// The names of numbers or bits that a type states.
+/// Returns the named numbers or bits of a type, if it has them.
 pub(crate) fn names_of(simple: &SimpleType) -> Option<&[NamedNumber]>
     ensures { option_copied result ≡ names_in simple.now.refinement }
 {
@@ -33,7 +36,7 @@ pub(crate) fn names_of(simple: &SimpleType) -> Option<&[NamedNumber]>
     }
 }
 
-/// The SIZE that a type states.
+/// Returns the SIZE of a type, if it has one.
 pub(crate) fn sizes_of(simple: &SimpleType) -> Option<&[Range]>
     ensures { option_copied result ≡ sizes_in simple.now.refinement }
 {
@@ -43,7 +46,7 @@ pub(crate) fn sizes_of(simple: &SimpleType) -> Option<&[Range]>
     }
 }
 
-/// The base type that a type refines, if it is one by itself or by its name.
+/// Returns the base type that a type refines, or `None` if it refines another type.
 pub(crate) fn base_of(simple: &SimpleType) -> Option<TypeBase>
     ensures { result ≡ base_in simple.now.base }
 {
@@ -56,7 +59,7 @@ pub(crate) fn base_of(simple: &SimpleType) -> Option<TypeBase>
     }
 }
 
-/// The name of the type that a type refines, if that is no base type.
+/// Returns the name of the type that a type refines, or `None` if it refines a base type.
 pub(crate) fn name_of(simple: &SimpleType) -> Option<&Name>
     ensures { option_map (λ name. name.now.octets) result ≡ name_in simple.now.base }
 {
@@ -69,7 +72,7 @@ pub(crate) fn name_of(simple: &SimpleType) -> Option<&Name>
     }
 }
 
-/// The display hint of a textual convention, if it has one.
+/// Returns the display hint of a textual convention, if it has one.
 pub(crate) fn hint_of(kind: &DefKind) -> Option<&Text>
     ensures { option_copied result ≡ type_hint kind.now }
 {
@@ -79,7 +82,7 @@ pub(crate) fn hint_of(kind: &DefKind) -> Option<&Text>
     }
 }
 
-/// A syntax that is no SEQUENCE OF.
+/// Returns `syntax` unless it is a SEQUENCE OF.
 fn simple_of(syntax: &Syntax) -> Option<&SimpleType>
     ensures { option_copied result ≡ simple_in syntax.now }
 {
@@ -89,7 +92,7 @@ fn simple_of(syntax: &Syntax) -> Option<&SimpleType>
     }
 }
 
-/// The syntax of a textual convention or of an assigned type, if it is no SEQUENCE OF.
+/// Returns the syntax of a textual convention or an assigned type, unless it is a SEQUENCE OF.
 pub(crate) fn type_of(kind: &DefKind) -> Option<&SimpleType>
     ensures { option_copied result ≡ option_and_then simple_in (type_syntax kind.now) }
 {
@@ -100,7 +103,7 @@ pub(crate) fn type_of(kind: &DefKind) -> Option<&SimpleType>
     }
 }
 
-/// The syntax of an OBJECT-TYPE, if it is no SEQUENCE OF.
+/// Returns the syntax of an OBJECT-TYPE, unless it is a SEQUENCE OF.
 pub(crate) fn object_type_of(kind: &DefKind) -> Option<&SimpleType>
     ensures { option_copied result ≡ option_and_then simple_in (object_syntax kind.now) }
 {
@@ -110,21 +113,21 @@ pub(crate) fn object_type_of(kind: &DefKind) -> Option<&SimpleType>
     }
 }
 
-/// The type that a definition of a type or of an object states.
+/// Returns the syntax of a type or an object, unless it is a SEQUENCE OF.
 fn type_in(kind: &DefKind) -> Option<&SimpleType>
     ensures { option_copied result ≡ type_in kind.now }
 {
     type_of(kind).or(object_type_of(kind))
 }
 
-/// The names of numbers or bits that a definition of a type or of an object states.
+/// Returns the named numbers or bits in the definition of a type or an object, if it has them.
 pub(crate) fn names_in_definition(def: &Def) -> Option<&[NamedNumber]>
     ensures { option_copied result ≡ names_of def.now }
 {
     names_of(type_in(&def.kind)?)
 }
 
-/// The SIZE that a definition of a type or of an object states.
+/// Returns the SIZE in the definition of a type or an object, if it has one.
 pub(crate) fn sizes_in_definition(def: &Def) -> Option<&[Range]>
     ensures { option_copied result ≡ sizes_of def.now }
 {

@@ -1,4 +1,4 @@
-//! The tree of names, and what it is asked for.
+//! The tree of names, and look-ups in it.
 ghost use Rattle.std.specs.Prelude.{◌≡◌, ◌<◌, ℕ, List, length, drop, Some, None, IfOk};
 ghost use Rattle.std.specs.Prelude.{MatchOption, IfSome, option_map, slice_index_or};
 ghost use Rattle.std.specs.{Option.option_and_then, Option.option_copied, List.slice_get};
@@ -35,21 +35,20 @@ use snmp_oid::{Oid, StoredOid};
 use std::alloc::{AllocError, Global};
 use std::marker::Model;
 
-/// The place of a node in order of loading, the roots first. It is below the tree's `len()`.
+/// The index of a node in order of loading, the roots first. It is below the tree's `len()`.
 pub type NodeId = usize;
 
-/// The nodes that modules define, with those of the roots before them (RFC 2578, sections 3.5 and
-/// 3.6).
+/// The nodes of the roots, and then those that modules define (RFC 2578, sections 3.5 and 3.6).
 ///
-/// Of several nodes with one identifier the first in order of loading stands for it. Only the calls
-/// that load a tree allocate.
+/// If several nodes have the same identifier, the first in order of loading represents it. Only
+/// the calls that load a tree allocate.
 pub struct Tree {
     modules: Vec<Module>,
-    /// Where each node comes from.
+    /// The source of each node.
     sources: Vec<Source>,
     /// The identifier of each node.
     identifiers: Identifiers,
-    /// The place of each module's name.
+    /// The index of the first module of each name.
     homes: Places,
     /// The first node of each label.
     labels: Places,
@@ -76,8 +75,8 @@ impl Model for Tree {
 }
 
 impl Drop for Tree {
-    // Written out, so that it is proved here alone: a derived one is proved in each crate above,
-    // with that of each type of the modules.
+    // Written out, so that it is proved only here. A derived one would be proved in each crate
+    // above, with those of the types of the modules.
     fn drop(self) {
         let Tree {
             modules: _modules,
@@ -93,20 +92,20 @@ impl Drop for Tree {
 }
 
 impl Tree {
-    /// The tree of modules, with the warnings that they give, in order. It is the tree that
-    /// [`Tree::load_with_key`] loads with the fixed key.
+    /// Returns the tree of `modules`, and the warnings about them in order of loading. This is
+    /// what [`Tree::load_with_key`] loads with the fixed key.
     ///
-    /// Names may refer to what stands later, in the same module or in another. A module whose name
-    /// an earlier one has is left out.
+    /// Names may refer to later definitions, in the same module or in another. A module with the
+    /// name of an earlier one is left out.
     pub fn load(alloc: Global, modules: Vec<Module>) -> Result<(Tree, Vec<Warning>), AllocError>
         ensures { IfOk result (λ loaded. IsTree modules.items loaded.0 loaded.1.items) }
     {
         Ok(Tree::load_with_key(alloc, NameHash::Fixed, modules)?.into_parts())
     }
 
-    /// Loads the tree of modules, as [`Tree::load`] does, with this key: each map of names that the
-    /// load makes has it. Someone who doesn't know the key can't choose names that make look-ups
-    /// slow.
+    /// Loads the tree of `modules`, as [`Tree::load`] does, with this key: each map of names that
+    /// the load makes has it. Someone who doesn't know the key can't choose names that make
+    /// look-ups slow.
     pub fn load_with_key(
         alloc: Global,
         key: NameHash,
@@ -126,7 +125,7 @@ impl Tree {
         })
     }
 
-    /// How many nodes there are, the roots included.
+    /// Returns the number of nodes, the roots included.
     #[tactic(auto, using(crate::proofs::Bridging::length_nodes))]
     pub fn len(&self) -> usize
         ensures { result ≡ length self.now.nodes }
@@ -134,7 +133,7 @@ impl Tree {
         self.sources.len()
     }
 
-    /// The node at a place, which is below `len()`.
+    /// Returns the node `id`, which must be below `len()`.
     pub fn node(&self, id: NodeId) -> Node<'_>
         requires { id < length self.now.nodes }
         ensures { slice_get self.now.nodes id ≡ Some (seen_node result) }
@@ -148,7 +147,7 @@ impl Tree {
         }
     }
 
-    /// Whether a module of this name is loaded.
+    /// Returns whether a module of this name is loaded.
     #[tactic(auto, using(crate::proofs::Bridging::is_some_find), unfolding(crate::specs::Naming::is_module_loaded))]
     pub fn has_module(&self, name: &[u8]) -> bool
         ensures { result ≡ is_module_loaded self.now name.now }
@@ -156,12 +155,12 @@ impl Tree {
         find(&self.homes, name).is_some()
     }
 
-    /// The first node of a label in the module named `home`.
+    /// Returns the first node with this label in the module named `home`.
     pub fn find(&self, home: &[u8], label: &[u8]) -> Option<NodeId>
         ensures { result ≡ place_in_module self.now.nodes home.now label.now }
     {
         let first = self.find_any(label)?;
-        // Most labels stand in one module alone.
+        // Most labels are defined in only one module.
         if is_in_module(&self.modules, self.sources[first], home) {
             return Some(first);
         }
@@ -169,7 +168,7 @@ impl Tree {
         self.others.get(&(home, first)).copied()
     }
 
-    /// The first node of a label, the roots before all others.
+    /// Returns the first node with this label, the roots before all others.
     #[tactic(auto, using(crate::proofs::Bridging::anywhere_sources))]
     pub fn find_any(&self, label: &[u8]) -> Option<NodeId>
         ensures { result ≡ place_anywhere self.now.nodes label.now }
@@ -177,8 +176,8 @@ impl Tree {
         find(&self.labels, label)
     }
 
-    /// The node that stands for the longest beginning of an identifier, and the numbers after that
-    /// beginning: all of them if there is no such node. The whole identifier counts as a beginning.
+    /// Returns the node of the longest prefix of `oid` that has one, and the numbers of `oid`
+    /// after that prefix: all of them if there is no such node. `oid` itself counts as a prefix.
     pub fn deepest<'o>(&self, oid: &'o Oid) -> (Option<NodeId>, &'o [u32])
         ensures deepest { let oids = oids_of self.now.nodes in MatchOption result.0
             (HasNoBeginning oids oid.now × (result.1.now ≡ oid.now))
@@ -194,14 +193,16 @@ impl Tree {
         }
     }
 
-    /// The nodes that stand for the identifiers one number longer, in order of that number.
+    /// Returns an iterator over the nodes whose identifiers have `oid` as a prefix and are one
+    /// number longer, in increasing order of that number. If several have the same identifier, it
+    /// returns the first.
     pub fn children(&self, oid: &Oid) -> Children<'_>
         ensures { AreChildren (oids_of self.now.nodes) oid.now (places_left result) }
     {
         self.oids().children(oid)
     }
 
-    /// The first of the children of an identifier that has a label.
+    /// Returns the first of the children of `oid` that has this label.
     #[tactic(auto, using(crate::proofs::Childhood::child_found))]
     pub fn child(&self, oid: &Oid, label: &[u8]) -> Option<NodeId>
         ensures { IsFirstChild self.now.nodes oid.now label.now result }
@@ -215,9 +216,9 @@ impl Tree {
         None
     }
 
-    /// The syntax of a node's object: what its chain of types gives. None if it is no object, or if
-    /// that chain is broken, leads back to itself or ends at no type of a value (RFC 2578, sections
-    /// 7.1 and 9).
+    /// Returns the syntax of a node's object: what its chain of types defines. Returns `None` if
+    /// the node isn't an object, or if that chain is broken, has no end, or ends at something
+    /// other than a type of values (RFC 2578, sections 7.1 and 9).
     pub fn syntax_of(&self, id: NodeId) -> Option<TypeSyntax<'_>>
         ensures { option_map facts_of result ≡ slice_index_or self.now.syntaxes id None }
     {
@@ -225,8 +226,8 @@ impl Tree {
         syntax(&self.types, &self.modules, *source)
     }
 
-    /// The parts of the index of a node. None if it is no column, or if its index can't be read
-    /// (RFC 2578, sections 7.7 and 7.8).
+    /// Returns the parts of the index of a node, or `None` if it isn't a column or its index can't
+    /// be read (RFC 2578, sections 7.7 and 7.8).
     pub fn index_of(&self, id: NodeId) -> Option<&[IndexPart]>
         ensures { option_map (λ parts. parts.now) result
             ≡ slice_index_or self.now.indexes id None }
@@ -235,9 +236,9 @@ impl Tree {
     }
 }
 
-// By this names, values and details are read and shown.
+// Look-ups for reading names, and for showing names, values and details.
 impl Tree {
-    /// The identifier of a module's node of this label.
+    /// Returns the identifier of the first node with this label in the module named `home`.
     #[tactic(auto, unfolding(crate::specs::Naming::oid_in_module))]
     pub fn in_module(&self, home: &[u8], label: &[u8]) -> Option<&StoredOid>
         ensures { option_copied result ≡ oid_in_module self.now home.now label.now }
@@ -245,7 +246,7 @@ impl Tree {
         self.found(self.find(home, label))
     }
 
-    /// The identifier of the first node of this label, the roots before all others.
+    /// Returns the identifier of the first node with this label, the roots before all others.
     #[tactic(auto, unfolding(crate::specs::Naming::oid_anywhere))]
     pub fn anywhere(&self, label: &[u8]) -> Option<&StoredOid>
         ensures { option_copied result ≡ oid_anywhere self.now label.now }
@@ -253,7 +254,7 @@ impl Tree {
         self.found(self.find_any(label))
     }
 
-    /// The identifier of the root of this label.
+    /// Returns the identifier of the root with this label.
     #[tactic(auto, using(crate::proofs::Sounding::roots_first), unfolding(crate::specs::Naming::oid_of_root))]
     pub fn among_roots(&self, label: &[u8]) -> Option<&StoredOid>
         ensures { option_copied result ≡ oid_of_root label.now }
@@ -262,7 +263,7 @@ impl Tree {
         self.found(root_place(label))
     }
 
-    /// The identifier of the child of `oid` with this label, which is one number longer.
+    /// Returns the identifier of the first child of `oid` with this label.
     #[tactic(auto, using(crate::proofs::Childhood::child_is), unfolding(crate::specs::Naming::oid_of_child))]
     pub fn child_oid(&self, oid: &Oid, label: &[u8]) -> Option<&StoredOid>
         ensures { option_copied result ≡ oid_of_child self.now oid.now label.now }
@@ -270,15 +271,15 @@ impl Tree {
         self.found(self.child(oid, label))
     }
 
-    /// The node that stands for the longest beginning of an identifier.
+    /// Returns the node of the longest prefix of `oid` that has one.
     pub fn nearest(&self, oid: &Oid) -> Option<NearestNode<'_>>
         ensures { option_map standing_of result ≡ nearest_node self.now oid.now }
     {
         self.nearest_from(oid, &mut Near::new())
     }
 
-    /// What [`Tree::nearest`] returns, for one identifier after the other: the search begins at the
-    /// node of the last one.
+    /// Returns what [`Tree::nearest`] returns, faster for a series of identifiers: the search
+    /// begins at the node that was found last, if `oid` is below it.
     #[tactic(auto, unfolding(crate::specs::Naming::nearest_node))]
     pub fn nearest_from(&self, oid: &Oid, near: &mut Near) -> Option<NearestNode<'_>>
         ensures { option_map standing_of result ≡ nearest_node self.now oid.now }
@@ -287,8 +288,8 @@ impl Tree {
         self.seen(deepest)
     }
 
-    /// The definition of the node that stands for the longest beginning of an identifier; None if
-    /// there is no node, or if it is a built-in root.
+    /// Returns the definition of the node of the longest prefix of `oid` that has a node. Returns
+    /// `None` if there is no such node, or if it is a built-in root.
     #[tactic(auto, unfolding(crate::specs::Naming::nearest_definition))]
     pub fn nearest_definition(&self, oid: &Oid) -> Option<&Def>
         ensures { option_copied result ≡ nearest_definition self.now oid.now }
@@ -297,8 +298,8 @@ impl Tree {
         self.definition_of(deepest.place)
     }
 
-    /// The syntax of the node that stands for the longest beginning of an identifier, if that is an
-    /// object whose type is known.
+    /// Returns the syntax of the node of the longest prefix of `oid` that has a node, if that is
+    /// an object whose type is known.
     #[tactic(auto, unfolding(crate::specs::Naming::nearest_syntax))]
     pub fn nearest_syntax(&self, oid: &Oid) -> Option<ValueSyntax<'_>>
         ensures { result ≡ nearest_syntax self.now oid.now }
@@ -307,8 +308,8 @@ impl Tree {
         self.value_syntax(deepest.place)
     }
 
-    /// What [`Tree::nearest`] and [`Tree::nearest_syntax`] return, by one search, and an identifier
-    /// below which they return this too.
+    /// Returns what [`Tree::nearest`] and [`Tree::nearest_syntax`] return, by one search, and an
+    /// identifier such that both return the same for all identifiers below it, if one is known.
     #[tactic(auto, unfolding(crate::specs::Naming::nearest_node, crate::specs::Naming::nearest_syntax))]
     pub fn found_for(&self, oid: &Oid, near: &mut Near) -> Found<'_>
         ensures found { IsFound self.now oid.now result }
@@ -328,7 +329,7 @@ impl Tree {
         }
     }
 
-    /// A tree is that of its modules, with some warnings.
+    /// A tree is the tree of its modules, with some warnings.
     ///
     /// A law: the call does nothing, and its caller may use what it ensures.
     pub fn is_tree(&self)
@@ -337,7 +338,8 @@ impl Tree {
         let _ = &self.modules;
     }
 
-    /// Labels are words, and lead to the nodes that they are shown for.
+    /// The label of a node that is found is a word, and a look-up of it returns the identifier of
+    /// that node.
     ///
     /// A law: the call does nothing, and its caller may use what it ensures.
     #[tactic(auto, using(crate::proofs::Sounding::sound_by))]
@@ -350,8 +352,8 @@ impl Tree {
 }
 
 impl Tree {
-    /// The node at a place, if there is one. Inlined, so that parts which a caller doesn't read
-    /// aren't looked up.
+    /// Returns the node `id`, if there is one. `inline(always)`, so that parts that a caller
+    /// doesn't read aren't looked up.
     #[inline(always)]
     fn node_at(&self, id: NodeId) -> Option<Node<'_>>
         ensures { option_map seen_node result ≡ slice_get self.now.nodes id }
@@ -363,7 +365,7 @@ impl Tree {
         }
     }
 
-    /// The identifiers of the nodes.
+    /// Returns the identifiers of the nodes.
     #[tactic(auto, using(crate::proofs::Bridging::oids_nodes))]
     fn oids(&self) -> &Identifiers
         ensures { result.now ≡ oids_of self.now.nodes }
@@ -371,7 +373,7 @@ impl Tree {
         &self.identifiers
     }
 
-    /// The identifier of a node that was found.
+    /// Returns the identifier of the node `place`, if one was found.
     fn found(&self, place: Option<NodeId>) -> Option<&StoredOid>
         ensures { option_copied result ≡ oid_of self.now.nodes place }
     {
@@ -379,14 +381,14 @@ impl Tree {
         Some(node.oid)
     }
 
-    /// Whether a node has a label.
+    /// Returns whether the node `id` has this label.
     fn has_label(&self, id: NodeId, name: &[u8]) -> bool
         ensures { result ≡ is_labelled self.now.nodes name.now id }
     {
         matches!(self.node_at(id), Some(node) if node.label == name)
     }
 
-    /// The definition of a node, None for a root.
+    /// Returns the definition of a node, or `None` for a root.
     fn definition_of(&self, id: NodeId) -> Option<&Def>
         ensures { option_copied result
             ≡ option_and_then (λ n. n.definition) (slice_get self.now.nodes id) }
@@ -394,14 +396,14 @@ impl Tree {
         self.node_at(id)?.definition
     }
 
-    /// UNITS of a node's object, if it has them (RFC 2578, section 7.2).
+    /// Returns the UNITS of a node's object, if it has them (RFC 2578, section 7.2).
     fn units(&self, id: NodeId) -> Option<&Text>
         ensures { option_copied result ≡ units_at self.now.nodes id }
     {
         units_of(&self.definition_of(id)?.kind)
     }
 
-    /// The syntax by which values of a node's object are shown.
+    /// Returns the syntax for showing values of a node's object, if it has one.
     fn value_syntax(&self, id: NodeId) -> Option<ValueSyntax<'_>>
         ensures { result ≡ shown_at self.now.nodes self.now.syntaxes id }
     {
@@ -409,8 +411,8 @@ impl Tree {
         Some(value_syntax(syntax, self.units(id)))
     }
 
-    /// The node that stands for the longest beginning of an identifier, with the length of that
-    /// beginning. The search begins at the node that was found last, if the identifier is below it.
+    /// Returns the node of the longest prefix of `oid` that has one, with the length of that
+    /// prefix. The search begins at the node that was found last, if `oid` is below it.
     #[tactic(auto, using(crate::proofs::Bridging::oids_nodes, crate::proofs::Reaching::longest_found))]
     fn deepest_near(&self, oid: &Oid, near: &mut Near) -> Option<Deepest>
         ensures deepest { MatchOption result (HasNoBeginning (oids_of self.now.nodes) oid.now)
@@ -421,8 +423,8 @@ impl Tree {
         self.identifiers.deepest_near(oid, &mut near.place)
     }
 
-    /// The identifier of a node, if no node is below it. `near` is what `deepest_near` left when it
-    /// found the node.
+    /// Returns the identifier of a node if no node is below it. `near` is the value that
+    /// `deepest_near` left when it found the node.
     fn last_on_way(&self, id: NodeId, near: &Near) -> Option<&StoredOid>
         ensures at { IfSome result (λ o. o.now ≡ oid_at (oids_of self.now.nodes) id) }
         ensures last { IfSome result (λ o. HasNoneBelow (oids_of self.now.nodes) o.now) }
@@ -430,7 +432,7 @@ impl Tree {
         self.oids().last_on_way(id, near.place)
     }
 
-    /// The node at a place, as names see it, with the length of its identifier.
+    /// Returns the node that was found, with its name, the length of its identifier and its index.
     fn seen(&self, deepest: Deepest) -> Option<NearestNode<'_>>
         ensures { option_map standing_of result
             ≡ standing_of_longest self.now (longest_of deepest) }

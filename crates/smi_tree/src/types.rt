@@ -1,8 +1,8 @@
-//! The syntax of objects: what their chains of types give, through textual conventions, assigned
-//! types and imports. Each type of modules is followed to its end once.
+//! The syntax of objects: what their chains of types define, through textual conventions, assigned
+//! types and imports. Each type is visited once.
 //!
-//! Depends on module trees and on what decides their names. The tree of names keeps the types of
-//! its modules, and shows values and reads indexes by them.
+//! Depends on module trees and on what decides their names. The tree of names stores the types of
+//! its modules, and uses them to show values and to read indexes.
 ghost use Rattle.std.specs.Prelude.{◌≡◌, IfOk, MatchOption, Option, Some, option_map, ℕ, List};
 ghost use Rattle.std.specs.Prelude.{if◌then◌else◌};
 ghost use Rattle.std.specs.{Option.option_copied, List.slice_get};
@@ -21,24 +21,25 @@ use smi_names::{Entries, Leads, Meaning, Names, TypeBase};
 use smi_text::{Def, Module, Name, SimpleType};
 use std::alloc::{AllocError, Global};
 
-/// A syntax, with the places of the definitions that state its hint, its names and its SIZE: of the
-/// module, and in that. A name means it as a type.
+/// A syntax as it is stored, with the definitions that have its hint, its named numbers or bits,
+/// and its SIZE. Each definition is stored as the index of its module and its own index in that.
+/// It is also what the name of a type means.
 #[derive(Clone, Copy)]
 pub(crate) struct KeptSyntax {
     /// The base type at the end of the chain.
     base: TypeBase,
-    /// Where the nearest hint stands, if there is one.
+    /// The first definition on the chain that has a display hint, if there is one.
     hint: Option<(usize, usize)>,
-    /// Where the nearest names of numbers or bits stand, if there are some.
+    /// The first definition on the chain that has named numbers or bits, if there is one.
     names: Option<(usize, usize)>,
-    /// Where the nearest SIZE stands, if there is one.
+    /// The first definition on the chain that has a SIZE, if there is one.
     sizes: Option<(usize, usize)>,
 }
 
-/// The syntax of each object of modules. The modules are kept by the caller.
+/// The syntax of each object of modules. The caller stores the modules.
 #[derive(Drop)]
 pub struct Types {
-    /// For each definition of each module its syntax, if it is an object that has one.
+    /// For each definition of each module, its syntax, if it is an object that has one.
     objects: Vec<Vec<Option<KeptSyntax>>>,
 }
 
@@ -66,7 +67,7 @@ impl Meaning for KeptSyntax {
 }
 
 impl Types {
-    /// The types of modules, whose names are given. Each name is visited once, without recursion.
+    /// Returns the types of `modules`. Visits each name once, without recursion.
     #[tactic(auto, using(crate::proofs::Refining::are_types))]
     pub fn new<'a>(
         alloc: Global,
@@ -84,9 +85,10 @@ impl Types {
         })
     }
 
-    /// The syntax of an OBJECT-TYPE, by the place of its module and by its own place in it; None if
-    /// its chain of types is broken, leads back to itself, or ends at no type of a value (RFC 2578,
-    /// sections 7.1 and 9). `modules` are those that the types were made of.
+    /// Returns the syntax of an OBJECT-TYPE, by the index of its module and its own index in that.
+    /// Returns `None` if it isn't one, or if its chain of types is broken, has no end, or ends at
+    /// something other than a type of values (RFC 2578, sections 7.1 and 9). The caller must pass
+    /// the modules that the types were made from.
     #[tactic(auto, using(crate::proofs::Refining::by_facts))]
     pub fn syntax<'m>(
         &self,
@@ -103,9 +105,8 @@ impl Types {
         self.kept(modules, module_place, def_place)
     }
 
-    /// The syntax that is kept for an OBJECT-TYPE, as [`Types::syntax`] returns it, by the place of
-    /// its module and by its own place in it. With other modules than those that the types were
-    /// made of, it may be any syntax.
+    /// Returns the syntax that is stored for an OBJECT-TYPE, as [`Types::syntax`] does. With other
+    /// modules than those that the types were made from, this can be any syntax.
     pub fn kept<'m>(
         &self,
         modules: &'m [Module],
@@ -125,7 +126,8 @@ impl Types {
     }
 }
 
-/// The definition at a place, if one is given.
+/// Returns the definition at `at`, the index of its module and its own index in that, if there is
+/// one.
 fn definition(modules: &[Module], at: Option<(usize, usize)>) -> Option<&Def>
     ensures { option_copied result ≡ def_of modules.now at }
 {
@@ -133,8 +135,10 @@ fn definition(modules: &[Module], at: Option<(usize, usize)>) -> Option<&Def>
     modules.get(i)?.defs.as_slice().get(k)
 }
 
-/// The syntax of a type that the definition at a place states, with a hint or without. What it
-/// states is nearer than what the type states that it refines.
+/// Returns the syntax of the type in the definition `at`. Its own hint, names and SIZE take
+/// precedence; what it lacks is inherited from `far`, the syntax of the type that it refines. A
+/// type that refines a base type inherits nothing else. `hint` says whether the definition has a
+/// hint. Returns `None` if the type doesn't refine a base type and `far` is `None`.
 #[tactic(auto, using(crate::proofs::Refining::is_some_copied))]
 fn refined(
     at: (usize, usize),
@@ -153,7 +157,7 @@ fn refined(
     })
 }
 
-/// The syntax of the base type that a type refines by itself, otherwise the one that is given.
+/// Returns the syntax of the base type that a type refines, or `far` if it refines another type.
 fn based(simple: &SimpleType, far: Option<KeptSyntax>) -> Option<KeptSyntax>
     ensures { result ≡ base_or (base_in simple.now.base) far }
 {
@@ -168,14 +172,15 @@ fn based(simple: &SimpleType, far: Option<KeptSyntax>) -> Option<KeptSyntax>
     }
 }
 
-/// The place of a definition if it states something, otherwise one that is farther.
+/// Returns `at` if `states`, that is, if the definition there has its own part; otherwise `far`.
 fn nearer(states: bool, at: (usize, usize), far: Option<(usize, usize)>) -> Option<(usize, usize)>
     ensures { result ≡ (if states then Some at else far) }
 {
     if states { Some(at) } else { far }
 }
 
-/// The syntax of the type that a type of a module refines, if that is no base type.
+/// Returns the syntax of the type that `simple` refines by name in the module named `home`.
+/// Returns `None` if that has no syntax, or `simple` refines a base type.
 fn named<'a>(
     entries: &Entries<'_, 'a>,
     types: &[Option<KeptSyntax>],
@@ -190,7 +195,8 @@ fn named<'a>(
     kept(types, entries.place(home, name.as_bytes()))
 }
 
-/// The syntax of an object of a module, by its place.
+/// Returns the syntax of `def`, which is in the module `home` and has the indices `at`, if it is
+/// an object that has one.
 fn object<'a>(
     entries: &Entries<'_, 'a>,
     types: &[Option<KeptSyntax>],
@@ -207,7 +213,8 @@ fn object<'a>(
     refined(at, false, simple, far)
 }
 
-/// The syntaxes of the objects of the module at a place.
+/// Returns the syntax of each definition of `module` that is an object. `place` is the index of
+/// the module.
 fn module_objects<'a>(
     alloc: Global,
     entries: &Entries<'_, 'a>,
@@ -227,7 +234,7 @@ fn module_objects<'a>(
     Ok(kept)
 }
 
-/// The syntaxes of the objects of each module.
+/// Returns the syntax of each definition of each module that is an object.
 fn objects<'a>(
     alloc: Global,
     entries: &Entries<'_, 'a>,

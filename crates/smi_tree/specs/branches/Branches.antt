@@ -1,4 +1,4 @@
--- What follows each beginning of an identifier of a list.
+-- The branches of the prefixes of identifiers in a list.
 use Rattle.std.specs.Prelude.{◌≡◌, ◌≢◌, ℕ, ◌+◌, ◌<◌, ◌≤◌, ◌⊎◌, List, [], ◌∷◌, ◌++◌, length, take}
 use Rattle.std.specs.Prelude.{slice_index_or, Option, Some, None}
 use Rattle.std.specs.{List.slice_get, Option.option_and_then, Ordering.nat_cmp, BTreeMap.get}
@@ -6,30 +6,30 @@ use Rattle.smi_tree.specs.branches.Standing.{place_of, oid_at}
 use Rattle.smi_tree.specs.declared.branches.branch.Branch.{Branch}
 use Rattle.smi_tree.specs.declared.branches.identifiers.Deepest.{Deepest}
 
--- the branch to which a number leads from a branch
+-- the branch that `n` reaches from the branch `at`
 abbrev pub follower : List Branch → ℕ → ℕ → Option ℕ
 follower bs at n = option_and_then (λ b. get nat_cmp b.after n) (slice_get bs at)
 
--- the place that stands at a branch
+-- the index that is stored at the branch `at`
 abbrev pub standing_at : List Branch → ℕ → Option ℕ
 standing_at bs at = option_and_then (λ b. b.standing) (slice_get bs at)
 
--- the branch to which numbers lead from a branch, one after the other
+-- the branch that numbers reach from the branch `at`, one after the other
 abbrev pub walk : (ℕ → ℕ → Option ℕ) → ℕ → List ℕ → Option ℕ
 walk next at [] = Some at
 walk next at (n ∷ rest) = option_and_then (λ b. walk next b rest) (next at n)
 
--- the branch to which the numbers of a beginning lead from the first branch
+-- the branch that the numbers of `o` reach from the first branch
 abbrev pub branch_of : List Branch → List ℕ → Option ℕ
 branch_of bs o = walk (follower bs) 0 o
 
--- one of the identifiers begins with o
+-- one of the identifiers begins with `o`
 abbrev pub IsBeginning : List (List ℕ) → List ℕ → Type 0
 IsBeginning oids o = (k : ℕ) × (rest : List ℕ) × (k < length oids) × (oid_at oids k ≡ o ++ rest)
 
--- to each branch one list of numbers leads: that of the first branch is empty, and each other one
--- is a beginning of one of `known`; the place that stands there is that of these numbers in `oids`;
--- and each identifier of `oids` leads to a branch
+-- exactly one list of numbers reaches each branch: the empty list for the first branch, and a
+-- prefix of one of `known` for each other one; the index that is stored at a branch is the first
+-- index of this list in `oids`, if it has one; and each identifier of `oids` reaches a branch
 pub record AreBranches (known oids : List (List ℕ)) (bs : List Branch) : Type 0 where
   pub some : 0 < length bs
   pub within : (at n b : ℕ) → follower bs at n ≡ Some b → b < length bs
@@ -39,13 +39,13 @@ pub record AreBranches (known oids : List (List ℕ)) (bs : List Branch) : Type 
   pub only : (o : List ℕ) (b : ℕ) → branch_of bs o ≡ Some b → o ≢ [] → IsBeginning known o
   pub reached : (at : ℕ) → at < length bs → (o : List ℕ) × (branch_of bs o ≡ Some at)
 
--- the branches are just those of the beginnings of these identifiers
+-- the branches are those of the prefixes of these identifiers
 abbrev pub AreBranchesOf : List (List ℕ) → List Branch → Type 0
 AreBranchesOf oids bs = AreBranches oids oids bs
 
 -- ---- for private functions
 
--- a number leads from branch `at` to b, which was added, and nothing else is changed
+-- branch `b` was added, which `n` reaches from the branch `at`, and nothing else was changed
 pub record AddsBranch (old new : List Branch) (at n b : ℕ) : Type 0 where
   pub is : b ≡ length old
   pub long : length new ≡ b + 1
@@ -54,34 +54,36 @@ pub record AddsBranch (old new : List Branch) (at n b : ℕ) : Type 0 where
       → (follower old c m ≡ Some d) ⊎ ((c ≡ at) × (m ≡ n) × (d ≡ b))
   pub standing : (c : ℕ) → standing_at new c ≡ standing_at old c
 
--- branch `at` leads by the number n to a branch that was there or is added
+-- `n` reaches branch `b` from the branch `at`; `b` was there before or was added, and nothing else
+-- was changed
 pub record GrowsBranch (old new : List Branch) (at n b : ℕ) : Type 0 where
   pub leads : follower new at n ≡ Some b
   pub kept : (c m d : ℕ) → follower old c m ≡ Some d → follower new c m ≡ Some d
   pub adds : (new ≡ old) ⊎ AddsBranch old new at n b
 
--- the place that stands at a branch, as the deepest one; the deepest before it, if none stands
--- there
+-- the index that is stored at a branch, as the longest prefix; if none is, the longest one before
+-- it
 abbrev pub deeper_of : Option ℕ → (branch depth : ℕ) → Option Deepest → Option Deepest
 deeper_of None branch depth before = before
 deeper_of (Some place) branch depth before =
     Some (record { place = place; depth = depth; branch = branch })
 
--- the longest of the beginnings up to a length
+-- `Some d`: the longest prefix of `o` that is in the list, of those with at most `i` numbers;
+-- `None`: no such prefix is in the list
 abbrev pub SoFar : List (List ℕ) → List ℕ → ℕ → Option Deepest → Type 0
 SoFar oids o i None = (j : ℕ) → j ≤ i → place_of oids (take j o) ≡ None
 SoFar oids o i (Some d) =
     (d.depth ≤ i) × (place_of oids (take d.depth o) ≡ Some d.place)
     × ((j : ℕ) → d.depth < j → j ≤ i → place_of oids (take j o) ≡ None)
 
--- the first `depth` numbers of o lead to a branch, and `deepest` is the longest beginning in the
--- list among them
+-- the first `depth` numbers of `o` reach `branch`, and `deepest` is the longest prefix of them
+-- that is in the list
 pub record IsUnderWay (oids : List (List ℕ)) (bs : List Branch) (o : List ℕ) (depth branch : ℕ)
     (deepest : Option Deepest) : Type 0 where
   pub within : depth ≤ length o
   pub here : branch_of bs (take depth o) ≡ Some branch
   pub so_far : SoFar oids o depth deepest
 
--- the branches of the beginnings of o, by how many numbers each has
+-- `way` has the branch of each prefix of `o`, by the length of the prefix
 pub record IsWay (bs : List Branch) (o way : List ℕ) : Type 0 where
   pub each : (j : ℕ) → j ≤ length o → branch_of bs (take j o) ≡ Some (slice_index_or way j 0)

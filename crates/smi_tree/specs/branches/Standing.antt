@@ -1,34 +1,35 @@
--- The place that stands for an identifier in a list of identifiers: the first one with it.
+-- The index that represents an identifier in a list of identifiers: the first one.
 use Rattle.std.specs.Prelude.{◌≡◌, ℕ, ◌<◌, ◌≤◌, List, [], ◌∷◌, ◌++◌, length, take, slice_index_or}
 use Rattle.std.specs.Prelude.{Contains, Option, Some, None, nat_eq}
 use Rattle.std.specs.{List.position_from, List.filter_map, Cmp.Lexicographic.pointwise}
 use Rattle.std.specs.{List.Sorted.IsStrictlySortedBy, Ordering.nat_cmp}
 use Rattle.snmp_oid.specs.Identifier.{IsBelow}
 
--- the first place of the identifier
+-- the first index of the identifier `o`
 abbrev pub place_of : List (List ℕ) → List ℕ → Option ℕ
 place_of oids o = position_from (λ x. pointwise nat_eq x o) 0 oids
 
--- the identifier at a place
+-- the identifier at index `k`
 abbrev pub oid_at : List (List ℕ) → ℕ → List ℕ
 oid_at oids k = slice_index_or oids k []
 
--- the first `depth` numbers of o are the identifier at this place of the list, and no beginning of
--- o with more numbers is in the list
+-- the first `depth` numbers of `o` are in the list, with `place` as their first index, and no
+-- longer prefix of `o` is in the list
 pub record IsDeepestAt (oids : List (List ℕ)) (o : List ℕ) (place depth : ℕ) : Type 0 where
   pub within : depth ≤ length o
   pub here : place_of oids (take depth o) ≡ Some place
   pub none_longer : (j : ℕ) → depth < j → j ≤ length o → place_of oids (take j o) ≡ None
 
--- no beginning of the identifier is in the list
+-- no prefix of `o` is in the list
 abbrev pub HasNoBeginning : List (List ℕ) → List ℕ → Type 0
 HasNoBeginning oids o = (j : ℕ) → j ≤ length o → place_of oids (take j o) ≡ None
 
--- no identifier below this one is in the list
+-- no identifier below `o` is in the list
 abbrev pub HasNoneBelow : List (List ℕ) → List ℕ → Type 0
 HasNoneBelow oids o = (p : List ℕ) → IsBelow p o → place_of oids p ≡ None
 
--- the places that stand for the identifiers one number longer than o, in the order of that number
+-- `places` has the first indices of the identifiers that have `o` as a prefix and are one number
+-- longer, in increasing order of that number
 pub record AreChildren (oids : List (List ℕ)) (o : List ℕ) (places : List ℕ) : Type 0 where
   pub numbers : List ℕ
   pub rising : IsStrictlySortedBy nat_cmp numbers

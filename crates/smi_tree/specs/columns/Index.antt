@@ -17,8 +17,8 @@ use Rattle.smi_tree.specs.columns.Definitions.{qualified_name, IsDefinedBy}
 
 -- ---- the objects of an INDEX clause
 
--- the part for a name in an INDEX clause of this module: the name leads to an object that has an
--- identifier and a syntax, whose base is one that an index may have
+-- `part` is the part for `name` in an INDEX clause of module `m`: the name refers to an object
+-- with an identifier and a syntax, whose base type an index can have
 pub record IsIndexPart (ms : List Module) (m : Module) (name : List ℕ) (implied : Bool)
     (part : IndexPart) : Type 0 where
   pub home : Module
@@ -30,11 +30,11 @@ pub record IsIndexPart (ms : List Module) (m : Module) (name : List ℕ) (implie
   pub syntax : HasSyntax ms (origin_of_object home.name.octets object) facts
   pub reads : IsPartOf facts.base facts.sizes implied part
 
--- IMPLIED stands before the name at this place
+-- whether IMPLIED precedes the name at index `i`
 abbrev pub is_implied : IndexParts → ℕ → Bool
 is_implied clause i = clause.implied && (i + 1 == length clause.names)
 
--- the parts for the names of an INDEX clause of this module, each for its name
+-- `parts` has the part for each name of an INDEX clause of module `m`
 abbrev pub AreParts : List Module → Module → IndexParts → List IndexPart → Type 0
 AreParts ms m clause parts =
     ArePairwise (λ i name part. IsIndexPart ms m name.octets (is_implied clause i) part)
@@ -47,14 +47,14 @@ abbrev pub clause_of : DefKind → Option Index
 clause_of (D.ObjectType o) = o.index
 clause_of _ = None
 
--- the rows of a definition with this clause are identified by the INDEX clause of the definition e:
--- of the row that AUGMENTS names, or of the definition itself
+-- the INDEX clause of definition `e` of module `n` identifies the rows of definition `d`, which
+-- has this clause: it is `d` itself, or the row that AUGMENTS names
 abbrev pub UsesIndexOf : List Module → Module → Def → Option Index → Module → Def → Type 0
 UsesIndexOf ms m d None n e = ⊥
 UsesIndexOf ms m d (Some (Own clause)) n e = (n ≡ m) × (e ≡ d)
 UsesIndexOf ms m d (Some (Augments name)) n e = IsDefinedBy ms (qualified_name m name.octets) n e
 
--- the parts of the definition's own INDEX clause
+-- `parts` are the parts of the INDEX clause of `d` itself
 pub record IsIndexed (ms : List Module) (m : Module) (d : Def) (parts : List IndexPart)
     : Type 0 where
   pub clause : IndexParts
@@ -67,14 +67,14 @@ abbrev pub IsObjectType : Option Def → Type 0
 IsObjectType definition = (d : Def) × (o : ObjectType) × (definition ≡ Some d)
     × (d.kind ≡ D.ObjectType o)
 
--- the node that stands for an identifier: the first one with it
+-- `node` represents the identifier `oid`: it is the first node with it
 pub record StandsAt (nodes : List Node) (oid : List ℕ) (node : Node) : Type 0 where
   pub place : ℕ
   pub first : place_of (map (λ n. n.oid) nodes) oid ≡ Some place
   pub there : slice_get nodes place ≡ Some node
 
--- the node is a column of the row: an object whose identifier is one number longer than that for
--- which the row stands
+-- `column` is a column of `row`: an object whose identifier is one number longer than the
+-- identifier that `row` represents
 pub record IsColumnOf (nodes : List Node) (column row : Node) : Type 0 where
   pub object : IsObjectType column.definition
   pub front : List ℕ
@@ -82,7 +82,7 @@ pub record IsColumnOf (nodes : List Node) (column row : Node) : Type 0 where
   pub below : column.oid ≡ front ++ last ∷ []
   pub stands : StandsAt nodes front row
 
--- these are the parts of the index of a column
+-- `parts` are the parts of the index of `column`
 pub record IsIndexOf (ms : List Module) (nodes : List Node) (column : Node)
     (parts : List IndexPart) : Type 0 where
   pub row : Node
@@ -99,16 +99,17 @@ pub record IsIndexOf (ms : List Module) (nodes : List Node) (column : Node)
 
 -- ---- the indexes of all nodes
 
--- the parts of the index of a node; none if it is no column, or if its index can't be read
+-- the result is the parts of the index of `node`, or `None` if it isn't a column or its index
+-- can't be read
 abbrev pub IsIndex : List Module → List Node → Node → Option (List IndexPart) → Type 0
 IsIndex ms nodes node None = (parts : List IndexPart) → IsIndexOf ms nodes node parts → ⊥
 IsIndex ms nodes node (Some parts) = IsIndexOf ms nodes node parts
 
--- the index of the node at a place
+-- the index of the node at index `k`
 abbrev pub index_at : List (Option (List IndexPart)) → ℕ → Option (List IndexPart)
 index_at indexes k = slice_index_or indexes k None
 
--- the index of each node, in the order of the nodes
+-- `indexes` has the index of each node, in the order of the nodes
 pub record AreIndexesOf (ms : List Module) (nodes : List Node)
     (indexes : List (Option (List IndexPart))) : Type 0 where
   pub long : length indexes ≡ length nodes

@@ -10,11 +10,11 @@ use Rattle.smi_text.specs.declared.trees.tree.TokenText.{TokenText}
 use Rattle.smi_names.specs.declared.meaning.base.TypeBase.{TypeBase}
 use Rattle.smi_names.specs.declared.meaning.base.TypeBase.TheVariants as T
 
--- the token stands for this number
+-- the token `t` represents the number `n`
 abbrev pub StatesBound : TokenText → ℕ → Type 0
 StatesBound t n = bound_in t.kind t.text ≡ Some (pos n)
 
--- a fixed SIZE: one range, which is this bound alone; `n..n` is no single bound
+-- the SIZE is fixed: it has a single range, which is only `bound`; `n..n` isn't a single bound
 pub record IsFixedBy (sizes : Option (List Range)) (bound : TokenText) : Type 0 where
   pub range : Range
   pub only : sizes ≡ Some (range ∷ [])
@@ -24,17 +24,17 @@ pub record IsFixedBy (sizes : Option (List Range)) (bound : TokenText) : Type 0 
 abbrev pub IsNotFixed : Option (List Range) → Type 0
 IsNotFixed sizes = (bound : TokenText) → IsFixedBy sizes bound → ⊥
 
--- how many numbers a string has: as many as its SIZE fixes; if it fixes none, as many as the length
--- before them says, or, after IMPLIED, all that remain. A SIZE that is fixed below zero gives no
--- extent.
+-- the extent says how many numbers a string has: as many as its SIZE fixes; if it fixes none, as
+-- many as the length before them says, or, after IMPLIED, all that remain. A SIZE that is fixed
+-- below zero has no extent.
 abbrev pub HasExtent : Option (List Range) → Bool → Extent → Type 0
 HasExtent sizes implied (Fixed n) =
     (bound : TokenText) × IsFixedBy sizes bound × StatesBound bound n
 HasExtent sizes implied Counted = IsNotFixed sizes × (implied ≡ false)
 HasExtent sizes implied Implied = IsNotFixed sizes × (implied ≡ true)
 
--- the part of an object of this base and SIZE, after IMPLIED or not; Counter64 has none, nor has a
--- string whose SIZE is fixed below zero
+-- `part` is the part for an object with this base type and SIZE, after IMPLIED or not; Counter64
+-- has none, and neither has a string whose SIZE is fixed below zero
 abbrev pub IsPartOf : TypeBase → Option (List Range) → Bool → IndexPart → Type 0
 IsPartOf T.Integer sizes implied part = part ≡ P.Number
 IsPartOf T.Counter32 sizes implied part = part ≡ P.Number

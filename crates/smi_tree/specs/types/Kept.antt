@@ -1,4 +1,4 @@
--- What is kept of the types of modules, and what it gives.
+-- What is stored of the types of modules, and the syntaxes that it represents.
 use Rattle.std.specs.Prelude.{ℕ, Bool, List, is_some, MatchOption, Option, Some, None, option_map}
 use Rattle.std.specs.Prelude.{if◌then◌else◌, Vec}
 use Rattle.std.specs.{Global.Global, List.slice_get, Option.option_and_then, Option.option_copied}
@@ -17,7 +17,7 @@ use Rattle.smi_tree.specs.declared.syntax.TypeSyntax.{TypeSyntax}
 use Rattle.smi_tree.specs.declared.types.KeptSyntax.{KeptSyntax}
 use Rattle.smi_tree.specs.declared.types.Types.{Types}
 
--- a syntax as definitions see it
+-- a syntax that the code returns, as a value
 abbrev pub facts_of : TypeSyntax → Facts
 facts_of s = record {
   base = s.base;
@@ -26,7 +26,7 @@ facts_of s = record {
   sizes = option_copied s.sizes;
 }
 
--- the type that a definition of a type or of an object states
+-- the syntax in the definition of a type or an object, unless it is a SEQUENCE OF
 abbrev pub type_in : DefKind → Option SimpleType
 type_in kind = or_else (option_and_then simple_in (type_syntax kind))
     (option_and_then simple_in (object_syntax kind))
@@ -37,7 +37,7 @@ names_of d = option_and_then (λ s. names_in s.refinement) (type_in d.kind)
 abbrev pub sizes_of : Def → Option (List Range)
 sizes_of d = option_and_then (λ s. sizes_in s.refinement) (type_in d.kind)
 
--- the definition at a place, if one is given
+-- the definition at `at`, if there is one
 abbrev pub def_of : List Module → Option (ℕ × ℕ) → Option Def
 def_of ms at = option_and_then (λ p. def_at ms p.0 p.1) at
 
@@ -49,16 +49,16 @@ facts_at ms s = record {
   sizes = option_and_then sizes_of (def_of ms s.sizes);
 }
 
--- the syntax that is kept for a definition of a module, each by its place
+-- the stored syntax of definition `k` of module `i`
 abbrev pub kept_syntax : List Module → Types → ℕ → ℕ → Option Facts
 kept_syntax ms t i k = option_map (facts_at ms)
     (option_and_then (λ kept. at_place kept.items k) (slice_get t.objects.items i))
 
--- this is the syntax of a type, or the type has none
+-- `facts` is the syntax of a type with the origin `o`, or `None` if it has none
 abbrev pub IsSyntax : List Module → TypeOrigin QualifiedName → Option Facts → Type 0
 IsSyntax ms o facts = MatchOption facts (HasNoSyntax ms o) (λ f. HasSyntax ms o f)
 
--- what is kept for a definition is its syntax as an object, if it has one
+-- the stored syntax of each definition is its syntax as an object, if it has one
 abbrev pub AreTypesOf : List Module → Types → Type 0
 AreTypesOf ms t = (i k : ℕ) → IsSyntax ms (object_origin ms i k) (kept_syntax ms t i k)
 
@@ -67,12 +67,13 @@ AreTypesOf ms t = (i k : ℕ) → IsSyntax ms (object_origin ms i k) (kept_synta
 abbrev pub IsKept : List Module → TypeOrigin QualifiedName → Option KeptSyntax → Type 0
 IsKept ms o kept = IsSyntax ms o (option_map (facts_at ms) kept)
 
--- the syntax of a base type, otherwise the one that a type is refined from
+-- the syntax of the base type, otherwise `far`, the syntax of the type that is refined
 abbrev pub base_or : Option TypeBase → Option KeptSyntax → Option KeptSyntax
 base_or None far = far
 base_or (Some b) far = Some (record { base = b; hint = None; names = None; sizes = None })
 
--- the syntax of a type that the definition at a place states, with a hint or without
+-- the syntax of the type `s` in the definition `at`, with a hint or without; `far` is the syntax
+-- of the type that it refines
 abbrev pub refined_by : ℕ × ℕ → Bool → SimpleType → Option KeptSyntax → Option KeptSyntax
 refined_by at hint s far = option_map (λ f. record {
   base = f.base;
@@ -81,25 +82,26 @@ refined_by at hint s far = option_map (λ f. record {
   sizes = if is_some (sizes_in s.refinement) then Some at else f.sizes;
 }) (base_or (base_in s.base) far)
 
--- the name of its module that a definition of a type refines
+-- the name of the type that the definition of a type refines, unless it is a base type
 abbrev pub refines : Def → Option (List ℕ)
 refines d = option_and_then (λ s. name_in s.base)
     (option_and_then simple_in (type_syntax d.kind))
 
--- the syntax of a type that the definition at a place states
+-- the syntax of the type that `d` defines; `at` are its indices, and `far` is the syntax of the
+-- type that it refines
 abbrev pub type_at : ℕ × ℕ → Def → Option KeptSyntax → Option KeptSyntax
 type_at at d far = option_and_then (λ s. refined_by at (is_some (type_hint d.kind)) s far)
     (option_and_then simple_in (type_syntax d.kind))
 
--- what a list has at the place of each name is the syntax that the name means as a type
+-- `types` has at the index of each name the syntax that the name means as a type
 abbrev pub AreFollowed : KnownNames → List (Option KeptSyntax) → Type 0
 AreFollowed k types = AreMeant k refines type_at types
 
--- the syntaxes of the definitions of a module as objects
+-- `kept` has the syntax of each definition of module `m` as an object
 abbrev pub AreKeptOf : List Module → Module → List (Option KeptSyntax) → Type 0
 AreKeptOf ms m kept =
     ArePairwise (λ k d syntax. IsKept ms (origin_of_object m.name.octets d) syntax) m.defs kept
 
--- the syntaxes of the definitions of each module as objects
+-- `objects` has the syntax of each definition of each module as an object
 abbrev pub AreKeptOfAll : List Module → List (Vec (Option KeptSyntax) Global) → Type 0
 AreKeptOfAll ms objects = ArePairwise (λ i m kept. AreKeptOf ms m kept.items) ms objects

@@ -31,12 +31,12 @@ sizes_in (Some (R.Numbers names)) = None
 sizes_in (Some (R.Values ranges)) = None
 sizes_in (Some (R.Size ranges)) = Some ranges
 
--- what a type states, with its display hint
+-- what a type defines itself, with its display hint
 abbrev pub layer : Option (List ℕ) → Option Refinement → Layer
 layer hint refinement =
     record { hint = hint; names = names_in refinement; sizes = sizes_in refinement }
 
--- the base type that a type refines by itself or by its name
+-- the base type that a type refines, by keywords or by name
 abbrev pub base_in : Base → Option TypeBase
 base_in B.Integer = Some T.Integer
 base_in B.OctetString = Some T.OctetString
@@ -44,13 +44,13 @@ base_in B.ObjectIdentifier = Some T.ObjectIdentifier
 base_in B.Bits = Some T.Bits
 base_in (B.Named x) = base_named x.octets
 
--- a base type, or another type by its name in a module
+-- the origin of a type: a base type, or another type by its name in the module `home`
 abbrev pub origin_of_base : List ℕ → Layer → Base → Option TypeBase → TypeOrigin QualifiedName
 origin_of_base home l base (Some b) = at_base l b
 origin_of_base home l (B.Named x) None = on_name l (record { home = home; name = x.octets })
 origin_of_base home l _ None = no_type
 
--- SEQUENCE OF is no type of a value
+-- the syntax unless it is a SEQUENCE OF, which isn't a type of values
 abbrev pub simple_in : Syntax → Option SimpleType
 simple_in (S.SequenceOf x) = None
 simple_in (S.Simple s) = Some s
@@ -61,13 +61,14 @@ origin_of_simple home hint None = no_type
 origin_of_simple home hint (Some s) =
     origin_of_base home (layer hint s.refinement) s.base (base_in s.base)
 
--- a syntax in a module, with the display hint of its textual convention
+-- the origin of a type with this syntax in the module `home`, and with the display hint of its
+-- textual convention
 abbrev pub origin_of_syntax : List ℕ → Option (List ℕ) → Option Syntax → TypeOrigin QualifiedName
 origin_of_syntax home hint syntax =
     origin_of_simple home hint (option_and_then simple_in syntax)
 
--- the syntax of a textual convention or of an assigned type; SEQUENCE and CHOICE are no type of a
--- value, and any other definition is no type at all
+-- the syntax of a textual convention or an assigned type; SEQUENCE and CHOICE aren't types of
+-- values, and other definitions aren't types
 abbrev pub type_syntax : DefKind → Option Syntax
 type_syntax (D.TextualConvention d) = Some d.syntax
 type_syntax (D.TypeAssignment d) = Some d.syntax
@@ -78,11 +79,12 @@ abbrev pub type_hint : DefKind → Option (List ℕ)
 type_hint (D.TextualConvention d) = d.display_hint
 type_hint _ = None
 
--- an import states nothing by itself
+-- what an import defines itself: nothing
 abbrev pub no_layer : Layer
 no_layer = record { hint = None; names = None; sizes = None }
 
--- a name means the module's own definition, otherwise what it means in the module after FROM
+-- the origin of a name as a type: what the module's own definition says, or, if the name is
+-- imported, the same name in the module after FROM
 abbrev pub type_origin_by : QualifiedName → Option Decision → TypeOrigin QualifiedName
 type_origin_by a None = no_type
 type_origin_by a (Some (defined d)) =
@@ -91,7 +93,7 @@ type_origin_by a (Some (imported i)) = on_name no_layer
     (record { home = i.source.octets; name = a.name })
 type_origin_by a (Some (root n)) = no_type
 
--- one step: in a module that isn't loaded no name is a type
+-- the origin of a name as a type, from its module; if that isn't loaded, no name in it is a type
 abbrev pub type_origin_in : QualifiedName → Option Module → TypeOrigin QualifiedName
 type_origin_in a None = no_type
 type_origin_in a (Some m) = type_origin_by a (decision m a.name)
@@ -104,7 +106,7 @@ abbrev pub object_syntax : DefKind → Option Syntax
 object_syntax (D.ObjectType d) = Some d.syntax
 object_syntax _ = None
 
--- the type of the values of an object
+-- the origin of the type of an object's values
 abbrev pub origin_of_object : List ℕ → Def → TypeOrigin QualifiedName
 origin_of_object home d = origin_of_syntax home None (object_syntax d.kind)
 
@@ -113,22 +115,23 @@ object_in None d = no_type
 object_in (Some m) None = no_type
 object_in (Some m) (Some d) = origin_of_object m.name.octets d
 
--- a definition of a module, each by its place
+-- definition `k` of module `i`
 abbrev pub def_at : List Module → ℕ → ℕ → Option Def
 def_at ms i k = option_and_then (λ m. slice_get m.defs k) (slice_get ms i)
 
--- where the syntax of a definition comes from, each by its place
+-- the origin of the type of definition `k` of module `i`, if it is an object
 abbrev pub object_origin : List Module → ℕ → ℕ → TypeOrigin QualifiedName
 object_origin ms i k = object_in (slice_get ms i) (def_at ms i k)
 
--- a syntax: the base at the end of the chain of types, and the nearest hint, names and SIZE
+-- a syntax: the base type at the end of the chain of types, and the first hint, names and SIZE on
+-- it
 pub record Facts : Type 0 where
   pub base : TypeBase
   pub hint : Option (List ℕ)
   pub names : Option (List NamedNumber)
   pub sizes : Option (List Range)
 
--- the chain of types from here gives these facts
+-- the chain of types from `origin` defines these facts
 pub record HasSyntax (ms : List Module) (origin : TypeOrigin QualifiedName) (facts : Facts)
     : Type 0 where
   pub layers : List Layer
@@ -137,13 +140,13 @@ pub record HasSyntax (ms : List Module) (origin : TypeOrigin QualifiedName) (fac
   pub names : facts.names ≡ nearest (λ l. l.names) layers
   pub sizes : facts.sizes ≡ nearest (λ l. l.sizes) layers
 
--- no chain of types leads from here to a base type
+-- no chain of types from `origin` ends at a base type
 abbrev pub HasNoSyntax : List Module → TypeOrigin QualifiedName → Type 0
 HasNoSyntax ms origin = (facts : Facts) → HasSyntax ms origin facts → ⊥
 
 -- ---- for private functions
 
--- the name of the type that a type refines, if that is no base type
+-- the name of the type that a type refines, unless it is a base type
 abbrev pub name_in_base : Base → Option TypeBase → Option (List ℕ)
 name_in_base (B.Named x) None = Some x.octets
 name_in_base _ _ = None

@@ -1,5 +1,5 @@
-//! The branches: for each beginning of an identifier, the numbers that follow it, in order, and
-//! what stands there.
+//! The branches: for each prefix of an identifier, the numbers that follow it, in order, and the
+//! index of the prefix itself, if it is in the list.
 ghost use Rattle.std.specs.Prelude.{◌≡◌, ◌<◌, ◌≤◌, ◌+◌, ℕ, List, [], ◌∷◌, ◌++◌, length, take, IfOk};
 ghost use Rattle.std.specs.Prelude.{Some, None, option_copied};
 ghost use Rattle.smi_tree.specs.branches.Branches.{follower, GrowsBranch, AreBranchesOf, IsWay};
@@ -9,16 +9,17 @@ use snmp_oid::StoredOid;
 use std::alloc::{AllocError, Global};
 use std::collections::BTreeMap;
 
-/// What follows a beginning of an identifier.
+/// What follows a prefix of an identifier, and the index of the prefix.
 #[derive(Drop)]
 pub(crate) struct Branch {
-    /// The branch of each number that follows.
+    /// For each number that follows, the index of the branch of the prefix with this number
+    /// appended.
     pub(crate) after: BTreeMap<u32, usize>,
-    /// The place of the identifier that ends here, if one does.
+    /// The first index of the prefix in the list of identifiers, if it is in the list.
     pub(crate) standing: Option<usize>,
 }
 
-/// The branch of a beginning that is one number longer.
+/// Returns the index of the branch that `number` reaches from the branch `at`, if there is one.
 pub(crate) fn next(branches: &[Branch], at: usize, number: u32) -> Option<usize>
     ensures { result ≡ follower branches.now at number }
 {
@@ -26,7 +27,8 @@ pub(crate) fn next(branches: &[Branch], at: usize, number: u32) -> Option<usize>
     branch.after.get(&number).copied()
 }
 
-/// The branch of a beginning that is one number longer, which is added if it isn't there.
+/// Returns the index of the branch that `number` reaches from the branch `at`. Adds the branch if
+/// there is none.
 fn grow(
     alloc: Global,
     branches: &mut Vec<Branch>,
@@ -49,7 +51,7 @@ fn grow(
     Ok(place)
 }
 
-/// The first branch alone, after which no number follows.
+/// Returns a list of only the first branch, which no number follows.
 pub(crate) fn first(alloc: Global) -> Result<Vec<Branch>, AllocError>
     ensures { IfOk result (λ branches. AreBranchesOf [] branches.items) }
 {
@@ -61,11 +63,11 @@ pub(crate) fn first(alloc: Global) -> Result<Vec<Branch>, AllocError>
     Ok(branches)
 }
 
-/// The branches of the beginnings of the identifier that was added last, by how many numbers each
-/// has, 0 to 128.
+/// The indices of the branches of the prefixes of the identifier that was added last, by the
+/// number of numbers in the prefix, 0 to 128.
 pub(crate) type Way = [usize; 129];
 
-/// How many numbers at the front two lists have in common.
+/// Returns the length of the longest common prefix of `a` and `b`.
 fn shared(a: &[u32], b: &[u32]) -> usize
     ensures within { result ≤ length a.now }
     ensures too { result ≤ length b.now }
@@ -78,9 +80,10 @@ fn shared(a: &[u32], b: &[u32]) -> usize
     count
 }
 
-/// Adds the branches of the identifier at a place to those of the identifiers before it. `last` are
-/// the numbers of the one that was added last, and `way` has its branches: identifiers that follow
-/// one another mostly begin alike, and are walked from where they differ.
+/// Adds the branches of the identifier at index `place` to those of the identifiers before it.
+/// `last` is the identifier that was added last, and `way` its branches: successive identifiers
+/// mostly share a prefix, and only the numbers after it are followed. Afterwards `way` has the
+/// branches of the new identifier.
 pub(crate) fn add(
     alloc: Global,
     branches: &mut Vec<Branch>,

@@ -1,4 +1,4 @@
-//! A list of object identifiers, with what follows each beginning of one.
+//! A list of object identifiers, with the branches of their prefixes.
 ghost use Rattle.std.specs.Prelude.{◌≡◌, ◌<◌, ◌≤◌, ℕ, List, [], ◌∷◌, ◌++◌, length, IfOk};
 ghost use Rattle.std.specs.Prelude.{MatchOption, IfSome, Some};
 ghost use Rattle.std.specs.{Ordering.nat_cmp, BTreeMap.get};
@@ -16,15 +16,15 @@ use std::collections::BTreeMap;
 use std::collections::btree_map::Iter;
 use std::marker::Model;
 
-/// A list of object identifiers, which are found number by number. Each is known by its place in
+/// A list of object identifiers, which are found number by number. Each is known by its index in
 /// the list.
 ///
-/// Where an identifier stands at several places, the first stands for it.
+/// If an identifier occurs more than once, its first index represents it.
 #[derive(Drop)]
 pub struct Identifiers {
     oids: Vec<StoredOid>,
     branches: Vec<Branch>,
-    /// What follows a list of numbers with which no identifier begins: nothing.
+    /// An empty map, for numbers with which no identifier begins.
     nothing: BTreeMap<u32, usize>,
 }
 
@@ -40,19 +40,19 @@ impl Model for Identifiers {
         AreBranchesOf s.oids.items s.branches.items × (s.nothing.entries ≡ []) };
 }
 
-/// The deepest place on the way to an identifier.
+/// The longest prefix of an identifier that is in a list.
 #[derive(Clone, Copy, Debug)]
 pub struct Deepest {
-    /// The place of the longest beginning that is in the list.
+    /// The first index of the prefix in the list.
     pub place: usize,
-    /// How many numbers that beginning has.
+    /// The number of numbers in the prefix.
     pub depth: usize,
-    /// The branch to which its numbers lead.
+    /// The index of the branch of the prefix.
     branch: usize,
 }
 
 impl Identifiers {
-    /// The list of these identifiers, ready to be searched.
+    /// Returns the list of these identifiers, ready to be searched.
     pub fn new(alloc: Global, oids: Vec<StoredOid>) -> Result<Identifiers, AllocError>
         ensures { IfOk result (λ identifiers. identifiers ≡ oids.items) }
     {
@@ -70,14 +70,14 @@ impl Identifiers {
         })
     }
 
-    /// How many identifiers there are.
+    /// Returns the number of identifiers.
     pub fn len(&self) -> usize
         ensures { result ≡ length self.now }
     {
         self.oids.len()
     }
 
-    /// The identifier at a place, which is below `len()`.
+    /// Returns the identifier at index `place`, which must be below `len()`.
     pub fn get(&self, place: usize) -> &StoredOid
         requires { place < length self.now }
         ensures { result.now ≡ oid_at self.now place }
@@ -85,14 +85,14 @@ impl Identifiers {
         &self.oids[place]
     }
 
-    /// The first place of an identifier.
+    /// Returns the first index of `oid`, if it is in the list.
     pub fn find(&self, oid: &Oid) -> Option<usize>
         ensures { result ≡ place_of self.now oid.now }
     {
         self.find_numbers(oid.as_slice())
     }
 
-    /// The first place of the identifier of these numbers.
+    /// Returns the first index of the identifier with these numbers, if it is in the list.
     #[tactic(auto, using(crate::proofs::Branching::place_off))]
     pub(crate) fn find_numbers(&self, numbers: &[u32]) -> Option<usize>
         ensures { result ≡ place_of self.now numbers.now }
@@ -101,10 +101,10 @@ impl Identifiers {
         standing(&self.branches, at)
     }
 
-    /// The place of the longest beginning of an identifier that is in the list. The whole
-    /// identifier counts as a beginning. `near` is a guess where the search may begin: the branch
-    /// of the identifier that was found last, 0 at first. It is changed to that of the one that is
-    /// found now, and no result depends on it.
+    /// Returns the longest prefix of `oid` that is in the list, if any is. `oid` itself counts as
+    /// a prefix. `near` is a guess of the branch to begin with: the branch of the prefix that was
+    /// found last, or 0 at first. It is set to the branch of the prefix that is found now. The
+    /// result doesn't depend on it.
     pub fn deepest_near(&self, oid: &Oid, near: &mut usize) -> Option<Deepest>
         ensures { MatchOption result
             (HasNoBeginning self.now oid.now)
@@ -127,8 +127,8 @@ impl Identifiers {
         found
     }
 
-    /// The identifier at a place, if no other in the list is below it. `near` is what
-    /// `deepest_near` left when it found the place; with anything else the result is None.
+    /// Returns the identifier at index `place` if none in the list is below it. `near` is the
+    /// value that `deepest_near` left when it found `place`; with any other, returns `None`.
     pub fn last_on_way(&self, place: usize, near: usize) -> Option<&StoredOid>
         ensures at { IfSome result (λ o. o.now ≡ oid_at self.now place) }
         ensures last { IfSome result (λ o. HasNoneBelow self.now o.now) }
@@ -140,8 +140,8 @@ impl Identifiers {
         }
     }
 
-    /// The places of the identifiers that are one number longer than `oid`, in the order of that
-    /// number. Each is the first place of its identifier.
+    /// Returns an iterator over the identifiers that have `oid` as a prefix and are one number
+    /// longer, in increasing order of that number. It returns the first index of each.
     pub fn children(&self, oid: &Oid) -> Children<'_>
         ensures { AreChildren self.now oid.now (places_left result) }
     {
@@ -153,7 +153,7 @@ impl Identifiers {
     }
 }
 
-/// The branch to which numbers lead.
+/// Returns the index of the branch that `numbers` reach from the first branch, if there is one.
 #[tactic(auto, using(crate::proofs::Branching::branch_more, crate::proofs::Branching::branch_off))]
 fn walked(branches: &[Branch], numbers: &[u32]) -> Option<usize>
     ensures { result ≡ branch_of branches.now numbers.now }
@@ -165,14 +165,15 @@ fn walked(branches: &[Branch], numbers: &[u32]) -> Option<usize>
     Some(at)
 }
 
-/// The place that stands at a branch.
+/// Returns the index that is stored at the branch `at`, if there is one.
 fn standing(branches: &[Branch], at: usize) -> Option<usize>
     ensures { result ≡ standing_at branches.now at }
 {
     branches.get(at)?.standing
 }
 
-/// The place at a branch, as the deepest so far, or the deepest before it if none stands there.
+/// Returns the prefix of the branch `at`, which has `depth` numbers, if it is in the list;
+/// otherwise `deepest`, the longest one found before.
 fn deeper(branches: &[Branch], at: usize, depth: usize, deepest: Option<Deepest>) -> Option<Deepest>
     ensures { result ≡ deeper_of (standing_at branches.now at) at depth deepest }
 {
@@ -186,7 +187,7 @@ fn deeper(branches: &[Branch], at: usize, depth: usize, deepest: Option<Deepest>
     }
 }
 
-/// The place at a branch, if the identifier is below the one that stands there.
+/// Returns the prefix of the branch `at`, if it is in the list and `oid` is below it.
 fn known(oids: &[StoredOid], branches: &[Branch], oid: &Oid, at: usize) -> Option<Deepest>
     requires { AreBranchesOf oids.now branches.now }
     ensures { IfSome result (λ d.
@@ -205,7 +206,7 @@ fn known(oids: &[StoredOid], branches: &[Branch], oid: &Oid, at: usize) -> Optio
     })
 }
 
-/// The deepest place on the way to an identifier, from the first branch on.
+/// Returns the longest prefix of `oid` that is in the list. Searches from the first branch.
 fn deepest_of_all(oids: &[StoredOid], branches: &[Branch], oid: &Oid) -> Option<Deepest>
     requires { AreBranchesOf oids.now branches.now }
     ensures { MatchOption result
@@ -215,8 +216,8 @@ fn deepest_of_all(oids: &[StoredOid], branches: &[Branch], oid: &Oid) -> Option<
     deepest_from(oids, branches, oid, 0, 0, deeper(branches, 0, 0, None))
 }
 
-/// The deepest place on the way to an identifier, from a branch on, to which the first `depth`
-/// numbers lead. `before` is the deepest place up to there.
+/// Returns the longest prefix of `oid` that is in the list. Searches from `branch`, which the
+/// first `depth` numbers of `oid` reach. `before` is the longest prefix up to there.
 fn deepest_from(
     oids: &[StoredOid],
     branches: &[Branch],
@@ -244,7 +245,7 @@ fn deepest_from(
     deepest
 }
 
-/// The numbers that follow a list of numbers, with the branch of each.
+/// Returns the numbers that follow `numbers` in identifiers, each with the index of its branch.
 #[tactic(auto, using(std::proofs::lemmas::Option::slice_get_read, std::proofs::lemmas::Option::slice_get_past, crate::proofs::Walking::walk_push))]
 fn after<'a>(
     branches: &'a [Branch],
@@ -263,7 +264,8 @@ fn after<'a>(
     }
 }
 
-/// The places of the identifiers one number longer than another, in the order of that number.
+/// An iterator over the identifiers that are one number longer than another one and have it as a
+/// prefix, in increasing order of that number. It returns the first index of each.
 #[derive(Drop)]
 pub struct Children<'a> {
     branches: &'a [Branch],

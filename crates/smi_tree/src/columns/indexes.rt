@@ -1,4 +1,4 @@
-//! The index of each node.
+//! The index of each node, as it is stored.
 ghost use Rattle.std.specs.Prelude.{◌≡◌, length, IfOk, option_map};
 ghost use Rattle.smi_tree.specs.types.Kept.{AreTypesOf};
 ghost use Rattle.smi_names.specs.nodes.Gathered.{nodes_of};
@@ -13,15 +13,17 @@ use smi_text::Module;
 use std::alloc::{AllocError, Global};
 use std::marker::Model;
 
-/// The index of each node that is a column: what the numbers after its identifier stand for (RFC
+/// The index of each node that is a column: what the numbers after its identifier encode (RFC
 /// 2578, sections 7.7 and 7.8).
 ///
-/// The parts of an INDEX clause are kept once, however many columns there are.
+/// The parts of an INDEX clause are stored once, however many columns use it.
 #[derive(Drop)]
 pub struct Indexes {
-    /// The parts of the INDEX clause of each definition of each module.
+    /// For each definition of each module, the parts of its INDEX clause, if it has one that can
+    /// be read.
     parts: Vec<Vec<Option<Vec<IndexPart>>>>,
-    /// For each node the places of the module and the definition whose INDEX clause it uses.
+    /// For each node, the definition whose INDEX clause it uses, if it uses one: the index of the
+    /// module, and the index of the definition in it.
     rows: Vec<Option<(usize, usize)>>,
 }
 
@@ -36,7 +38,8 @@ impl Model for Indexes {
 }
 
 impl Indexes {
-    /// The index of each node of modules, where sources and identifiers are those of the nodes.
+    /// Returns the index of each node of `modules`. `sources` and `identifiers` belong to the
+    /// nodes, in order.
     #[tactic(auto, using(crate::proofs::Indexing::are_indexes))]
     pub fn new<'a>(
         alloc: Global,
@@ -46,7 +49,7 @@ impl Indexes {
         sources: &[Source],
         identifiers: &Identifiers,
     ) -> Result<Indexes, AllocError>
-        // Names, types, sources and identifiers are those of these modules.
+        // Names and types belong to these modules, and each source has an identifier.
         requires named { names.now.modules ≡ modules.now }
         requires typed { AreTypesOf modules.now types.now }
         requires long { length sources.now ≡ length identifiers.now }
@@ -59,8 +62,8 @@ impl Indexes {
         Ok(Indexes { parts, rows })
     }
 
-    /// The parts of the index of the node at a place, None if it is no column or its index can't be
-    /// read.
+    /// Returns the parts of the index of the node `place`, or `None` if it isn't a column or its
+    /// index can't be read.
     pub fn get(&self, place: usize) -> Option<&[IndexPart]>
         ensures { option_map (λ r. r.now) result ≡ index_at self.now place }
     {

@@ -1,4 +1,5 @@
-//! The parts of INDEX clauses, by the objects that they name, and the rows that they identify.
+//! The parts of INDEX clauses, from the objects that they name, and the clause that each column
+//! uses.
 ghost use Rattle.std.specs.Prelude.{◌≡◌, ◌<◌, ◌↔◌, ℕ, List, length, IsTrue, IfOk, MatchOption};
 ghost use Rattle.std.specs.Prelude.{Some, slice_get};
 ghost use Rattle.std.specs.Option.{option_copied};
@@ -25,18 +26,19 @@ use smi_text::{Def, DefKind, Index, IndexParts, Module, Name};
 use std::alloc::{AllocError, Global};
 use std::marker::Model;
 
-/// What the objects of INDEX clauses are read by.
+/// What is needed to read INDEX and AUGMENTS clauses.
 #[derive(Drop)]
 pub(crate) struct Objects<'n, 'a> {
     /// The loaded modules.
     modules: &'a [Module],
-    /// The places of names.
+    /// The names, each with its index.
     entries: Entries<'n, 'a>,
-    /// For each name, where the definition to which it leads stands, if it leads to one.
+    /// For each name, the definition that it refers to, if there is one: the index of the module,
+    /// and the index of the definition in it.
     found: Vec<Option<(usize, usize)>>,
     /// What names resolve to.
     names: &'n Names<'a>,
-    /// The syntax of types and objects.
+    /// The syntax of each object.
     types: &'n Types,
 }
 
@@ -55,7 +57,7 @@ impl<'n, 'a> Model for Objects<'n, 'a> {
         × AreMeant s.entries leads_nowhere stands_at s.found.items };
 }
 
-/// The INDEX or AUGMENTS clause of a definition.
+/// Returns the INDEX or AUGMENTS clause of a definition, if it has one.
 fn clause(def: &Def) -> Option<&Index>
     ensures { option_copied result ≡ clause_of def.now.kind }
 {
@@ -65,21 +67,22 @@ fn clause(def: &Def) -> Option<&Index>
     }
 }
 
-/// Whether a definition is an OBJECT-TYPE.
+/// Returns whether a definition is an OBJECT-TYPE.
 fn is_object_type(def: &Def) -> bool
     ensures { IsTrue result ↔ IsObjectType (Some def.now) }
 {
     matches!(&def.kind, DefKind::ObjectType(_))
 }
 
-/// Whether a name has an identifier.
+/// Returns whether `resolution` is an identifier.
 fn is_identifier(resolution: &Resolution) -> bool
     ensures { IsTrue result ↔ ((oid : List ℕ) × (resolution.now ≡ Resolution.Numbers oid)) }
 {
     matches!(resolution, Resolution::Numbers(_))
 }
 
-/// Whether IMPLIED stands before the name at a place of an INDEX clause.
+/// Returns whether IMPLIED precedes the name at index `place` of an INDEX clause. Only the last
+/// name can have it.
 fn is_implied(clause: &IndexParts, place: usize) -> bool
     requires { place < length clause.now.names }
     ensures { result ≡ is_implied clause.now place }
@@ -89,7 +92,8 @@ fn is_implied(clause: &IndexParts, place: usize) -> bool
 }
 
 impl<'n, 'a> Objects<'n, 'a> {
-    /// What the objects of modules are read by.
+    /// Finds the definition that each name of `modules` refers to. `names` and `types` must belong
+    /// to `modules`.
     pub(crate) fn new(
         alloc: Global,
         names: &'n Names<'a>,
@@ -111,8 +115,8 @@ impl<'n, 'a> Objects<'n, 'a> {
         })
     }
 
-    /// The definition to which a name leads in the module named `home`, by the place of its module
-    /// and its own place in that.
+    /// Returns the definition that `name` refers to in the module named `home`, with imports
+    /// followed, if there is one: the index of its module, and its own index in that.
     fn find(&self, home: &'a [u8], name: &'a [u8]) -> Option<(usize, usize)>
         ensures { let qualified : QualifiedName = record { home = home.now; name = name.now } in
             MatchOption result (IsUndefined self.now qualified)
@@ -121,7 +125,7 @@ impl<'n, 'a> Objects<'n, 'a> {
         kept(&self.found, self.entries.place(home, name))
     }
 
-    /// Whether a name resolves to an identifier in the module named `home`.
+    /// Returns whether `name` resolves to an identifier in the module named `home`.
     fn has_identifier(&self, home: &'a [u8], name: &'a [u8]) -> bool
         ensures { let qualified : QualifiedName = record { home = home.now; name = name.now } in
             IsTrue result ↔ ((oid : List ℕ)
@@ -134,7 +138,9 @@ impl<'n, 'a> Objects<'n, 'a> {
         }
     }
 
-    /// The part for a name in an INDEX clause of a module, after IMPLIED or not.
+    /// Returns the part for `name` in an INDEX clause of the module `home`. `implied` says whether
+    /// IMPLIED precedes the name. Returns `None` if the name has no identifier, or isn't the name
+    /// of an object whose type an index can have.
     fn part(&self, home: &'a Module, name: &'a Name, implied: bool) -> Option<IndexPart>
         ensures { let ms = self.now in
             MatchOption result (HasNoPart ms home.now name.now.octets implied)
@@ -150,7 +156,8 @@ impl<'n, 'a> Objects<'n, 'a> {
         part(syntax.base, syntax.sizes, implied)
     }
 
-    /// The parts of an INDEX clause of a module, None if it can't be read.
+    /// Returns the parts of an INDEX clause of the module `home`, or `None` if a name in it has no
+    /// part.
     fn parts(
         &self,
         alloc: Global,
@@ -171,7 +178,8 @@ impl<'n, 'a> Objects<'n, 'a> {
         Ok(Some(parts))
     }
 
-    /// The parts of the INDEX clause of a definition, None if it has none or it can't be read.
+    /// Returns the parts of the INDEX clause of `def`, or `None` if it has none or it can't be
+    /// read.
     fn own_parts(
         &self,
         alloc: Global,
@@ -187,7 +195,7 @@ impl<'n, 'a> Objects<'n, 'a> {
         }
     }
 
-    /// The parts of the INDEX clause of each definition of a module.
+    /// Returns the parts of the INDEX clause of each definition of the module `home`.
     fn parts_of_module(
         &self,
         alloc: Global,
@@ -204,7 +212,7 @@ impl<'n, 'a> Objects<'n, 'a> {
         Ok(kept)
     }
 
-    /// The parts of the INDEX clause of each definition of each module.
+    /// Returns the parts of the INDEX clause of each definition of each module.
     pub(crate) fn parts_of_modules(
         &self,
         alloc: Global,
@@ -219,8 +227,9 @@ impl<'n, 'a> Objects<'n, 'a> {
         Ok(kept)
     }
 
-    /// The definition whose INDEX clause identifies the rows of a source, by the place of its
-    /// module and its own place in that.
+    /// Returns the definition whose INDEX clause identifies the rows of `source`: its own
+    /// definition, or the one that its AUGMENTS clause names. The result is the index of the
+    /// definition's module, and its own index in that.
     fn used(&self, source: Source) -> Option<(usize, usize)>
         ensures { let ms = self.now in MatchOption result
             ((o : List ℕ) → UsesNone ms (node_from ms source o))
@@ -237,8 +246,9 @@ impl<'n, 'a> Objects<'n, 'a> {
         }
     }
 
-    /// The definition whose INDEX clause identifies the rows of the node at a place, None if the
-    /// node is no column or there is none. `last` is the row that was looked up last.
+    /// Returns the definition whose INDEX clause identifies the rows of the node `place`, or
+    /// `None` if the node isn't a column or its row uses no such clause. `last` is the row that
+    /// was looked up last.
     fn row<'i>(
         &self,
         sources: &[Source],
@@ -263,7 +273,8 @@ impl<'n, 'a> Objects<'n, 'a> {
         self.used(*source)
     }
 
-    /// For each node the definition whose INDEX clause identifies its rows, if it is a column.
+    /// Returns, for each node, the definition whose INDEX clause identifies its rows, or `None` if
+    /// it isn't a column or its row uses no such clause.
     pub(crate) fn rows(
         &self,
         alloc: Global,

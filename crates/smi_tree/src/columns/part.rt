@@ -9,7 +9,7 @@ use crate::columns::{Extent, IndexPart};
 use smi_names::TypeBase;
 use smi_text::{Range, TokenText, bound as value_of};
 
-/// The number that a bound stands for, if it isn't below zero.
+/// Returns the number that `bound` represents, or `None` if there is none or it is below zero.
 fn number(bound: &TokenText) -> Option<u64>
     ensures { MatchOption result ((n : ℕ) → StatesBound bound.now n → ⊥)
         (λ n. StatesBound bound.now n) }
@@ -18,7 +18,8 @@ fn number(bound: &TokenText) -> Option<u64>
     if value < 0 { None } else { Some(value as u64) }
 }
 
-/// The bound that a SIZE is, if it is a single one. A range is not, even from a number to itself.
+/// Returns the bound of a SIZE that is one number. A range has none, even if its two ends are the
+/// same.
 fn single(sizes: Option<&[Range]>) -> Option<&TokenText>
     ensures { let given = option_copied sizes.entry in
         MatchOption result (IsNotFixed given) (λ bound. IsFixedBy given bound.now) }
@@ -29,8 +30,8 @@ fn single(sizes: Option<&[Range]>) -> Option<&TokenText>
     }
 }
 
-/// What decides how many numbers a string has, by its SIZE and by whether IMPLIED stands before it;
-/// None where its SIZE is fixed below zero, as no list of numbers has that many.
+/// Returns what determines the number of numbers in a string, from its SIZE and from whether
+/// IMPLIED precedes it. Returns `None` if its SIZE is fixed below zero: no string has that length.
 fn extent(sizes: Option<&[Range]>, implied: bool) -> Option<Extent>
     ensures { let given = option_copied sizes.entry in
         MatchOption result ((extent : Extent) → HasExtent given implied extent → ⊥)
@@ -43,8 +44,9 @@ fn extent(sizes: Option<&[Range]>, implied: bool) -> Option<Extent>
     }
 }
 
-/// The part of an object of this base and SIZE, after IMPLIED or not (RFC 2578, section 7.7); None
-/// for Counter64, and for a string whose SIZE is fixed below zero.
+/// Returns the part for an object with this base type and SIZE (RFC 2578, section 7.7). `implied`
+/// says whether IMPLIED precedes it. Returns `None` for Counter64, and for a string whose SIZE is
+/// fixed below zero.
 pub(crate) fn part(base: TypeBase, sizes: Option<&[Range]>, implied: bool) -> Option<IndexPart>
     ensures { let given = option_copied sizes.entry in
         MatchOption result

@@ -1,4 +1,4 @@
-//! The rows of columns.
+//! The rows that columns belong to.
 ghost use Rattle.std.specs.Prelude.{◌≡◌, ◌<◌, ℕ, ◌∷◌, [], ◌++◌, List, length, MatchOption, Some};
 ghost use Rattle.smi_tree.specs.branches.Standing.{oid_at, place_of};
 ghost use Rattle.smi_tree.specs.columns.Kept.{IsLastRow};
@@ -10,13 +10,13 @@ use crate::branches::Identifiers;
 pub(crate) struct LastRow<'i> {
     /// The numbers of its identifier.
     numbers: &'i [u32],
-    /// The place of the first identifier of these numbers.
+    /// The first index of that identifier, if it is in the list.
     place: Option<usize>,
 }
 
-/// The first place of the identifier at `place` without its last number, if it is in the list.
-/// `last` is the row that was looked up last: nodes that follow one another are mostly columns of
-/// one row.
+/// Returns the index of the row of a column: the first index of the identifier at index `place`
+/// without its last number, if that is in the list. `last` is the row that was looked up last:
+/// successive nodes are mostly columns of the same row.
 pub(crate) fn row_place<'i>(
     identifiers: &'i Identifiers,
     place: usize,

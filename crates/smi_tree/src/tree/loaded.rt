@@ -1,5 +1,5 @@
-//! Trees as they are loaded: what modules define is resolved, and with the places of its names it
-//! is a tree.
+//! Trees as they are loaded: what modules define is resolved, and maps from their names to indices
+//! are made.
 ghost use Rattle.std.specs.Prelude.{◌≡◌, IfOk};
 ghost use Rattle.smi_tree.specs.private.Resolved.{IsResolved};
 
@@ -16,11 +16,11 @@ use std::marker::Model;
 /// What modules define, resolved.
 #[derive(Drop)]
 pub(super) struct Resolved {
-    /// Where each node comes from.
+    /// The source of each node.
     pub(super) sources: Vec<Source>,
     /// The identifier of each node.
     identifiers: Identifiers,
-    /// The syntax of types and objects.
+    /// The syntax of each object.
     types: Types,
     /// The index of each node that is a column.
     indexes: Indexes,
@@ -30,7 +30,7 @@ pub(super) struct Resolved {
     key: NameHash,
 }
 
-/// What modules define, by what their names mean.
+/// Resolves what `modules` define, with maps of names that have the key `hash`.
 pub(super) fn resolve(
     alloc: Global,
     hash: NameHash,
@@ -43,7 +43,7 @@ pub(super) fn resolve(
     resolve_by(alloc, &names, modules)
 }
 
-/// What modules define, by their names.
+/// Does what [`resolve`] does, with the names of `modules`.
 fn resolve_by<'a>(
     alloc: Global,
     names: &Names<'a>,
@@ -74,9 +74,9 @@ fn resolve_by<'a>(
 pub struct Loaded {
     pub(super) modules: Vec<Module>,
     pub(super) resolved: Resolved,
-    /// The place of each module's name.
+    /// The index of the first module of each name.
     pub(super) homes: Places,
-    /// The places of labels.
+    /// The first sources of labels, by their indices.
     pub(super) places: LabelPlaces,
 }
 
@@ -105,7 +105,7 @@ impl Drop for Loaded {
 }
 
 impl Loaded {
-    /// The tree, and the warnings in order.
+    /// Returns the tree, and the warnings in order of loading.
     pub fn into_parts(self) -> (Tree, Vec<Warning>)
         ensures tree { result.0 ≡ self.tree }
         ensures warnings { result.1.items ≡ self.warnings }

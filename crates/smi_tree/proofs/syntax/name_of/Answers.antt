@@ -1,4 +1,4 @@
--- The name is no base type's.
+-- The name isn't the name of a base type.
 use Rattle.std.proofs.Common.{arith, ◌≡◌, false, Option, Some, None, is_some, refl}
 use Rattle.std.proofs.lemmas.Grind.{common_steps}
 use Rattle.smi_text.specs.{declared.trees.tree.Base.Base, declared.trees.names.Name.Name}

@@ -1,4 +1,4 @@
--- An object states its type and no hint.
+-- An object has its type in its SYNTAX, and no hint.
 use Rattle.std.proofs.{Common.arith, Common.◌≡◌, Common.None, Common.Some, Common.sym, Common.ap, lemmas.Grind.common_steps}
 use Rattle.smi_tree.specs.types.Types.{origin_of_object, origin_of_simple}
 use Rattle.smi_tree.proofs.{Following.no_syntax, Refining.object_states, Refining.refined_right}

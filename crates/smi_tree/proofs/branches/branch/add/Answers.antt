@@ -1,5 +1,4 @@
--- The numbers of the identifier are gone along from where the last one's differ, and it stands at
--- the end, if none did.
+-- The numbers after the prefix that is shared with the last identifier are followed, and the index is stored at the last branch, if none was stored there.
 use Rattle.std.proofs.{lemmas.Grind.common_steps, lemmas.Bool.cases_lt}
 use Rattle.std.proofs.Common.{rules, ◌≡◌, ℕ, ◌+◌, ◌<◌, ◌≤◌, is_some, Option, List, [], ◌∷◌, ◌++◌, Some, None, get_or, set, take, length, refl}
 use Rattle.std.proofs.Common.{◌∙◌, arith}
@@ -10,7 +9,7 @@ use Rattle.smi_tree.proofs.Branching.{Branches-known, Branches-grown, Branches-e
 use Rattle.smi_names.specs.meaning.Meaning.{or_else}
 use Rattle.smi_tree.proofs.branches.branch.add.Goals as goal
 
--- the way of the last identifier is that of another one as far as both begin alike
+-- if two identifiers share a prefix, their ways are the same up to its length
 way_shared : (bs : List Branch) (last o way : List ℕ) (from j : ℕ) → IsWay bs last way → take from last ≡ take from o → from ≤ length last → j ≤ from
     → branch_of bs (take j o) ≡ Some (get_or way j 0)
 way_shared bs last o way from j is same within l = grind (arith, take-take j from o, take-take j from last, is.each j)
@@ -40,7 +39,7 @@ module _ (oids : List (List ℕ)) (place : ℕ) (o p : List ℕ) (i : ℕ) (bs :
   front : take (place + 1) oids ≡ take place oids ++ o ∷ []
   front = take_more oids place [] within ∙ rw (← is) refl
 
-  -- one number more of the way
+  -- one more number is followed
   module _ (new : List Branch) (b : ℕ) (inside : i < length o) (grows : GrowsBranch bs new at (get_or o i 0) b) where
     here_more : branch_of new (take (i + 1) o) ≡ Some b
     here_more = rw (take_more o i 0 inside) (branch_grown bs new at (get_or o i 0) b grows (take i o) here)
@@ -63,7 +62,7 @@ module _ (oids : List (List ℕ)) (place : ℕ) (o p : List ℕ) (i : ℕ) (bs :
       ),
     )
 
-  -- the branch at which the identifier ends
+  -- at the branch where the identifier ends, its index is stored if none was
   module _ (a : Branch) (s : Option ℕ) (end : length o ≤ i) (branch : a ≡ get_or bs at a) where
     ended : s ≡ or_else a.standing (Some place) → AreBranchesOf (take (place + 1) oids) (set bs at (record { after = a.after; standing = s }))
     ended stands = rw front (Branches-ended (take place oids) o bs at a s (rw front at are) (rw (take_all i o end) at here) branch

@@ -1,4 +1,4 @@
--- Nothing follows the first branch.
+-- No number follows the first branch.
 use Rattle.std.proofs.Common.{rules, ◌≡◌, [], ◌∷◌, None, refl}
 use Rattle.smi_tree.proofs.Branching.{Branches-none}
 use Rattle.smi_tree.proofs.branches.branch.first.Goals as goal

@@ -1,4 +1,4 @@
--- The branch is there, or is made.
+-- The branch was there, or is added.
 use Rattle.std.proofs.Common.{rules, arith, ◌≡◌, ◌≢◌, ℕ, ◌==◌, false, [], ◌∷◌, ◌++◌, get_or, Some, None, inl, refl, sym, ap, ◌∙◌, length, eqb-true}
 use Rattle.std.specs.Cmp.{unsigned_ties}
 use Rattle.smi_tree.proofs.Growing.{GrowsBranch-made}

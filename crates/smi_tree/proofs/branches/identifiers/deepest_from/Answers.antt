@@ -1,4 +1,4 @@
--- One number more, and the end of the way.
+-- One number more is followed, or none can be.
 use Rattle.std.proofs.lemmas.Grind.{common_steps}
 use Rattle.std.proofs.Common.{rules, ◌≡◌, ℕ, ◌+◌, ◌<◌, Option, List, Some, None, get_or, take, length, sym, arith}
 use Rattle.smi_tree.specs.branches.Branches.{follower, branch_of, standing_at, deeper_of, AreBranchesOf, SoFar}

@@ -1,4 +1,4 @@
--- What stands at the branch is on the way to what is below it.
+-- The identifier whose index is stored at a branch is a prefix of those below it.
 use Rattle.std.proofs.Common.{rules}
 use Rattle.smi_tree.proofs.Branching.{way_known}
 use Rattle.smi_tree.proofs.branches.identifiers.known.Goals as goal

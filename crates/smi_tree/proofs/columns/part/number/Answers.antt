@@ -1,4 +1,4 @@
--- The value is at most that of 64 bits.
+-- The value fits into 64 bits.
 use Rattle.std.proofs.{Common.pos, Common.◌≤ℤ◌, Common.sym, Common.arith, lemmas.Int.ints}
 use Rattle.smi_tree.proofs.Bounds.{bound_fits}
 use Rattle.smi_tree.proofs.columns.part.number.Goals as goal

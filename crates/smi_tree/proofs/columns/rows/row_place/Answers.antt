@@ -1,4 +1,4 @@
--- The row that was looked up last is that of these numbers.
+-- If the row that was looked up last has these numbers, its index is the result.
 use Rattle.std.proofs.Common.{rules, ◌≡◌, ℕ, ◌∷◌, [], ◌++◌, List, MatchOption, Option, Some, None, sym, ◌∙◌}
 use Rattle.std.proofs.lemmas.List.{same_from_push}
 use Rattle.smi_tree.specs.branches.Standing.{oid_at, place_of}

@@ -1,4 +1,4 @@
--- The first source of the label is looked at, and then the first one in the module.
+-- The first source with the label is tested, and then the first one in the module is looked up.
 use Rattle.std.proofs.Common.{arith, rules, ◌≡◌, ℕ, true, false, List, length, get_or, Some, None, refl, sym, ◌∙◌}
 use Rattle.std.proofs.{lemmas.Grind.common_steps, lemmas.Option.slice_get_within, lemmas.Option.slice_get_read}
 use Rattle.std.specs.List.{slice_get, position_from}

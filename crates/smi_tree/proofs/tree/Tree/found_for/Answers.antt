@@ -1,4 +1,4 @@
--- The identifier below which all have the node and its syntax.
+-- All identifiers below `below` have the same node and the same syntax.
 use Rattle.std.proofs.Common.{refl, ◌∙◌}
 use Rattle.smi_tree.specs.Nodes.{oids_of}
 use Rattle.smi_tree.proofs.{Reaching.longest-some, Lasting.holds_below}

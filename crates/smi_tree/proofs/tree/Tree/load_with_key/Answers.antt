@@ -1,4 +1,4 @@
--- What is loaded is a tree, and is kept.
+-- What is loaded is a tree, and is what a load stores.
 use Rattle.std.proofs.Common.{sym, ◌∙◌}
 use Rattle.smi_tree.proofs.tree.Tree.load_with_key.Goals as goal
 

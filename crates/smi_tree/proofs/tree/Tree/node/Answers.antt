@@ -1,4 +1,4 @@
--- The node of the source at the place.
+-- The node is read from the source at the index.
 use Rattle.std.proofs.{lemmas.Grind.common_steps, lemmas.Option.slice_get_read}
 use Rattle.std.proofs.Common.{◌<◌, length, sym, refl, arith, ◌∙◌}
 use Rattle.smi_tree.specs.branches.Standing.{oid_at}

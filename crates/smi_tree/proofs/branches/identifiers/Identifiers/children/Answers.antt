@@ -1,4 +1,4 @@
--- The children are what stands at the branches that follow.
+-- The children are the indices that are stored at the branches that follow.
 use Rattle.std.proofs.Common.{rules, ◌≡◌, ℕ, List, [], ◌∷◌, ◌++◌, Option, Some, All, Contains, refl, sym, ◌∙◌, arith, eqb-true}
 use Rattle.std.proofs.{lemmas.Grind.common_steps, lemmas.List.Elements.All-head, lemmas.List.Elements.All-tail}
 use Rattle.std.proofs.lemmas.Map.Views.{Contains-keys_from_lookup}
@@ -8,7 +8,7 @@ use Rattle.smi_tree.specs.branches.Branches.{branch_of, standing_at, AreBranches
 use Rattle.smi_tree.proofs.Branching.{place_off}
 use Rattle.smi_tree.proofs.branches.identifiers.Identifiers.children.Goals as goal
 
--- a key that is found is among the keys
+-- if a key is found, it is among the keys
 found : (es : List (ℕ × ℕ)) (n b : ℕ) → lookup (is_at (nat_cmp n)) es ≡ Some b → Contains (keys_of es) n
 found es n b e = Contains-keys_from_lookup {eq = λ x y. is_at (nat_cmp x) y} (λ x y t. eqb-true x y (unsigned_ties x y ∙ t)) n es (rw e refl)
 

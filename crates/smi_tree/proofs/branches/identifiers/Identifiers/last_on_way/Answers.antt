@@ -1,4 +1,4 @@
--- No number follows the branch where the place stands.
+-- No number follows the branch where the index is stored.
 use Rattle.std.proofs.Common.{rules, ◌≡◌, [], Some, length, refl, sym}
 use Rattle.std.specs.List.{slice_get}
 use Rattle.std.proofs.{lemmas.List.nil_from_length, lemmas.Option.slice_get_read}

@@ -1,4 +1,4 @@
--- A name that has an identifier comes to nothing else.
+-- A name that resolves to an identifier resolves to nothing else.
 use Rattle.std.proofs.{Common.arith, Common.◌≡◌, lemmas.Grind.common_steps}
 use Rattle.smi_names.specs.{chains.Resolution.ComesTo, meaning.Meaning.origin, meaning.Meaning.QualifiedName}
 use Rattle.smi_names.specs.declared.chains.shared.Resolution.TheVariants as R
@@ -14,6 +14,6 @@ returns-in-Some c =
       λ some. c.is_identifier.ensures.1 (some.0, c.one_resolution.ensures c.args.self.now p c.in-Some.resolution.now (R.Numbers some.0) comes some.1),
     )
 
--- what comes to nothing has no numbers to come to
+-- if a name has no resolution, it has no identifier
 pub returns-in-None : goal.returns-in-None
 returns-in-None c = grind (arith, common_steps)
