@@ -1,4 +1,4 @@
-//! A table while its text is read.
+//! A table while it is read from text.
 ghost use Rattle.std.specs.Prelude.{◌≡◌, true, false, [], List};
 
 use crate::table::error::TableError;
@@ -14,48 +14,49 @@ use std::alloc::{AllocError, Global};
 use std::collections::BTreeSet;
 use std::mem;
 
-/// What the lines read so far state.
+/// What the lines read so far contain.
 ///
-/// It takes long to put a single row among many others: each step of the search waits for memory,
-/// and half a page of rows is moved. So rows that come in no order are gathered, sorted and put in
-/// their places together, each time that they are as many as the pages have room for.
+/// Inserting a single row among many others takes long: each step of the search waits for memory,
+/// and half a page of rows is moved. So if rows come in no order, they are collected. Each time
+/// that there are as many as the pages have room for, they are sorted and inserted together.
 ///
-/// A name that is there twice is found at its line, by the hashes of names: where the hash of a
-/// row's name isn't new, all rows are put in their places, this one too, which tells whether the
-/// name is new. If it is, rows are put at once from then on, so that no names make this happen
-/// again and again.
+/// While rows are collected, a name that occurs twice is found at its second line, by hashes of
+/// the names. If the hash of a row's name isn't new, the collected rows and then this row are
+/// inserted, which shows whether the name is new. If it is, rows are inserted at once from then
+/// on, so that names with equal hashes can't make this happen again and again.
 #[derive(Drop)]
 pub struct Draft {
-    /// The rows that are in their places.
+    /// The rows that were inserted.
     pub rows: Pages,
-    /// The rows that are gathered.
+    /// The rows that are collected.
     late: Vec<Late>,
     /// The object prefixes.
     pub objects: BTreeSet<Vec<u32>>,
-    /// Whether each row is put in its place at once.
+    /// Whether each row is inserted at once.
     exact: bool,
-    /// Whether rows in no order are gathered.
+    /// Whether a row is collected unless it comes after all others.
     gathers: bool,
-    /// The hashes of the names of all rows, but for some of the last ones in their places.
+    /// While rows are collected, the hashes of the names of all rows but the last few inserted
+    /// ones.
     hashes: Hashes,
-    /// How many those last rows are. A row after all others has a new name, which is looked for
-    /// only once another row is gathered.
+    /// The number of those last rows. A row after all others has a new name, which is hashed only
+    /// when another row is collected.
     unhashed: usize,
-    /// Whether no more rows are gathered, since the hash of a new name wasn't new.
+    /// Whether no more rows are collected, since the hash of a new name wasn't new.
     no_more: bool,
     ghost exactly: { exact ≡ true → gathers ≡ false },
     ghost at_once: { gathers ≡ false → late.items ≡ [] },
 }
 
-/// Why a reading stops at a line.
+/// Why a reading stops.
 #[derive(Clone, Copy, PartialEq, Eq)]
 pub enum Halt {
-    /// The line is the first faulty one, with this fault.
+    /// The last line read is the first faulty one. Holds its fault.
     Fault(TableError),
     /// Memory ran out in an exact reading.
     Memory,
-    /// Memory ran out in a reading that isn't exact. Gathered rows may have taken it, so the text
-    /// is to be read again, with each row put in its place at once.
+    /// Memory ran out in a reading that isn't exact. Collected rows may have taken it, so the
+    /// caller must read the text again, exactly.
     Again,
 }
 
@@ -71,7 +72,7 @@ impl Draft {
     ghost use Rattle.snmp_agent.specs.private.table.Draft.{IsFull, IsHalt, IsHaltAt, IsStop};
     ghost use Rattle.snmp_agent.specs.private.table.Draft.{draft_entries, draft_objects};
 
-    /// A draft of no lines.
+    /// Returns a draft of no lines.
     fn new(alloc: Global, exact: bool) -> Draft
         ensures draft { (format : Format) → IsDraft format [] result }
         ensures exact { result.exact ≡ exact }
@@ -88,8 +89,8 @@ impl Draft {
         }
     }
 
-    /// Reads what a text of this format states. An exact reading puts each row in its place at
-    /// once, so that no memory is taken beside that of the table.
+    /// Reads the table that a text of this format defines. An exact reading inserts each row at
+    /// once, so that it takes no memory other than the table's.
     pub fn read<F: LineFormat>(
         alloc: Global,
         text: &[u8],
@@ -120,7 +121,7 @@ impl Draft {
         }
     }
 
-    /// Adds what the line of this number states, which is read into a given binding.
+    /// Reads the line of this number into `into`, and adds what it contains.
     #[tactic(auto, using(crate::proofs::Adding::full, crate::proofs::Adding::stopped))]
     fn add<'a, F: LineFormat>(
         &mut self,
@@ -151,7 +152,7 @@ impl Draft {
         }
     }
 
-    /// Why the reading stops where memory runs out.
+    /// Returns why the reading stops if memory runs out.
     fn full(&self) -> Halt
         ensures { IsFull self.now.exact result }
     {
@@ -162,8 +163,8 @@ impl Draft {
         }
     }
 
-    /// Why the reading stops at a line with this fault, which is the first if no two rows before it
-    /// have one name.
+    /// Returns why the reading stops at a line with this fault. Inserts the collected rows first:
+    /// the fault is the first one if no two rows before it have the same name.
     #[tactic(auto, using(crate::proofs::Adding::settled_distinct))]
     fn stop(&mut self, alloc: Global, fault: TableError) -> Halt
         ensures halt { IsStop (draft_entries self.old) self.old.exact fault result }
@@ -176,8 +177,8 @@ impl Draft {
         }
     }
 
-    /// Puts the row of the line of this number in its place, or gathers it.
-    // Hot: inlined, it moves a row once less.
+    /// Inserts or collects the row on the line of this number.
+    // `inline(always)`: called for each row of a table file; inlining saves one move of the row.
     #[inline(always)]
     fn put(&mut self, alloc: Global, row: EncodedBinding, number: usize) -> Result<(), Halt>
         ensures rows { IfOk result (λ _. IsPermutation (draft_entries self.old ++ entry_of row ∷ [])
@@ -199,7 +200,8 @@ impl Draft {
         }
     }
 
-    /// Appends a row if it comes after all that are in their places, and gathers it if it doesn't.
+    /// Appends a row if it comes after all inserted ones. Otherwise collects it if the hash of its
+    /// name is new, and inserts it if not.
     #[inline(never)]
     #[tactic(auto, using(crate::proofs::Gathering::appended_moves))]
     fn gather(&mut self, alloc: Global, row: EncodedBinding, number: usize) -> Result<(), Halt>
@@ -224,7 +226,7 @@ impl Draft {
         self.late.push(Late::new(row)).map_err(|_| Halt::Again)
     }
 
-    /// Puts a row in its place, after those that are gathered. No row is gathered from then on.
+    /// Inserts the collected rows, and then this one. No row is collected from then on.
     #[inline(never)]
     fn put_known(&mut self, alloc: Global, row: EncodedBinding, number: usize) -> Result<(), Halt>
         requires { self.old.gathers ≡ true }
@@ -249,8 +251,8 @@ impl Draft {
         }
     }
 
-    /// Begins to gather where rows come in no order, and puts gathered rows in their places once
-    /// they are as many as the pages have room for. Returns whether all could be put.
+    /// Begins to collect rows if they come in no order, and inserts the collected rows once there
+    /// are as many as the pages have room for. Returns whether all could be inserted.
     #[inline(always)]
     fn settle_in_time(&mut self, alloc: Global) -> bool
         ensures moved { IsTrue result
@@ -273,8 +275,8 @@ impl Draft {
         true
     }
 
-    /// Puts the gathered rows in their places, where no more are gathered after them. Returns
-    /// whether all could be put: not where a name is there twice or memory runs out.
+    /// Inserts the collected rows for the last time: the hashes are dropped. Returns whether all
+    /// could be inserted, which they can't if a name occurs twice or memory runs out.
     fn settle(&mut self, alloc: Global) -> bool
         ensures moved { IsTrue result
             → IsPermutation (draft_entries self.old) (draft_entries self.new) }
@@ -288,8 +290,8 @@ impl Draft {
         self.place_late(alloc)
     }
 
-    /// Puts the gathered rows in their places; more may be gathered after them. Returns whether all
-    /// could be put, as [`Draft::settle`] does.
+    /// Inserts the collected rows; more can be collected afterwards. Returns whether all could be
+    /// inserted, as [`Draft::settle`] does.
     #[tactic(auto, using(std::proofs::lemmas::Grind::common_steps, crate::proofs::Gathering::settled_moves))]
     fn place_late(&mut self, alloc: Global) -> bool
         ensures moved { IsTrue result
@@ -304,7 +306,7 @@ impl Draft {
         }
         let mut late = mem::replace(&mut self.late, Vec::new(alloc));
         let apart = self.rows.put_sorted(alloc, &mut late);
-        // The list keeps its memory for the next rows.
+        // The next rows use the memory of the list again.
         late.clear();
         self.late = late;
         match apart {
@@ -314,8 +316,8 @@ impl Draft {
     }
 }
 
-/// Hashes the names of the rows in place that aren't hashed, and this one. Returns whether each
-/// hash is new.
+/// Hashes `name`, and the names of the inserted rows that aren't hashed yet. Returns whether each
+/// hash is new and there is memory for them.
 fn is_new(
     alloc: Global,
     rows: &Pages,
@@ -334,8 +336,8 @@ fn is_new(
     (count == 0 || rows.insert_last(count, hashes)) && hashes.insert(name)
 }
 
-/// Makes room for more hashes, and hashes the names of the gathered rows. Returns whether there is
-/// memory for it and each hash is new.
+/// Makes room for more hashes, and hashes the names of the collected rows. Returns whether there
+/// is memory for it and each hash is new.
 #[inline(never)]
 fn rehash(alloc: Global, rows: &Pages, late: &[Late], hashes: &mut Hashes) -> bool {
     let count = rows.count().saturating_add(late.len());

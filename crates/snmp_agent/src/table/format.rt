@@ -1,4 +1,4 @@
-//! The names in a table's text: the two formats, and what reads the names of the second.
+//! The two formats of a table's text, and the reader of names for the second.
 ghost use Rattle.std.specs.Prelude.{◌≡◌, ◌++◌, ◌∷◌, ◌↔◌, IsTrue, MatchOption, codes};
 ghost use Rattle.std.specs.Str.Lines.{lines};
 ghost use Rattle.snmp_agent.specs.table.Exact.{IsOnlyThere};
@@ -10,18 +10,19 @@ use crate::table::split::{split_line, split_once};
 use snmp_io::{split_unquoted, unquoted_front};
 use snmp_wire::{Oid, read_numeric};
 
-/// What reads the names of a table file of the second format (`docs/PROFILE.md`).
+/// A reader of the names in a table file of the second format (`docs/PROFILE.md`).
 pub trait Resolver {
-    /// Which texts are names, and of what.
+    /// The texts that are names, with their identifiers.
     ghost names: { Self → Names };
 
-    /// The name that the text before the first `|` outside quotes states, or the whole text where
-    /// there is no such bar, and the length of that text in octets. None where it is no name.
+    /// Reads the name that `text` has before the first `|` outside quotes, or all of `text` if it
+    /// has no such bar. Returns its identifier and its length in octets, or `None` if that isn't a
+    /// name.
     fn front(&self, text: &[u8]) -> Option<(Oid, usize)>
         ensures { IsFrontRead (names self.now) text.now result };
 }
 
-/// Numeric names alone.
+/// A reader of only numeric names.
 #[derive(Clone, Copy, Debug)]
 pub struct NumericNames;
 
@@ -47,19 +48,19 @@ impl Resolver for NumericNames {
 pub trait LineFormat {
     ghost format: { Self → Format };
 
-    /// Reads the identifier that a text names into `into`, and returns whether the text names one.
+    /// Reads the identifier that `text` names into `into`, and returns whether it names one.
     fn name(&self, text: &[u8], into: &mut Oid) -> bool
         ensures { IsOnlyThere (IsNameIn (format self.now) text.now) result into.new };
 
-    /// The text of a row's name, and what follows the bar that ends it. None where no bar ends a
-    /// name.
+    /// Returns the text of a row's name, and the text after the bar that ends it. Returns `None`
+    /// if no bar ends a name.
     fn split_name<'b>(&self, line: &'b [u8]) -> Option<(&'b [u8], &'b [u8])>
         ensures { MatchOption result (HasNoEnd (format self.now) line.now)
             (λ parts. (line.now ≡ parts.0.now ++ bar ∷ parts.1.now)
             × EndsAtBar (format self.now) parts.0.now) };
 }
 
-/// Numeric names, which end at the first bar.
+/// The first format: numeric names, which end at the first bar.
 #[derive(Clone, Copy)]
 pub struct FirstFormat;
 
@@ -86,10 +87,10 @@ impl LineFormat for FirstFormat {
     }
 }
 
-/// The names of a resolver, which end at the first bar outside quotes.
+/// The second format: the names of a resolver, which end at the first bar outside quotes.
 #[derive(Drop)]
 pub struct SecondFormat<'a, R: Resolver> {
-    /// What reads the names.
+    /// The reader of the names.
     pub names: &'a R,
 }
 
@@ -125,14 +126,14 @@ impl<'a, R: Resolver> LineFormat for SecondFormat<'a, R> {
     }
 }
 
-/// Reads the identifier of a numeric name into `into`, and returns whether the text is such a name.
+/// Reads the identifier of a numeric name into `into`, and returns whether `text` is such a name.
 fn numeric_name(text: &[u8], into: &mut Oid) -> bool
     ensures { IsOnlyThere (IsName text.now) result into.new }
 {
     read_numeric(text, into).is_ok()
 }
 
-/// Whether the first line says that the text is of the second format.
+/// Returns whether the first line says that `text` has the second format.
 #[tactic(auto, using(crate::proofs::Formats::marked_by_first))]
 pub fn is_marked(text: &[u8]) -> bool
     ensures { IsTrue result ↔ IsMarked (lines text.now) }
@@ -144,7 +145,7 @@ pub fn is_marked(text: &[u8]) -> bool
     is_mark(line)
 }
 
-/// Whether a line is the mark of the second format.
+/// Returns whether a line is the mark of the second format.
 fn is_mark(line: &[u8]) -> bool
     ensures { IsTrue result ↔ line.now ≡ codes "#snmptab 2" }
 {

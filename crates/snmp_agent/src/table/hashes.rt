@@ -3,32 +3,32 @@
 use snmp_wire::EncodedName;
 use std::alloc::{AllocError, Global};
 
-/// How many hashes a bucket holds. They are looked at together, without a branch for each.
+/// The number of hashes in a bucket. They are compared together, without a branch for each.
 const BUCKET: usize = 16;
 
-/// The least number of buckets, once there are any.
+/// The least number of buckets, if there are any.
 const FEW_BUCKETS: usize = 32;
 
-/// How many buckets, one after the other, are looked at for a hash.
+/// The greatest number of successive buckets that are searched for a hash.
 const LOOKS: usize = 16;
 
-/// An odd number: each bit of its product with another depends on all bits of the other up to it.
+/// An odd number: each bit of its product with another depends on the bits of the other up to it.
 const FACTOR: u64 = 0x9E37_79B9_7F4A_7C15;
 
-/// Hashes of names, to tell that a name is new. Only speed depends on them.
+/// Hashes of names, which show that a name is new. Only speed depends on them.
 ///
-/// They take little memory, since to touch a page of it costs as much time as several rows do.
+/// They take little memory, since touching a page of memory takes as long as several rows.
 #[derive(Drop)]
 pub struct Hashes {
-    /// A power of two of them, or none. Each has the high halves of hashes, and then zeros. The low
-    /// half of a hash tells its bucket; where that is full, the hash is in one of the next.
+    /// A power of two of buckets, or none. Each has the high halves of hashes, and then zeros. The
+    /// low bits of a hash select its bucket; if that is full, the hash is in one of the next.
     buckets: Vec<[u32; BUCKET]>,
-    /// How many hashes there are.
+    /// The number of hashes whose insertion was tried since the last `clear`.
     count: usize,
 }
 
 impl Hashes {
-    /// No hashes.
+    /// Returns a set of no hashes, without room for any.
     pub fn new(alloc: Global) -> Hashes {
         Hashes {
             buckets: Vec::new(alloc),
@@ -36,7 +36,8 @@ impl Hashes {
         }
     }
 
-    /// Whether there is room for `more` hashes so that three of eight places stay free.
+    /// Returns whether there is room for `more` hashes so that three eighths of the room stay
+    /// free.
     #[inline]
     pub fn have_room(&self, more: usize) -> bool {
         let most = self.buckets.len().saturating_mul(BUCKET / 8 * 5);
@@ -63,8 +64,8 @@ impl Hashes {
         true
     }
 
-    /// Inserts the hash of a name, and returns whether it is new and found a place. One that isn't
-    /// new may be that of another name.
+    /// Inserts the hash of a name, and returns whether it is new and was inserted. A hash that
+    /// isn't new may be the hash of another name.
     #[inline]
     pub fn insert(&mut self, name: &EncodedName<'_>) -> bool {
         self.count = self.count.saturating_add(1);
@@ -72,13 +73,13 @@ impl Hashes {
     }
 }
 
-/// This many buckets without a hash.
+/// Returns `size` buckets without a hash.
 fn empty_buckets(alloc: Global, size: usize) -> Result<Vec<[u32; BUCKET]>, AllocError> {
     vec![in alloc; [0; BUCKET]; size]
 }
 
-/// Puts a hash in the first bucket, from its own on, that isn't full. Returns whether it is new and
-/// there is such a bucket.
+/// Inserts a hash into the first bucket that isn't full, from its own on, up to `LOOKS` buckets.
+/// Returns whether the hash is new and there is such a bucket.
 #[inline]
 fn put_hash(buckets: &mut [[u32; BUCKET]], hash: u64) -> bool {
     let last = buckets.len().wrapping_sub(1);
@@ -101,7 +102,7 @@ fn put_hash(buckets: &mut [[u32; BUCKET]], hash: u64) -> bool {
     false
 }
 
-/// Whether the high half of a hash is in a bucket, and how many hashes are.
+/// Returns whether the high half of a hash is in a bucket, and the number of hashes in it.
 #[inline(always)]
 fn look_for(bucket: &[u32; BUCKET], high: u32) -> (bool, usize) {
     let mut is_there = false;
@@ -113,8 +114,8 @@ fn look_for(bucket: &[u32; BUCKET], high: u32) -> (bool, usize) {
     (is_there, used as usize)
 }
 
-/// The hash of the content of a name, by eight octets at a time. The last eight may overlap those
-/// before them.
+/// Returns the hash of the content of a name. Reads eight octets at a time; the last eight may
+/// overlap those before them.
 #[inline]
 fn hash_of(content: &[u8]) -> u64 {
     let Some(last) = content.last_chunk::<8>() else {
@@ -129,11 +130,11 @@ fn hash_of(content: &[u8]) -> u64 {
         hash = mixed(hash ^ u64::from_be_bytes(*word));
         rest = behind;
     }
-    // Mixed once more, so that the low bits, which tell the place, depend on all octets.
+    // Mixed once more, so that the low bits, which select the bucket, depend on all octets.
     mixed(mixed(hash ^ u64::from_be_bytes(*last)))
 }
 
-/// The hash of a content of fewer than eight octets.
+/// Returns the hash of a content of fewer than eight octets.
 #[inline(never)]
 fn hash_of_few(content: &[u8]) -> u64 {
     let mut few = [0; 8];
@@ -142,7 +143,7 @@ fn hash_of_few(content: &[u8]) -> u64 {
     mixed(mixed(content.len() as u64 ^ u64::from_be_bytes(few)))
 }
 
-/// A number each of whose bits depends on many bits of the given one.
+/// Returns a number each of whose bits depends on many bits of `number`.
 #[inline]
 fn mixed(number: u64) -> u64 {
     let product = number.wrapping_mul(FACTOR);

@@ -1,4 +1,4 @@
-//! Rows that are gathered, with the keys that they are sorted by.
+//! Rows that are collected, with the keys that they are sorted by.
 ghost use Rattle.std.specs.Prelude.{◌≡◌, ◌<◌, ◌≤◌, length, true, false};
 ghost use Rattle.std.specs.List.Sorted.{IsPermutation};
 
@@ -6,23 +6,23 @@ use snmp_wire::EncodedBinding;
 use std::cmp::Ordering;
 use std::marker::Model;
 
-/// How many octets a key has.
+/// The number of octets in a key.
 const KEY_SIZE: usize = 16;
 
-/// Rows with the same key get new keys if there are at least this many.
+/// The least number of rows with the same key that get new keys.
 const MANY_TIED: usize = 5;
 
-/// How many new keys a row gets at most, on average. Names that keys tell apart too slowly, one by
-/// one, are compared.
+/// The greatest number of new keys for each row, on average. After that, names are compared: keys
+/// would tell them apart too slowly.
 const MOST_KEYS: usize = 8;
 
-/// The bit of each octet that says that its subidentifier goes on.
+/// The bit of each octet that says that its subidentifier continues.
 const GOES_ON: u128 = 0x8080_8080_8080_8080_8080_8080_8080_8080;
 
-/// A row that is gathered. Only speed depends on its key.
+/// A row that is collected. Only speed depends on its key.
 #[derive(Drop)]
 pub struct Late {
-    /// Tells the order of most rows without a look at their names.
+    /// The sort key, which orders most rows without comparing their names.
     key: u128,
     row: EncodedBinding,
 }
@@ -38,7 +38,7 @@ impl Model for Late {
 impl Late {
     ghost use Rattle.std.specs.Prelude.{◌≡◌};
 
-    /// A row whose key isn't set yet.
+    /// Returns a row whose key isn't set yet.
     #[inline]
     pub fn new(row: EncodedBinding) -> Late
         ensures { result ≡ row }
@@ -46,7 +46,7 @@ impl Late {
         Late { key: 0, row }
     }
 
-    /// The row.
+    /// Returns the row.
     #[inline]
     pub fn row(&self) -> &EncodedBinding
         ensures { result.now ≡ self.now }
@@ -54,7 +54,7 @@ impl Late {
         &self.row
     }
 
-    /// The row alone.
+    /// Returns the row without its key.
     #[inline]
     pub fn into_row(self) -> EncodedBinding
         ensures { result ≡ self }
@@ -70,22 +70,22 @@ impl Late {
         self.key = sort_key(self.row.name().content(), alike);
     }
 
-    /// Whether the row has this key.
+    /// Returns whether the row has this key.
     #[inline]
     fn has_key(&self, key: u128) -> bool {
         self.key == key
     }
 }
 
-/// Sorts rows so that their names fall. Rows whose keys tie get new ones, from the octets after
-/// those that their names share: to compare names takes longer, as it looks at two rows each time.
+/// Sorts rows by decreasing names. Rows with the same key get new keys, from the octets after
+/// those that their names share: comparing names takes longer, as it reads two rows each time.
 pub fn sort_falling(rows: &mut Vec<Late>)
     ensures { IsPermutation rows.old.items rows.new.items }
 {
     sort_rows(rows.as_mut_slice());
 }
 
-/// Sorts the rows of a slice so that their names fall.
+/// Sorts a slice of rows by decreasing names.
 #[tactic(auto, using(crate::proofs::Gathering::sorting))]
 fn sort_rows(rows: &mut [Late])
     ensures { IsPermutation rows.old rows.new }
@@ -94,7 +94,7 @@ fn sort_rows(rows: &mut [Late])
     sort_ties(rows);
 }
 
-/// Gives rows keys, and sorts them by their keys alone.
+/// Sets the keys of rows, and sorts the rows only by decreasing keys.
 fn sort_by_keys(rows: &mut [Late])
     ensures { IsPermutation rows.old rows.new }
 {
@@ -104,12 +104,12 @@ fn sort_by_keys(rows: &mut [Late])
     rows.sort_unstable_by(|late, other| other.key.cmp(&late.key));
 }
 
-/// Sorts each run of rows with the same key by their names.
+/// Sorts each run of rows with the same key by decreasing names.
 fn sort_ties(rows: &mut [Late])
     ensures { IsPermutation rows.old rows.new }
 {
     let mut at = 0;
-    // How many new keys may still be given.
+    // The number of new keys that may still be set.
     let mut left = rows.len().saturating_mul(MOST_KEYS);
     'ties: while at < rows.len() {
         let end = tie_end(rows, at);
@@ -122,7 +122,7 @@ fn sort_ties(rows: &mut [Late])
     }
 }
 
-/// The end of the run of rows with the same key that begins at this place.
+/// Returns the end of the run of rows with the same key that begins at index `at`.
 #[inline]
 fn tie_end(rows: &[Late], at: usize) -> usize
     requires { at < length rows.now }
@@ -138,9 +138,9 @@ fn tie_end(rows: &[Late], at: usize) -> usize
     end
 }
 
-/// Sorts rows whose keys tie: by new keys, if they may get them, or by their names. Returns whether
-/// they are sorted by their names: not where the new keys differ, since some of these may tie
-/// again.
+/// Sorts rows with the same key: by new keys, if there are enough rows and they may get keys,
+/// otherwise by decreasing names. Returns whether the rows are sorted by name. They aren't if the
+/// new keys differ, since some of these may be the same again.
 #[tactic(auto, using(crate::proofs::Gathering::sorting))]
 fn sort_tie(rows: &mut [Late], may_get_keys: bool) -> bool
     ensures sorted { IsPermutation rows.old rows.new }
@@ -158,8 +158,8 @@ fn sort_tie(rows: &mut [Late], may_get_keys: bool) -> bool
     true
 }
 
-/// Whether the keys of rows that are sorted by them differ. They don't where all these names have
-/// ended.
+/// Returns whether the keys of rows that are sorted by them differ. They don't if no name has
+/// octets after the shared ones.
 fn keys_differ(rows: &[Late]) -> bool {
     match (rows.first(), rows.last()) {
         (Some(first), Some(last)) => !first.has_key(last.key),
@@ -167,7 +167,7 @@ fn keys_differ(rows: &[Late]) -> bool {
     }
 }
 
-/// Sorts rows by their names.
+/// Sorts rows by decreasing names.
 #[inline(never)]
 fn sort_by_names(rows: &mut [Late])
     ensures { IsPermutation rows.old rows.new }
@@ -175,7 +175,7 @@ fn sort_by_names(rows: &mut [Late])
     rows.sort_unstable_by(|late, other| other.row.name().compare(&late.row.name()));
 }
 
-/// How many octets at the front are the same in the names of all rows.
+/// Returns the number of leading octets that are the same in the names of all rows.
 fn octets_alike(rows: &[Late]) -> usize {
     let Some(first) = rows.first() else {
         return 0;
@@ -204,8 +204,8 @@ fn set_keys(rows: &mut [Late], alike: usize)
     }
 }
 
-/// The key of a name among names that are the same in the first `alike` octets: the next 16 octets,
-/// with its size before each subidentifier of three octets or more.
+/// Returns the key of a name among names that are the same in the first `alike` octets: the octets
+/// after these, up to 16. Each subidentifier of three octets or more has its size before it.
 #[inline]
 fn sort_key(content: &[u8], alike: usize) -> u128 {
     let (_, octets) = content.split_at(alike.min(content.len()));
@@ -214,16 +214,17 @@ fn sort_key(content: &[u8], alike: usize) -> u128 {
     few[..front.len()].copy_from_slice(front);
     let key = u128::from_be_bytes(few);
     let goes_on = key & GOES_ON;
-    // The last octet may begin a long one.
+    // The last octet may begin a long subidentifier.
     if goes_on & (goes_on << 8 | 0x80) == 0 {
         return key;
     }
     long_key(octets)
 }
 
-/// [`sort_key`] where there may be such a subidentifier. Of two the longer is the greater, so its
-/// size comes first, as 0xff and then an octet from 0x80 on. One of two octets, which may begin
-/// with 0xff too, goes on below 0x80.
+/// Returns what [`sort_key`] returns if there may be a subidentifier of three octets or more. Of
+/// two of these the longer is greater, so its size comes first, as 0xff and then an octet from
+/// 0x80 on. A subidentifier of two octets may begin with 0xff too, but its second octet is below
+/// 0x80.
 #[inline(never)]
 fn long_key(octets: &[u8]) -> u128 {
     let mut key = [0; KEY_SIZE];
@@ -247,7 +248,7 @@ fn long_key(octets: &[u8]) -> u128 {
     u128::from_be_bytes(key)
 }
 
-/// Puts an octet at a place, if there is room, and returns the place behind it.
+/// Stores `octet` at index `at`, and returns the next index. If there is no room, returns `at`.
 #[inline]
 fn put_octet(key: &mut [u8; KEY_SIZE], at: usize, octet: u8) -> usize {
     let Some(place) = key.get_mut(at) else {

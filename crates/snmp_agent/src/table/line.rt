@@ -13,10 +13,10 @@ use crate::table::value::{RowText, Tag, read_kept, read_plain};
 use snmp_wire::{Binding, EncodedBinding, Oid, ValueRef};
 use std::alloc::{AllocError, Global};
 
-/// What a line states.
+/// What a line contains.
 #[derive(Drop)]
 pub enum Line {
-    /// Nothing, as an empty line or a comment does.
+    /// Nothing: the line is empty or a comment.
     Nothing,
     /// An object prefix, as its numbers.
     Object(Vec<u32>),
@@ -24,14 +24,15 @@ pub enum Line {
     Instance(EncodedBinding),
 }
 
-/// Why a line states nothing that a table may hold.
+/// Why a line of a table file wasn't accepted.
 #[derive(Clone, Copy, PartialEq, Eq)]
 pub enum LineFault {
-    /// It has none of the forms of a line.
+    /// The line has none of the forms of a line.
     Line,
-    /// Its name is no name of the format, or not one that an object prefix or an instance may have.
+    /// The name of the line isn't a name of the format, or not one that an object prefix or an
+    /// instance may have.
     Name,
-    /// Its text states no value of its tag.
+    /// The text after the tag isn't a value of that type.
     Value,
     /// Memory ran out.
     Memory,
@@ -49,7 +50,7 @@ impl From<AllocError> for LineFault {
     }
 }
 
-/// The form of a line, with the parts that it has.
+/// The form of a line, with its parts.
 #[derive(Clone, Copy)]
 enum Form<'a> {
     Blank,
@@ -63,8 +64,8 @@ enum Form<'a> {
     },
 }
 
-/// What a line states. Its name, and a value that takes no memory of its own, are read into a given
-/// binding: to move or to clear one takes as long as to read it.
+/// Reads what a line contains. Its name, and a value that needs no memory of its own, are read
+/// into `into`: moving or zeroing a binding takes as long as reading it.
 pub fn read_line<'a, F: LineFormat>(
     alloc: Global,
     format: &F,
@@ -83,7 +84,7 @@ pub fn read_line<'a, F: LineFormat>(
     }
 }
 
-/// The form that a line has, or None where it has none.
+/// Returns the form of `line`, or `None` if it has none.
 fn form_of<'a, F: LineFormat>(format: &F, line: &'a [u8]) -> Option<Form<'a>>
     ensures { IsForm (F.format format.now) line.now result }
 {
@@ -97,8 +98,8 @@ fn form_of<'a, F: LineFormat>(format: &F, line: &'a [u8]) -> Option<Form<'a>>
     }
 }
 
-/// The name, the tag and the text of a row's line, with a bar between each two. None where one of
-/// the bars is missing or the tag is unknown.
+/// Returns the name, the tag and the text on a row's line, which has a bar between each two.
+/// Returns `None` if one of the bars is missing or the tag is unknown.
 fn row_form<'a, F: LineFormat>(format: &F, line: &'a [u8]) -> Option<Form<'a>>
     requires not_blank { IsBlank line.now → ⊥ }
     requires no_object { (text : List ℕ) → line.now ≢ codes "object " ++ text }
@@ -113,7 +114,7 @@ fn row_form<'a, F: LineFormat>(format: &F, line: &'a [u8]) -> Option<Form<'a>>
     })
 }
 
-/// The object prefix that a text names.
+/// Reads the object prefix that `text` names.
 fn object<F: LineFormat>(
     alloc: Global,
     format: &F,
@@ -128,7 +129,7 @@ fn object<F: LineFormat>(
     Ok(Line::Object(Vec::from_slice(alloc, into.name.as_slice())?))
 }
 
-/// The instance that a line of this form states.
+/// Reads the instance with the name `text` and with the value `value_text` of this tag.
 fn instance<'a, F: LineFormat>(
     alloc: Global,
     format: &F,
@@ -158,8 +159,8 @@ fn instance<'a, F: LineFormat>(
     }
 }
 
-/// The row of this name and value.
-// Not inlined: the caller would clear the value for all other rows too.
+/// Returns the row of this name and value.
+// `inline(never)`: inlined, its `ValueRef` would be zeroed for all other rows too.
 #[inline(never)]
 fn encoded_text(alloc: Global, name: &Oid, stated: &RowText) -> Result<EncodedBinding, AllocError>
     requires name { IsInRange (object_id name.now) }

@@ -1,11 +1,11 @@
-//! Texts that are cut at an octet.
+//! Functions that cut a text at an octet.
 ghost use Rattle.std.specs.Prelude.{◌≡◌, ◌≢◌, ◌<◌, ◌++◌, ◌∷◌, length, All, MatchOption};
 ghost use Rattle.std.specs.Str.Lines.{lines, strip_carriage_return};
 
 use memchr::memchr;
 
-/// The texts before and after the first octet that equals the separator, or None where there is
-/// none.
+/// Returns the texts before and after the first octet that equals `separator`, or `None` if there
+/// is none.
 #[inline]
 pub fn split_once(text: &[u8], separator: u8) -> Option<(&[u8], &[u8])>
     ensures { MatchOption result (All (λ octet. octet ≢ separator) text.now)
@@ -16,8 +16,8 @@ pub fn split_once(text: &[u8], separator: u8) -> Option<(&[u8], &[u8])>
     Some((&text[..end], &text[end + 1..]))
 }
 
-/// [`split_once`] for texts whose second or third octet mostly is the separator, as the bar after a
-/// tag: these octets are tested before the text is searched.
+/// Returns what [`split_once`] returns, faster if the second or third octet of `text` is mostly
+/// the separator, as after a tag: these octets are tested before the text is searched.
 #[inline]
 pub fn split_near(text: &[u8], separator: u8) -> Option<(&[u8], &[u8])>
     ensures { MatchOption result (All (λ octet. octet ≢ separator) text.now)
@@ -36,7 +36,8 @@ pub fn split_near(text: &[u8], separator: u8) -> Option<(&[u8], &[u8])>
     }
 }
 
-/// The first line of a text, without its line end, and what follows.
+/// Returns the first line of `text` without its line end, and the text after it. `text` must not
+/// be empty.
 pub fn split_line(text: &[u8]) -> (&[u8], &[u8])
     requires { 0 < length text.now }
     ensures lines { lines text.now ≡ result.0.now ∷ lines result.1.now }
@@ -48,7 +49,7 @@ pub fn split_line(text: &[u8]) -> (&[u8], &[u8])
     }
 }
 
-/// The text without a CR at its end.
+/// Returns `text` without a CR at its end.
 fn without_return(text: &[u8]) -> &[u8]
     ensures { result.now ≡ strip_carriage_return text.now }
 {

@@ -1,4 +1,4 @@
-//! Values as a table's text states them.
+//! Values as a table's text represents them.
 ghost use Rattle.std.specs.Prelude.{◌≡◌, ◌<◌, ◌≤◌, ◌^◌, IfOk, IfSome, IfNone, FitsSigned, length};
 ghost use Rattle.std.specs.{Int.w32, Option.option_map};
 ghost use Rattle.hex.specs.Hex.{decode_of};
@@ -18,7 +18,7 @@ use hex::FromHexError;
 use snmp_wire::{Oid, ValueRef, parse_numeric};
 use std::alloc::{AllocError, Global};
 
-/// The tag of a row, which says of what type its value is, and how the text states it.
+/// The tag of a row: the type of its value, and how the text represents it.
 #[derive(Clone, Copy)]
 pub enum Tag {
     Integer,
@@ -38,7 +38,7 @@ impl Tag {
     ghost use Rattle.snmp_agent.specs.table.Form.{IsTag};
     ghost use Rattle.snmp_agent.specs.private.table.Row.{tag_text};
 
-    /// The tag that a text names.
+    /// Returns the tag with this text, if there is one.
     pub fn from_text(text: &[u8]) -> Option<Tag>
         ensures { MatchOption result (IsTag text.now → ⊥) (λ tag. text.now ≡ tag_text tag) }
     {
@@ -58,7 +58,7 @@ impl Tag {
     }
 }
 
-/// A value that takes memory of its own when it is read.
+/// A value that needs memory of its own when it is read.
 #[derive(Drop)]
 pub enum RowText {
     /// OCTET STRING.
@@ -74,7 +74,7 @@ impl RowText {
     ghost use Rattle.snmp_wire.specs.Message.{datum};
     ghost use Rattle.snmp_agent.specs.private.table.Row.{datum_of, IsShort};
 
-    /// Changes a value to this one, which it borrows.
+    /// Sets `into` to this value, which it borrows.
     pub fn read_into<'a>(&'a self, into: &mut ValueRef<'a>)
         requires { IsShort self.now }
         ensures { datum into.new ≡ datum_of self.now }
@@ -87,11 +87,12 @@ impl RowText {
     }
 }
 
-/// The most octets that a string of a table has.
+/// The greatest length of a string in a table, in octets.
 pub const LONGEST_STRING: usize = 65535;
 
-/// Reads the number or address that the text states, or the text itself as octets, into a given
-/// value, and returns whether it states one. None where values of the tag take memory of their own.
+/// Reads the number or address that `text` represents, or `text` itself as octets, into `into`,
+/// and returns whether it is a value of the tag's type. Returns `None` if such values need memory
+/// of their own.
 pub fn read_plain<'a>(tag: Tag, text: &'a [u8], into: &mut ValueRef<'a>) -> Option<bool>
     ensures plain { IfSome result (λ found. (format : Format) → IsOnlyThere
         (IsValueText format (tag_text tag) text.now) found (datum into.new)) }
@@ -129,8 +130,8 @@ pub fn read_plain<'a>(tag: Tag, text: &'a [u8], into: &mut ValueRef<'a>) -> Opti
     Some(true)
 }
 
-/// Changes a value to an INTEGER. Like the next five, it sets the number alone in a value that has
-/// the type already, which saves setting over 500 octets.
+/// Sets `value` to an INTEGER. Here and in the next five functions, if the value has the type
+/// already, only its content is set, which saves setting over 500 octets.
 #[inline(always)]
 fn set_integer(value: &mut ValueRef<'_>, number: i32)
     ensures { datum value.new ≡ integer_value number }
@@ -141,7 +142,7 @@ fn set_integer(value: &mut ValueRef<'_>, number: i32)
     }
 }
 
-/// Changes a value to a Counter32.
+/// Sets `value` to a Counter32.
 #[inline(always)]
 fn set_counter32(value: &mut ValueRef<'_>, number: u32)
     ensures { datum value.new ≡ counter32 number }
@@ -152,7 +153,7 @@ fn set_counter32(value: &mut ValueRef<'_>, number: u32)
     }
 }
 
-/// Changes a value to a Gauge32.
+/// Sets `value` to a Gauge32.
 #[inline(always)]
 fn set_gauge32(value: &mut ValueRef<'_>, number: u32)
     ensures { datum value.new ≡ gauge32 number }
@@ -163,7 +164,7 @@ fn set_gauge32(value: &mut ValueRef<'_>, number: u32)
     }
 }
 
-/// Changes a value to a TimeTicks.
+/// Sets `value` to a TimeTicks.
 #[inline(always)]
 fn set_time_ticks(value: &mut ValueRef<'_>, number: u32)
     ensures { datum value.new ≡ time_ticks number }
@@ -174,7 +175,7 @@ fn set_time_ticks(value: &mut ValueRef<'_>, number: u32)
     }
 }
 
-/// Changes a value to a Counter64.
+/// Sets `value` to a Counter64.
 #[inline(always)]
 fn set_counter64(value: &mut ValueRef<'_>, number: u64)
     ensures { datum value.new ≡ counter64 number }
@@ -185,7 +186,7 @@ fn set_counter64(value: &mut ValueRef<'_>, number: u64)
     }
 }
 
-/// Changes a value to an OCTET STRING.
+/// Sets `value` to an OCTET STRING.
 #[inline(always)]
 fn set_octets<'a>(value: &mut ValueRef<'a>, octets: &'a [u8])
     ensures { datum value.new ≡ octet_string octets.now }
@@ -196,8 +197,8 @@ fn set_octets<'a>(value: &mut ValueRef<'a>, octets: &'a [u8])
     }
 }
 
-/// The octets or the identifier that the text states. None where it states no value of the tag's
-/// type.
+/// Reads the octets or the identifier that `text` represents. Returns `None` if it isn't a value
+/// of the tag's type. The caller must pass a tag whose values need memory of their own.
 pub fn read_kept<F: LineFormat>(
     alloc: Global,
     format: &F,
@@ -216,8 +217,8 @@ pub fn read_kept<F: LineFormat>(
     }
 }
 
-/// Changes a value to the identifier of these numbers.
-// Not inlined: the caller would clear the identifier for values of other types too.
+/// Sets `into` to the identifier with these numbers.
+// `inline(never)`: inlined, its `Oid` would be zeroed for values of other types too.
 #[inline(never)]
 fn set_to_identifier(into: &mut ValueRef<'_>, numbers: &[u32])
     requires { length numbers.now ≤ 128 }
@@ -229,7 +230,7 @@ fn set_to_identifier(into: &mut ValueRef<'_>, numbers: &[u32])
     }
 }
 
-/// A number of 64 bits in decimal digits, with or without leading zeros.
+/// Reads a number of 64 bits in decimal digits, with or without leading zeros.
 fn decimal(text: &[u8]) -> Option<u64>
     ensures { IsOnly (λ n. IsDecimal text.now n × (n < 2 ^ 64)) result }
 {
@@ -248,14 +249,14 @@ fn decimal(text: &[u8]) -> Option<u64>
     Some(number)
 }
 
-/// A number of 32 bits in decimal digits.
+/// Reads a number of 32 bits in decimal digits.
 fn unsigned(text: &[u8]) -> Option<u32>
     ensures { IsOnly (λ n. IsDecimal text.now n × (n < 2 ^ 32)) result }
 {
     u32::try_from(decimal(text)?).ok()
 }
 
-/// A signed number of 32 bits in decimal digits, with or without a minus sign before them.
+/// Reads a signed number of 32 bits in decimal digits, with or without a minus sign before them.
 fn signed(text: &[u8]) -> Option<i32>
     ensures { IsOnly (λ z. IsSignedDecimal text.now z × FitsSigned w32 z) result }
 {
@@ -265,7 +266,7 @@ fn signed(text: &[u8]) -> Option<i32>
     }
 }
 
-/// Four numbers of 8 bits with a dot between each two.
+/// Reads four numbers of 8 bits with a dot between each two.
 #[tactic(auto, using(crate::proofs::Decimals::no_dot_first))]
 fn address(text: &[u8]) -> Option<[u8; 4]>
     ensures { IsOnly (IsAddressText text.now) result }
@@ -281,8 +282,8 @@ fn address(text: &[u8]) -> Option<[u8; 4]>
     }
 }
 
-/// An identifier that has an encoding, as its numbers.
-// Not inlined: the caller would clear the identifier for values of other types too.
+/// Reads an identifier that has an encoding, and returns its numbers.
+// `inline(never)`: inlined, its `Oid` would be zeroed for values of other types too.
 #[inline(never)]
 #[tactic(auto, using(std::proofs::lemmas::Grind::common_steps))]
 fn object_id<F: LineFormat>(
@@ -300,7 +301,7 @@ fn object_id<F: LineFormat>(
     Ok(Some(Vec::from_slice(alloc, oid.as_slice())?))
 }
 
-/// The octets that pairs of hexadecimal digits encode.
+/// Reads the octets that pairs of hexadecimal digits encode, up to `LONGEST_STRING`.
 fn hexadecimal(alloc: Global, text: &[u8]) -> Result<Option<Vec<u8>>, AllocError>
     ensures { IfOk result (λ octets. IsOnly (λ s. (decode_of text.now ≡ Ok s)
         × IsTableString s) (option_map (λ v. v.items) octets)) }
