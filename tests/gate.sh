@@ -38,8 +38,8 @@ tree() {
     for part in wrong.py $parts; do
         printf '%s\n' '#!/bin/sh' "echo \"\${SAYS:-1 passed, 0 failed, 0 skipped}\"" >"$tree/tests/$part"
     done
-    cp "$tree/tests/fleet.py" "$tree/tools/index-promises"
-    chmod +x "$tree"/tests/*.* "$tree/tools/index-promises"
+    cp "$tree/tests/fleet.py" "$tree/tools/check-pages"
+    chmod +x "$tree"/tests/*.* "$tree/tools/check-pages"
     : >"$got/calls"
 }
 
@@ -322,6 +322,108 @@ part 'kill $(cat "$CALLS.gate"); sleep 60'
 (echo "$BASHPID" >"$CALLS.gate"; cd "$tree" && exec ./.ci/run) >"$got/out" 2>&1
 same 'a gate that is ended by a signal' '1 FAILED: the gate was ended by a signal 12 passed, 1 failed, 0 skipped' \
     "$? $(tail -n 2 "$got/out" | paste -sd ' ')"
+
+# -- what the pages name
+
+# pages [FILE SED [WORD..]]: what tools/check-pages says, with these words, of a tree of which a file was edited by sed.
+pages() {
+    tree
+    cp "$top/tools/check-pages" "$tree/tools"
+    cat >"$tree/crates/low/src/lib.rt" <<'RT'
+//! Sums.
+ghost use Rattle.low.specs.Low.{IsSum};
+
+mod part;
+
+pub use part::Count;
+
+/// Adds two numbers.
+#[inline]
+pub fn add_up(a: u32, b: u32) -> u32
+    requires { a + b < 9 }
+    ensures sum { IsSum a b result }
+    ensures least { a ≤ result }
+{
+    a + b
+}
+RT
+    cat >"$tree/crates/low/src/part.rt" <<'RT'
+ghost use Rattle.low.specs.Low.{double};
+
+/// Adds a number to itself.
+pub fn add_twice(a: u32) -> u32
+    ensures { result ≡ double a }
+{
+    a + a
+}
+
+/// How many there are.
+pub struct Count {
+    /// The number.
+    pub number: u32,
+}
+
+impl Count {
+    /// Returns the number.
+    pub fn get(&self) -> u32 {
+        self.number
+    }
+}
+RT
+    cat >"$tree/crates/low/specs/Low.antt" <<'ANTT'
+use Rattle.std.specs.Prelude.{ℕ, ◌+◌, ◌≡◌}
+
+-- c is the sum of a and b
+abbrev pub IsSum : ℕ → ℕ → ℕ → Type 0
+IsSum a b c = sum_of a b ≡ c
+
+-- the sum of a and b
+abbrev pub sum_of : ℕ → ℕ → ℕ
+sum_of a b = a + b
+
+-- a number, as another crate names it
+pub record One : Type 0 where
+  pub number : ℕ
+
+-- ---- for private functions
+
+-- twice a
+abbrev pub double : ℕ → ℕ
+double a = sum_of a a
+ANTT
+    mkdir "$tree/crates/mid/proofs"
+    printf '%s\n' 'use Rattle.low.specs.Low.{One}' 'pub one : One → Type 0' >"$tree/crates/mid/proofs/One.antt"
+    printf '%s\n' '# Sums' '`add_up()` has `add_up.sum`: `Count::get`, `One.number`, `crates/NAME/src`, `lib.rt`.' \
+        '## Two or more' '[One](#sums), [two](README.md#two-or-more), [three](crates/low/src/lib.rt#L9), [four](crates).' \
+        >"$tree/README.md"
+    [ $# = 0 ] || sed -i "$2" "$tree/$1"
+    in_tree tools/check-pages "${@:3}" >"$got/out"
+    echo "$? $(paste -sd ' ' "$got/out")"
+}
+same 'pages and sources without a fault' '0 8 passed, 0 failed, 0 skipped' "$(pages)"
+# wrong FILE SED FAULT: if the file is edited so, this fault is found, and no other.
+wrong() { same "$3" "1 $3 7 passed, 1 failed, 0 skipped" "$(pages "$1" "$2")"; }
+for lost in add_up.total Count::got One.numeral crates/NAME/specks lib.antt add_down CountUp 'subtract()' 'tests/no.sh a'; do
+    wrong README.md "s|\`lib.rt\`|\`$lost\`|" "names of README.md: \`$lost\` doesn't exist"
+done
+for lost in '#some' 'README.md#two' 'crates/low/src/lib.rt#L99' 'crates/low/src/lib.antt'; do
+    wrong README.md "s|(crates)|($lost)|" "links of README.md: $lost leads nowhere"
+done
+lib=crates/low/src/lib.rt
+wrong $lib '/^... Adds/d' "docs of low: $lib:9: add_up has no doc comment"
+wrong crates/low/src/part.rt '/Returns/d' 'docs of low: crates/low/src/part.rt:17: Count::get has no doc comment'
+wrong $lib 's/ensures least/ensures/' "docs of low: $lib:10: add_up has several clauses, and one has no name"
+at=crates/low/specs/Low.antt
+wrong $at '/^-- c is/d' "definitions of low: $at: IsSum has no comment"
+wrong $at 's/= a + b/= double b/' "places of low: $at: a promise rests on double"
+wrong $lib 's/Count;/{Count, add_twice};/' "places of low: $at: a promise rests on double"
+wrong $at '/^-- ----/d' "places of low: $at: no promise rests on double"
+wrong crates/mid/proofs/One.antt 's/One/double/g' \
+    "places of low: $at: no promise rests on One places of low: $at: a promise rests on double"
+wrong $lib 's/ensures sum.*/ensures sum { a ≤ result }/' \
+    "places of low: $at: no promise rests on IsSum places of low: $at: no promise rests on sum_of"
+same 'the clauses of public calls whose lines have two words' "0 $lib:10: add_up.sum" \
+    "$(pages README.md '' --list add_up sum)"
 
 # -- the layout of crates
 
