@@ -23,7 +23,7 @@ install_with() { (cd "$got" && tree/tools/install "$@" 2>&1); }
 there() { (cd "$got" && find usr names -type f -o -type l 2>/dev/null | sort); }
 hashes() { (cd "$got" && find usr names -type f -exec sha256sum {} + 2>/dev/null | sort -k 2); }
 files=$(printf 'usr/%s\n' bin/join-modules bin/lines-to-table bin/snmp share/bash-completion/completions/snmp \
-    share/doc/snmp/{CHANGELOG,FROM-NET-SNMP,HOWTO,MANY-DEVICES,PERFORMANCE,PROFILE,PROMISES,README,TROUBLESHOOTING}.md \
+    share/doc/snmp/{CHANGELOG,FROM-NET-SNMP,HOWTO,MANY-DEVICES,PERFORMANCE,PROMISES,README,REFERENCE,TROUBLESHOOTING}.md \
     share/doc/snmp/speed.svg \
     $(for page in docs/*.[1-9]; do echo "share/man/man${page##*.}/${page##*/}"; done) \
     $(printf 'share/snmp/%s\n' examples/*) share/snmp/installed share/snmp/modules/base.txt share/zsh/site-functions/_snmp | sort)
@@ -49,7 +49,7 @@ while IFS=: read -r page link; do
     count "a link of $page leads to $link" "$([ -z "${link%%#*}" ] || [ -e "$got/usr/share/doc/snmp/${link%%#*}" ] || echo "it isn't there")"
 done < <(cd "$got/usr/share/doc/snmp" && grep -oE '\]\([^)]*\)' -- *.md | sed -E 's,\]\(([^)]*)\),\1,' | grep -v ':https\?:' | sort -u)
 words() { sed -E 's,\[([^]]*)\]\([^)]*\),\1,g' -- "$@"; }
-for page in README.md CHANGELOG.md docs/PROFILE.md docs/PROMISES.md; do
+for page in README.md CHANGELOG.md docs/REFERENCE.md docs/PROMISES.md; do
     same "the words of $page" "$(words "$page")" "$(words "$got/usr/share/doc/snmp/${page##*/}")"
 done
 # What the manual says is there; the modules are those of the repository and not of this tree.

@@ -135,9 +135,9 @@ same "the manual's letters of -T" "$(letters snmptranslate -T)" "$(stated_letter
 described=$(sed -n 's/^\.It Fl \([^ ]*\) Ar.*/\1/p; s/^\.It Fl \([hV]\) , -\(.*\)/\1\n-\2/p' docs/snmp.1 | sort)
 synopsis=$(sed -n '/^\.Sh SYNOPSIS/,/^\.Sh DESC/s/^\.\(Op \)\?Fl \([^ ]*\).*/\2/p' docs/snmp.1; echo V; echo -version; echo -help)
 same 'the options that the manual describes' "$(sort -u <<<"$synopsis")" "$described"
-mapfile -t messages < <(sed -n '/^| what | message |/,/^$/s/.*| \(.*\) |$/\1/p; /^Warnings change no status/p' docs/PROFILE.md |
+mapfile -t messages < <(sed -n '/^| what | message |/,/^$/s/.*| \(.*\) |$/\1/p; /^Warnings change no status/p' docs/REFERENCE.md |
     grep -o '`[^`]*`' | tr -d '`' | grep -E '^([A-Z][a-z]|snmp: )')
-least 'the messages that docs/PROFILE.md has' 26 ${#messages[@]}
+least 'the messages that docs/REFERENCE.md has' 26 ${#messages[@]}
 for message in "${messages[@]}"; do
     count "the manual has the message $message" "$(grep -qxF ".It Li \"$message\"" docs/snmp.1 || echo "it isn't there")"
 done

@@ -4,7 +4,7 @@
 usage: random_walks.py RUNS [SEED] [WORD..]
 
 It knows nothing of the program's code: tables, order, walks and lines are written anew here from
-docs/PROFILE.md. A run's title is `run N of seed S: ` with its words; those run whose titles have one of the
+docs/REFERENCE.md. A run's title is `run N of seed S: ` with its words; those run whose titles have one of the
 words given. The last line is 'N passed, M failed, K skipped'.
 """
 import random

@@ -1,4 +1,4 @@
-"""What the program prints for a name and a value with -On and no module file, written anew from docs/PROFILE.md."""
+"""What the program prints for a name and a value with -On and no module file, written anew from docs/REFERENCE.md."""
 from lib.messages import NULL, elements, name_in
 
 NO_OBJECT = "No Such Object available on this agent at this OID"

@@ -82,7 +82,7 @@ impl Table {
     ghost use Rattle.snmp_agent.specs.table.Stated.{IsTableIn, IsFirstFaultIn};
     ghost use Rattle.snmp_agent.specs.table.Table.{IsAnswerValue, IsGet, IsMibView};
 
-    /// Reads the table that `text` defines (`docs/PROFILE.md`), with numeric names. If a line is
+    /// Reads the table that `text` defines (`docs/REFERENCE.md`), with numeric names. If a line is
     /// faulty, returns the fault of the first such line. If memory runs out, returns `Memory`
     /// instead of any other result.
     ///

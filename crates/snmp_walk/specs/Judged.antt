@@ -1,6 +1,6 @@
 -- What a message means to a walk, rule by rule (RFC 3416, sections 3 and 4.2, and
--- docs/PROFILE.md), in terms of the names and bindings of the message. w is the state of the walk
--- before the message, `given` the step that the message means, and `new` the state after it.
+-- docs/REFERENCE.md), in terms of the names and bindings of the message. w is the state of the
+-- walk before the message, `given` the step that the message means, and `new` the state after it.
 use Rattle.std.specs.Prelude.{◌≡◌, ◌≢◌, ◌⊎◌, ℕ, pos, ◌<◌, ◌≤◌, ◌+◌, List, [], ◌∷◌, ◌++◌, length}
 use Rattle.snmp_oid.specs.Identifier.{Precedes}
 use Rattle.snmp_wire.specs.declared.kind.Kind.TheVariants as kind

@@ -10,7 +10,7 @@ use crate::table::split::{split_line, split_once};
 use snmp_io::{split_unquoted, unquoted_front};
 use snmp_wire::{Oid, read_numeric};
 
-/// A reader of the names in a table file of the second format (`docs/PROFILE.md`).
+/// What reads the names of a table file of the second format (`docs/REFERENCE.md`).
 pub trait Resolver {
     /// The texts that are names, with their identifiers.
     ghost names: { Self → Names };
