@@ -294,6 +294,15 @@ cp "$1" "{folder.path}/$(echo "$2" | tr : /)"
             differs(machines, {"collector1", "collector2"})]
 
 
+def by_cron(folder, block):
+    """A round prints what failed. One that begins while another runs ends at once."""
+    wrong = folder.run(block)
+    failures = sorted(f"{status} {place} {said}" for place, (status, said) in folder.fleet.failing.items())
+    return [wrong, differs(sorted(folder.said.splitlines()), failures),
+            *folder.files([*folder.fleet.rows, *folder.fleet.breaking]),
+            folder.run("exec 8>lock; flock 8; ./round"), differs(folder.said, "the last round still runs\n")]
+
+
 def a_check(folder, block):
     first = next(iter(folder.fleet.rows))
     name = dotted(ROWS_OF_INTERFACES) + ".8.1"
@@ -323,11 +332,29 @@ def for_a_collector(folder, block):
             differs(messages(folder), sorted(f"{place} {said}" for place, (_, said) in folder.fleet.failing.items()))]
 
 
+def for_prometheus(folder, block):
+    """A device that fails is down, and has no counters, also where it had some before."""
+    rows = {**folder.fleet.rows, **{place: held for place, (_, held) in folder.fleet.breaking.items()}}
+    os.mkdir(f"{folder.path}/textfiles")
+    for place in folder.fleet.failing:
+        folder.write(f"textfiles/{place}.prom", "before")
+    wrong = folder.run(block)
+    wanted = {place: f'# TYPE snmp_up gauge\nsnmp_up{{device="{place}"}} {int(place in rows)}\n'
+              "# TYPE snmp_if_in_octets counter\n" + "".join(
+                  f'snmp_if_in_octets{{device="{place}",index="{name[-1]}"}} {value}\n'
+                  for name, (_, value, _) in sorted(rows.get(place, {}).items()) if name[:-1] == RECEIVED)
+              for place in [*rows, *folder.fleet.failing]}
+    written = {name.removesuffix(".prom"): folder.text(f"textfiles/{name}")
+               for name in os.listdir(f"{folder.path}/textfiles")}
+    return [wrong, differs(written, wanted),
+            differs(messages(folder), sorted(said for _, said in folder.fleet.failing.values()))]
+
+
 TESTS = {"The devices": [the_devices], "A file for each device": [files_of_devices], "What failed": [what_failed],
          "A second round": [second_round], "A walk that was cut off": [cut_off],
          "Lines with the device before them": [lines_of_files, lines_as_they_come], "GNU parallel": [by_parallel],
-         "Several machines": [over_machines], "A check of a monitoring system": [a_check],
-         "Lines for a collector": [for_a_collector]}
+         "Several machines": [over_machines], "From cron": [by_cron], "A check of a monitoring system": [a_check],
+         "Lines for a collector": [for_a_collector], "Prometheus": [for_prometheus]}
 BY_PARALLEL = "GNU parallel", "Several machines"
 SHAPE = "each block of the page has its test"
 
@@ -339,8 +366,8 @@ def main(words=()):
         return 1
     end_at_signals()
     counts, page = Counts(), blocks()
-    if lacks("bash", "xargs"):
-        counts.left_out(f"{1 + len(headings)} tests of tests/fleet.py", lacks("bash", "xargs"), 1 + len(headings))
+    if missing := lacks("bash", "flock", "xargs"):
+        counts.left_out(f"{1 + len(headings)} tests of tests/fleet.py", missing, 1 + len(headings))
         return counts.end()
     if chosen(SHAPE):
         shape = {heading: len(listed) for heading, listed in page.items()}
