@@ -7,7 +7,8 @@
 A session is a block whose first line begins with `$ `: of a page in Markdown a fenced block, or one that is
 indented by four blanks; of a manual one between .Bd -literal and .Ed. `$ ` begins a command, which lines
 that begin with `> ` go on with, and the lines behind it are what it prints, on its error output too; blanks
-at the end of a line don't count. A command that ends in & goes on while the session lasts.
+at the end of a line don't count. A command that ends in & goes on while the session lasts. A script, which a reader
+can paste, is a fenced block of `sh` followed by one of `text`: a session of one command, and what that prints.
 
 Each session runs in a folder of its own, which has what the repository's has for words as ./snmp and
 examples/three.tab, and with the program installed into a new folder, which stands for /usr/local. Port 1161
@@ -117,6 +118,17 @@ def sessions_of(path):
             yield f"{path}:{line}: {next(commands_of(block))[0]}", block
 
 
+def scripts_of(path):
+    """The scripts of a page, each with its title, as sessions."""
+    with open(os.path.join(TOP, path), encoding="utf-8") as file:
+        text = file.read()
+    body = r"((?:(?!```).*\n)*)```"
+    for match in re.finditer(rf"^```sh\n{body}\n\n```text\n{body}$", text, re.MULTILINE):
+        command, printed = match.groups()
+        line = text.count("\n", 0, match.start()) + 1
+        yield f"{path}:{line}: a script", "$ " + command.rstrip("\n").replace("\n", "\n> ") + "\n" + printed
+
+
 def passed_over(path, sessions):
     """What is wrong where lines of a page begin as commands do, and are none of its sessions."""
     with open(os.path.join(TOP, path), encoding="utf-8") as file:
@@ -133,7 +145,7 @@ def tests():
     for path, sessions in found.items():
         yield (f"{path}: each command stands in a session",
                lambda prefix, path=path, sessions=sessions: passed_over(path, sessions))
-        for title, block in sessions:
+        for title, block in [*sessions, *scripts_of(path)]:
             yield title, lambda prefix, block=block: ports.over_free_port(lambda port: run(block, prefix, port))
 
 
