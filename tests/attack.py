@@ -1,12 +1,12 @@
 #!/usr/bin/env python3
-"""Sends the built program what is no message, or is another one than it waits for: its snmpd mutated requests,
-with good ones between them, and its walkers mutated replies.
+"""Sends the built program datagrams that aren't messages, or not those that it waits for: to snmpd mutated requests
+with good ones between them, to the walkers and snmpget mutated replies.
 
 usage: attack.py [--datagrams N] [--walks N] [--seed S] [WORD..]
 
-By default 200,000 mutated datagrams and 600 runs of the walkers, side by side; of these two tests those run whose
-titles have one of the words. The seed is printed, and is the time of day where it is 0. The last line is 'N passed,
-M failed, K skipped'.
+The first test sends snmpd N mutated datagrams, by default 200,000; the second, at the same time, runs the walkers and
+snmpget N times, by default 600. If there are words, only the test runs whose title contains one of them. The seed is
+printed; with S = 0 it is taken from the time of day. The last line is 'N passed, M failed, K skipped'.
 """
 import argparse
 import multiprocessing
@@ -17,14 +17,14 @@ import time
 
 from lib import programs
 from lib.agents import run
-from lib.messages import BULK, GET, NEXT, NULL, SET, element, identifier, integer, message, read, replied, text
-from lib.mutations import attacked, attacking, faults_of
+from lib.messages import BULK, GET, NEXT, NULL, SET, element, identifier, integer, message, read, reply_within, text
+from lib.mutations import attacking, corrupt, faults_of
 from lib.rows import E, R, ROOT
-from lib.runner import Counts, chosen_by, end_at_signals, side_by_side, tried
+from lib.runner import Counts, chosen_by, end_at_signals, side_by_side, try_test
 from lib.server import IDLE, Server
 from lib.texts import dotted
 
-# -- a served table of each type
+# -- a table with a value of each type
 
 ROWS = {R + (i, 0): value for i, value in enumerate(
     [integer(1), text(b"wes"), text(bytes(range(200))), identifier(E + (4294967295, 128)), element(0x40, b"\1\2\3\4"),
@@ -37,11 +37,12 @@ SIZE = 1472
 
 
 def some_name(rng):
+    """Returns a random name, in the table or near it."""
     return rng.choice([R, R + (rng.randint(0, 11),), R + (rng.randint(0, 11), 0), E, E + (2,), (1, 3)])
 
 
 def request(rng, id):
-    """A good request."""
+    """Returns a good request for up to four random names."""
     names = [(some_name(rng), NULL) for _ in range(rng.randint(0, 4))]
     kind = rng.choice([GET, NEXT, BULK, BULK, SET])
     if kind == SET:
@@ -52,35 +53,35 @@ def request(rng, id):
 # -- snmpd
 
 def memory(pid):
-    """The kibibytes that a program has written in memory, and that it has asked for."""
+    """Returns the memory of a process in kibibytes: how much it has written to, and how much it has asked for."""
     with open(f"/proc/{pid}/status", encoding="ascii") as file:
         fields = dict(line.split(":", 1) for line in file)
     return tuple(int(fields[name].split()[0]) for name in ("RssAnon", "VmData"))
 
 
-TOGETHER = 32  # so many datagrams of which few are long find room in the server's queue
+TOGETHER = 32  # the number of datagrams sent at once; if few are long, they fit into the queue of the server's socket
 
 
 class Attack:
-    """An attack on a server: what was sent, and how many good requests had the right reply."""
+    """An attack on a server. Counts the mutated datagrams sent, the other datagrams, and the right replies to these."""
 
     def __init__(self, server, attacker, rng):
         self.server, self.attacker, self.rng = server, attacker, rng
         self.mutated = self.others = self.right = 0
 
     def send(self, count):
-        """Sends mutated datagrams."""
+        """Sends `count` mutated datagrams."""
         for _ in range(count):
             try:
-                self.attacker.send(attacked(self.rng, request(self.rng, self.rng.randrange(2 ** 31))))
-            except OSError:  # a full queue of this machine, or one datagram too long for it
+                self.attacker.send(corrupt(self.rng, request(self.rng, self.rng.randrange(2 ** 31))))
+            except OSError:  # this machine's queue is full, or the datagram is too long
                 self.server.send(b"")
             self.mutated += 1
 
     def ask(self):
-        """Asks for the right reply to a good request; what is wrong."""
+        """Sends a good request and waits for the right reply. Returns what is wrong."""
         asked = request(self.rng, self.mutated)
-        wanted = replied(ROWS, read(asked), SIZE)
+        wanted = reply_within(ROWS, read(asked), SIZE)
         self.server.send(asked)
         self.others += 1
         try:
@@ -93,8 +94,9 @@ class Attack:
         return f"after {self.mutated} datagrams\n    {asked.hex()}\n  got\n    {got.hex()}\n  not\n    {wanted.hex()}"
 
     def end(self):
-        """Asks until the server has had its turns, of which pauses of this script may have taken some; what is wrong
-        with its counts, to which each datagram belongs but the last, if it came too late."""
+        """Sends good requests until the server has used up its turns, some of which may have passed without a datagram.
+        Returns what is wrong with the counts that the server then prints. They count each datagram, except the last if
+        it arrived too late."""
         late = False
         while self.server.program.poll() is None and not late:
             wrong = self.ask()
@@ -110,8 +112,8 @@ class Attack:
 
 
 def attack_snmpd(rng, count):
-    """Sends `count` mutated datagrams, and after each few of them a good one, whose reply is awaited. What is wrong
-    comes back."""
+    """Sends `count` mutated datagrams, and after every TOGETHER of them a good request, whose reply has to arrive. From
+    a tenth of them on, the server's memory must not grow. Returns a list of what is wrong."""
     before, wrong = None, ""
     turns = count + -(-count // TOGETHER) + IDLE
     with Server("--max-size", str(SIZE), "--turns", str(turns), table=TABLE) as server, \
@@ -127,7 +129,7 @@ def attack_snmpd(rng, count):
         if not wrong:
             after = memory(server.program.pid)
             if any(more > less for more, less in zip(after, before)):
-                wrong = f"kibibytes written in memory and asked for: {before} before, {after} then"
+                wrong = f"memory written to and asked for, in KiB: {before} before, {after} at the end"
         right = attack.right
         wrong = wrong or attack.end()
     print(f"snmpd: {attack.mutated} mutated datagrams, {right} good requests with the right reply", flush=True)
@@ -142,7 +144,8 @@ COMMANDS = [["snmpwalk", "-On", "-r1", "-t1", "AGENT", ROOT], ["snmpbulkwalk", "
 
 
 def attack_walker(number, seed):
-    """One run: how it ended, and what is wrong."""
+    """Runs a walker or snmpget once against an agent with mutated replies. Returns the beginning of its message, or
+    'done' if it has none, and what is wrong."""
     words, sent = COMMANDS[number % len(COMMANDS)], []
     ran = run(words, attacking(random.Random(seed), ROWS, sent))
     found = "; ".join(faults_of(words, ran, sent))
@@ -152,8 +155,8 @@ def attack_walker(number, seed):
 
 
 def attack_walkers(rng, count):
-    """Runs the walkers and snmpget `count` times against such agents. Most of the time goes by in waiting for a reply
-    that doesn't come, so many run side by side."""
+    """Runs the walkers and snmpget `count` times against such agents. Sixteen run at the same time, since they spend
+    most of it waiting for replies that don't arrive. Returns a list of what is wrong."""
     wrong, ends = [], {}
     runs = [(number, rng.random()) for number in range(count)]
     for end, found in side_by_side(lambda it: attack_walker(*it), runs, 16):
@@ -161,14 +164,14 @@ def attack_walkers(rng, count):
         wrong += [found] if found else []
     print("walkers: " + ", ".join(f"{times} ended with {end!r}" for end, times in sorted(ends.items())), flush=True)
     if ends.get("done", 0) == 0 or len(ends) < 3:
-        wrong.append("the walks don't end in several ways")
+        wrong.append(f"expected at least three different ends, with 'done' among them, got {sorted(ends)}")
     return wrong[:5]
 
 
-# -- both side by side, each in a process of its own
+# -- both at the same time, each in a process of its own
 
 class Part:
-    """A test that another process runs."""
+    """A test that runs in another process."""
 
     def __init__(self, test):
         fork = multiprocessing.get_context("fork")
@@ -179,10 +182,10 @@ class Part:
 
     def run(self, test, there):
         end_at_signals()
-        there.send(tried(test))
+        there.send(try_test(test))
 
-    def found(self):
-        """What is wrong, which is there before the process ends."""
+    def result(self):
+        """Waits for what the test finds wrong, and returns it as a text. The process may still be running then."""
         try:
             wrong = self.back.recv()
         except EOFError:
@@ -202,8 +205,8 @@ def main(words):
     parser.add_argument("--seed", type=int, default=1)
     parser.add_argument("words", nargs="*")
     words = parser.parse_args(words)
-    tests = {"snmpd under mutated requests gives good ones the right reply": (attack_snmpd, words.datagrams),
-             "walkers and Gets of mutated replies end in a stated way": (attack_walkers, words.walks)}
+    tests = {"snmpd replies correctly to good requests among mutated ones": (attack_snmpd, words.datagrams),
+             "walkers and Gets that receive mutated replies end in an expected way": (attack_walkers, words.walks)}
     chosen = chosen_by(words.words, "tests/attack.py", tests)
     if not programs.are_current("tests/attack.py", programs.BUILT):
         return 1
@@ -216,7 +219,7 @@ def main(words):
             if chosen(title):
                 parts[title] = Part(lambda test=test, count=count: test(random.Random(seed), count))
         for title, part in parts.items():
-            counts.found(title, part.found())
+            counts.record(title, part.result())
     finally:
         for part in parts.values():
             part.end()

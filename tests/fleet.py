@@ -24,9 +24,9 @@ import traceback
 from lib import programs
 from lib.agents import Agent, failing, silent
 from lib.commands import lacks, lacks_parallel
-from lib.messages import integer, served
+from lib.messages import integer, reply_from
 from lib.ports import closed_port
-from lib.runner import Counts, chosen_by, differs, end_at_signals, tried, wrongs
+from lib.runner import Counts, chosen_by, differs, end_at_signals, try_test, wrongs
 from lib.server import Server
 from lib.texts import NO_OBJECT, dotted
 
@@ -68,7 +68,7 @@ def table(rows):
                                                     for name, (tag, value, _) in rows.items())
 
 
-def printed(rows, root=ROWS_OF_INTERFACES):
+def walk_output(rows, root=ROWS_OF_INTERFACES):
     """What a walk prints below the root."""
     return "".join(f"{dotted(name)} = {text}\n" for name, (_, _, text) in sorted(rows.items())
                    if name[:len(root)] == root)
@@ -82,14 +82,14 @@ class BreakingOff:
         self.replies_to(0)
 
     def replies_to(self, count):
-        self.left, self.replied = count, None
+        self.left, self.last_request = count, None
 
     def __call__(self, seen):
-        if seen[-1] != self.replied:
+        if seen[-1] != self.last_request:
             if self.left == 0:
                 return []
-            self.left, self.replied = self.left - 1, seen[-1]
-        return [served(self.rows, seen[-1])]
+            self.left, self.last_request = self.left - 1, seen[-1]
+        return [reply_from(self.rows, seen[-1])]
 
 
 Fleet = collections.namedtuple("Fleet", "rows failing breaking")
@@ -101,19 +101,20 @@ def fleet(stack):
     rows, ends, breaking = {}, {}, {}
     for device in range(SERVED):
         server = Server(table=table(interfaces(device)), datagrams=10 * LONG)
-        rows[stack.enter_context(server).place] = interfaces(device)
+        rows[stack.enter_context(server).address] = interfaces(device)
     closed = f"127.0.0.1:{stack.enter_context(closed_port())}"
-    other = stack.enter_context(Server("-c", "other", table=table(interfaces(0)), datagrams=10 * LONG)).place
-    for place in stack.enter_context(Agent(silent)).place, stack.enter_context(Agent(silent)).place, closed, other:
-        ends[place] = 1, f"Timeout: No Response from {place}."
+    other = stack.enter_context(Server("-c", "other", table=table(interfaces(0)), datagrams=10 * LONG)).address
+    for address in (stack.enter_context(Agent(silent)).address, stack.enter_context(Agent(silent)).address, closed,
+                    other):
+        ends[address] = 1, f"Timeout: No Response from {address}."
     ends["a..b"] = 1, "The link failed."
     for _ in range(2):
-        ends[stack.enter_context(Agent(failing(5, 1))).place] = 2, "Error in packet: genErr (5), index 1"
+        ends[stack.enter_context(Agent(failing(5, 1))).address] = 2, "Error in packet: genErr (5), index 1"
     for port in 7, 8:
         held = {ROWS_OF_INTERFACES + (column, row): ("2", row, f"INTEGER: {row}") for column in (2, 10)
                 for row in range(1, 25 + port)}
         agent = BreakingOff({name: integer(value) for name, (_, value, _) in held.items()})
-        breaking[stack.enter_context(Agent(agent)).place] = agent, held
+        breaking[stack.enter_context(Agent(agent)).address] = agent, held
     return Fleet(rows, ends, breaking)
 
 
@@ -141,7 +142,7 @@ class Folder:
         """Runs commands, which must end with status 0 and no message. A reply has twice the page's second to come, as
         this machine has the agents' work too."""
         commands = commands.replace(" -t 1 ", " -t 2 ")
-        ran = programs.ran(["bash", "-e", "-c", commands], LONG, cwd=self.path, env=self.environment)
+        ran = programs.run_command(["bash", "-e", "-c", commands], LONG, cwd=self.path, env=self.environment)
         self.said = ran.output
         return differs((ran.status, ran.messages), (0, ""))
 
@@ -159,39 +160,42 @@ class Folder:
         lines = [line.split(" ", 2) for line in self.text(name).splitlines()]
         return sorted((device, (int(status), message)) for status, device, message in lines)
 
-    def silent(self, places):
-        return {place: (1, f"Timeout: No Response from {place}.") for place in places}
+    def silent(self, addresses):
+        return {address: (1, f"Timeout: No Response from {address}.") for address in addresses}
 
-    def files(self, places):
+    def files(self, addresses):
         """What differs between the files of these devices and their tables."""
-        rows = {**self.fleet.rows, **{place: held for place, (_, held) in self.fleet.breaking.items()}}
-        return [differs((place, self.text(f"out/{place}")), (place, printed(rows[place]))) for place in places]
+        rows = {**self.fleet.rows, **{address: held for address, (_, held) in self.fleet.breaking.items()}}
+        return [differs((address, self.text(f"out/{address}")), (address, walk_output(rows[address])))
+                for address in addresses]
 
     def lines(self, root, mark):
         """What a walk of all devices prints, each line with its device before it, in order of texts; and its
         messages."""
-        rows = {**self.fleet.rows, **{place: held for place, (_, held) in self.fleet.breaking.items()}}
-        lines = [f"{place}{mark}{line}" for place, held in rows.items() for line in printed(held, root).splitlines()]
-        return sorted(lines), sorted(f"{place}{mark}{said}" for place, (_, said) in self.fleet.failing.items())
+        rows = {**self.fleet.rows, **{address: held for address, (_, held) in self.fleet.breaking.items()}}
+        lines = [f"{address}{mark}{line}" for address, held in rows.items()
+                 for line in walk_output(held, root).splitlines()]
+        return sorted(lines), sorted(f"{address}{mark}{said}" for address, (_, said) in self.fleet.failing.items())
 
 
 # Each returns what is wrong with a block, and with what it left.
 
 def the_devices(folder, block):
-    places = [*folder.fleet.rows, *folder.fleet.failing, *folder.fleet.breaking]
-    remarks = ["", "  # first floor", " "] * len(places)
-    folder.write("inventory.txt", "# devices\n\n" + "".join(f"{it}{remark}\n" for it, remark in zip(places, remarks)))
-    return [folder.run(block), differs(folder.text("devices.txt").splitlines(), places)]
+    addresses = [*folder.fleet.rows, *folder.fleet.failing, *folder.fleet.breaking]
+    remarks = ["", "  # first floor", " "] * len(addresses)
+    folder.write("inventory.txt", "# devices\n\n" + "".join(f"{it}{remark}\n"
+                                                             for it, remark in zip(addresses, remarks)))
+    return [folder.run(block), differs(folder.text("devices.txt").splitlines(), addresses)]
 
 
 def files_of_devices(folder, block):
-    wrong = [*starved(folder, block), folder.run(block)]
-    wanted = {**{place: (0, "") for place in folder.fleet.rows}, **folder.fleet.failing,
+    wrong = [*files_after_starvation(folder, block), folder.run(block)]
+    wanted = {**{address: (0, "") for address in folder.fleet.rows}, **folder.fleet.failing,
               **folder.silent(folder.fleet.breaking)}
     return [*wrong, differs(folder.ends("statuses"), sorted(wanted.items())), *folder.files(folder.fleet.rows)]
 
 
-def starved(folder, block):
+def files_after_starvation(folder, block):
     """Over the agents that serve, with descriptors and memory taken from some runs: each of these is among the
     failures, the other files are whole, and the second round completes the list."""
     rows, whole = folder.fleet.rows, f"{folder.path}/bin/snmp"
@@ -203,17 +207,17 @@ case "$*" in
 esac
 exec "{whole}.whole" "$@"
 """)
-    folder.write("served.txt", "".join(f"{place}\n" for place in rows))
+    folder.write("served.txt", "".join(f"{address}\n" for address in rows))
     wrong = [folder.run(block.replace("devices.txt", "served.txt"))]
     ends = folder.ends("statuses")
-    wrong.append(differs([place for place, _ in ends], sorted(rows)))
-    for place, (status, _) in ends:
-        starved = place[-1] in "0123456"
-        wrong.append(differs((place, status != 0, folder.text(f"out/{place}")),
-                             (place, starved, "" if starved else printed(rows[place]))))
+    wrong.append(differs([address for address, _ in ends], sorted(rows)))
+    for address, (status, _) in ends:
+        starved = address[-1] in "0123456"
+        wrong.append(differs((address, status != 0, folder.text(f"out/{address}")),
+                             (address, starved, "" if starved else walk_output(rows[address]))))
     os.rename(f"{whole}.whole", whole)
     wrong += [folder.run(again) for heading in ("What failed", "A second round") for again in blocks()[heading]]
-    failed = [place for place, (status, _) in ends if status]
+    failed = [address for address, (status, _) in ends if status]
     return [*wrong, differs(sorted(folder.text("again.txt").split()), failed), differs(folder.text("failures"), ""),
             *folder.files(rows)]
 
@@ -233,7 +237,7 @@ def second_round(folder, block):
     breaking.replies_to(1)
     wrong = [folder.run(block), differs(folder.ends("failures"),
                                         sorted({**folder.fleet.failing, **folder.silent([second])}.items()))]
-    part = "".join(printed(held).splitlines(True)[:25])
+    part = "".join(walk_output(held).splitlines(True)[:25])
     return [*wrong, *folder.files([*folder.fleet.rows, first]), differs(folder.text(f"out/{second}"), part)]
 
 
@@ -270,7 +274,7 @@ def by_parallel(folder, block):
     listed = sorted((line.split()[-2].strip("'"), line.split()[0]) for line in folder.said.splitlines()
                     if " snmp " in line)
     return [wrong, differs(sorted(folder.text("tagged.txt").splitlines()), lines), differs(messages(folder), said),
-            differs(listed, sorted((place, str(status)) for place, (status, _) in folder.fleet.failing.items()))]
+            differs(listed, sorted((address, str(status)) for address, (status, _) in folder.fleet.failing.items()))]
 
 
 def over_machines(folder, block):
@@ -324,12 +328,13 @@ def for_a_collector(folder, block):
     wrong = folder.run(block)
     points = [re.fullmatch(r"(interface,agent=\S+,index=\d+ in_octets=\d+i) (\d{10})0{9}", line)
               for line in folder.text("points.txt").splitlines()]
-    rows = {**folder.fleet.rows, **{place: held for place, (_, held) in folder.fleet.breaking.items()}}
-    wanted = [f"interface,agent={place},index={name[-1]} in_octets={value}i" for place, held in rows.items()
+    rows = {**folder.fleet.rows, **{address: held for address, (_, held) in folder.fleet.breaking.items()}}
+    wanted = [f"interface,agent={address},index={name[-1]} in_octets={value}i" for address, held in rows.items()
               for name, (_, value, _) in held.items() if name[:-1] == RECEIVED]
     return [wrong, differs(sorted(point[1] for point in points), sorted(wanted)),
             differs([point[0] for point in points if not begun <= int(point[2]) <= time.time()], []),
-            differs(messages(folder), sorted(f"{place} {said}" for place, (_, said) in folder.fleet.failing.items()))]
+            differs(messages(folder), sorted(f"{address} {said}"
+                                             for address, (_, said) in folder.fleet.failing.items()))]
 
 
 def for_prometheus(folder, block):
@@ -371,13 +376,13 @@ def main(words=()):
         return counts.end()
     if chosen(SHAPE):
         shape = {heading: len(listed) for heading, listed in page.items()}
-        counts.found(SHAPE, differs(shape, {heading: len(tests) for heading, tests in TESTS.items()}))
+        counts.record(SHAPE, differs(shape, {heading: len(tests) for heading, tests in TESTS.items()}))
     last = max([at for at, heading in enumerate(headings) if chosen(heading)], default=-1)
     with contextlib.ExitStack() as stack:
         try:
             folder = Folder(stack.enter_context(tempfile.TemporaryDirectory()), fleet(stack)) if last >= 0 else None
         except Exception:
-            counts.found("the agents that the page's commands ask", traceback.format_exc())
+            counts.record("the agents that the page's commands ask", traceback.format_exc())
             return counts.end()
         for heading, tests in TESTS.items():
             if headings.index(heading) > last:
@@ -387,9 +392,9 @@ def main(words=()):
                     counts.left_out(heading, lacks_parallel(), len(tests))
                 continue
             for block, test in zip(page.get(heading, []), tests):
-                wrong = tried(lambda test=test, block=block: wrongs(*test(folder, block)))
+                wrong = try_test(lambda test=test, block=block: wrongs(*test(folder, block)))
                 if chosen(heading):
-                    counts.found(heading, wrong[:5000])
+                    counts.record(heading, wrong[:5000])
     return counts.end()
 
 

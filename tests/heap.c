@@ -1,14 +1,18 @@
 // A heap that refuses memory, for tests/heap.py: LD_PRELOAD=heap.so PROGRAM WORD..
 //
-// The program is run by its words again and again: its i-th request for memory is refused alone, and then with all
-// later ones, for i from 1 until a run asks for fewer, so that none is refused. Each answer is printed once: which
-// requests were refused (`none`, one `alone`, or one and `later` ones), how often it came, the first and the last i of
-// it, the status (128 and more for a signal), how many blocks were kept at the end, how many requests came between two
-// of MARK octets, -1 where there weren't two, and what was written to output and error output, in hexadecimal, `-` for
-// nothing.
+// Runs the program again and again with the same arguments. In the first series of runs it refuses only the i-th
+// request for memory, in the second the i-th and all later ones. In both, i counts from 1 until a run makes fewer
+// requests than that. Then it prints a line for each different answer of the program:
 //
-// Built with -DCOUNTS it refuses nothing, and the program is run once: as it ends, it is told on error output how often it
-// called recvfrom and sendto, and how many requests came from the first to the last of these.
+// - which requests were refused: `none`, only one (`alone`), or one and all `later` ones;
+// - the number of runs with this answer, and the first and the last i of these;
+// - the status of the program, or 128 plus the number of the signal that ended it;
+// - the number of blocks that weren't freed;
+// - the number of requests between two requests of MARK octets, or -1 unless there were exactly two of these;
+// - the output and the error output in hexadecimal, or `-` if there was none.
+//
+// Built with -DCOUNTS, it refuses nothing, and the program runs once. At its end a line on error output says how many
+// requests for memory came between the first and the last call of recvfrom or sendto, and the number of these calls.
 #define _GNU_SOURCE
 #include <dlfcn.h>
 #include <stddef.h>
@@ -24,15 +28,15 @@ void *__libc_malloc(size_t size);
 void *__libc_realloc(void *block, size_t size);
 void __libc_free(void *block);
 
-// What a wrong program does where it is refused memory.
+// What a wrong program of tests/wrong.c does when a request is refused.
 #ifndef ON_REFUSAL
 #define ON_REFUSAL
 #endif
 
-// A size that only marks in heap_checks ask for.
+// The size of the requests by which heap_checks marks two points of its run. It makes no other request of this size.
 #define MARK 77777
 
-// What a run and this share.
+// In memory that all runs share: the numbers of the requests to refuse, and what is counted in a run.
 static struct run {
     unsigned long first, last, asked, refused, marks, marked;
     long kept, between;
@@ -127,8 +131,8 @@ static void note(struct answer *got) {
     answers[i].to = got->to;
 }
 
-// One run, with the requests from `first` to `last` refused; whether any was. It returns in the run itself too, by -1,
-// which then goes on to the program's `main`.
+// Runs the program once, in a child, and refuses its requests from `first` to `last`. Returns whether any was refused.
+// In the child it returns -1, and `begin` then lets the program's `main` start.
 static int goes_on(int files[2], unsigned long first, unsigned long last) {
     struct answer got = {.from = first, .to = first};
     *run = (struct run){.first = first, .last = last, .between = -1};

@@ -22,8 +22,8 @@ import sys
 from lib import programs
 from lib.commands import lacks_compiler
 from lib.heaps import Heap
-from lib.messages import (BULK, GET, NEXT, NULL, RESPONSE, SET, asking, element, integer, message, read, replied,
-                          served, text)
+from lib.messages import (BULK, GET, NEXT, NULL, RESPONSE, SET, asking, element, integer, message, read, reply_from,
+                          reply_within, text)
 from lib.ports import over_free_port
 from lib.rows import AGENT_ROWS, E, NO_LINK, NO_MEMORY, OBJECTS, R, ROOT, WARNINGS
 from lib.runner import Tests, differs, wrongs
@@ -35,7 +35,7 @@ test = tests.test
 heap = Heap()
 
 
-def judged(words, is_whole, is_refused, keeps=False, spared=0, between=-1):
+def judge(words, is_whole, is_refused, keeps=False, spared=0, between=-1):
     """What is wrong with the answers of a program, whose status, output and messages these are told; the second is told
     first whether one request was refused `alone`, or `later` ones too. Where requests are spared, none of the last, so
     many at least, ends it alone: until then it is refused, but for one request perhaps of those for its words. Where it
@@ -79,38 +79,38 @@ NAMES = [E + (1, i, 0) for i in (4, 5, 6)]
 ASKED = message(GET, 1, [(name, NULL) for name in NAMES])
 
 
-def shown(rows):
+def reply_text(rows):
     """The reply to ASKED over these rows, as a text."""
-    return served(rows, read(ASKED)).decode(errors="replace")
+    return reply_from(rows, read(ASKED)).decode(errors="replace")
 
 
-def checked(title, check, a, b, whole, **how_many):
+def check_call(title, check, a, b, whole, **how_many):
     """What is wrong with a check of heap_checks, whose whole answer this is."""
     files = [heap.put(f"{title.replace(' ', '_')}.{i}", octets) for i, octets in enumerate([a, b])]
     refused = {"alone": [(1, "", "")], "later": [(1, "", ""), (3, "", "")]}
-    return judged([programs.CHECKS, check, *files], lambda *answer: answer == (0, whole, ""),
+    return judge([programs.CHECKS, check, *files], lambda *answer: answer == (0, whole, ""),
                   lambda how, *answer: answer in refused[how], **how_many)
 
 
 def calls(title, check, a, b, whole, **how_many):
     @test(f"{title}, with each request for memory refused")
     def it():
-        return checked(title, check, a, b, whole, **how_many)
+        return check_call(title, check, a, b, whole, **how_many)
 
 
 def free_calls(title, check, a, b, whole):
     @test(f"{title} asks for no memory")
     def it():
-        return checked(title, check, a, b, whole, between=0)
+        return check_call(title, check, a, b, whole, between=0)
 
 
 calls("Value::from_ref", "values",
       message(RESPONSE, 1, [((1, 3, 6), text(b"wes")), ((1, 3, 7), element(0x44, b"\1\2"))]), b"",
       ".1.3.6\n.1.3.7\n")
-calls("Table::read", "table", TABLE, ASKED, shown(ROWS))
+calls("Table::read", "table", TABLE, ASKED, reply_text(ROWS))
 LINES = TABLE.splitlines(keepends=True)
 calls("Table::read in no order", "table", b"".join(LINES[i * 121 % len(LINES)] for i in range(len(LINES))), ASKED,
-      shown(ROWS))
+      reply_text(ROWS))
 # Rows in order, and among them as many in no order as tell that rows are gathered from then on: more of these, the last
 # of all, long ones, and an object. One request that is refused while rows are gathered doesn't end the reading.
 GATHERED = {E + (1, 2 * at, 0): b"%d" % at for at in range(10000)}
@@ -119,24 +119,24 @@ GATHERED |= {E + (1, 20000, 0): b"last"} | {E + (1, at, 1): b"a long one" * 6 fo
 NO_ORDER = [f"{dotted(name)}|4|{string.decode()}\n" for name, string in GATHERED.items()]
 NO_ORDER.insert(-9, f"object {dotted(E)}.2\n")
 calls("Table::read of rows that are gathered", "table", "".join(NO_ORDER).encode(), ASKED,
-      shown({name: text(string) for name, string in GATHERED.items()}), spared=20)
+      reply_text({name: text(string) for name, string in GATHERED.items()}), spared=20)
 calls("Table::read of a name that is gathered twice", "double", "".join(NO_ORDER + NO_ORDER[10450:10451]).encode(), b"",
       f".{len(NO_ORDER) + 1}\n", spared=20)
-calls("Table::read_with", "table_with", b"#snmptab 2\n" + TABLE, ASKED, shown(ROWS))
-calls("Table::put", "put", TABLE, ASKED, shown({**ROWS, E + (1, 5, 0): text(b"sextet")}))
+calls("Table::read_with", "table_with", b"#snmptab 2\n" + TABLE, ASKED, reply_text(ROWS))
+calls("Table::put", "put", TABLE, ASKED, reply_text({**ROWS, E + (1, 5, 0): text(b"sextet")}))
 IN_PLACE = TABLE + b".1.3.6.1.4.1.32473.1.5.0|2|1"
-calls("Table::put in place of a value", "put", IN_PLACE, ASKED, shown({**ROWS, E + (1, 5, 0): text(b"sextet")}))
+calls("Table::put in place of a value", "put", IN_PLACE, ASKED, reply_text({**ROWS, E + (1, 5, 0): text(b"sextet")}))
 # Its row, of 60 octets, doesn't stand in the table's.
 LONG = b"a string of 43 octets, more than in a place"
-calls("Table::put of a long value", "put_long", TABLE, ASKED, shown({**ROWS, E + (1, 5, 0): text(LONG)}))
+calls("Table::put of a long value", "put_long", TABLE, ASKED, reply_text({**ROWS, E + (1, 5, 0): text(LONG)}))
 calls("Table::put of a long value in place of another", "put_long", IN_PLACE, ASKED,
-      shown({**ROWS, E + (1, 5, 0): text(LONG)}))
+      reply_text({**ROWS, E + (1, 5, 0): text(LONG)}))
 
 
-GIVEN = "".join(f"{dotted(name)}\n{name[-2]}\n" for name in ROWS)
-calls("run_walk by GetNext", "walk", TABLE, f"{dotted(E)}.1".encode(), GIVEN, spared=10)
-calls("run_walk by GetBulk", "bulk_walk", TABLE, f"{dotted(E)}.1".encode(), GIVEN, spared=5)
-calls("MemoryLink::reserve", "reserved", TABLE, f"{dotted(E)}.1".encode(), GIVEN, spared=2)
+WALKED = "".join(f"{dotted(name)}\n{name[-2]}\n" for name in ROWS)
+calls("run_walk by GetNext", "walk", TABLE, f"{dotted(E)}.1".encode(), WALKED, spared=10)
+calls("run_walk by GetBulk", "bulk_walk", TABLE, f"{dotted(E)}.1".encode(), WALKED, spared=5)
+calls("MemoryLink::reserve", "reserved", TABLE, f"{dotted(E)}.1".encode(), WALKED, spared=2)
 LABELS = """TINY-SMI enterprises private internet TINY-MIB tiny Mac tinyState tinyTable tinyEntry TinyEntry tinyName
 tinyMac tinyKeyTable tinyKeyEntry TinyKeyEntry tinyKeyUse loopA loopB
 """
@@ -187,14 +187,15 @@ for title, request in {
         "answer to a request of 20,000 octets": asking(20000, BULK, NAMES * 10, 20, 9),
         "answer to no message": NO_MESSAGE}.items():
     free_calls(title, "free_answer", FREE_TABLE, request, "" if request == NO_MESSAGE else
-               replied(FREE, read(request), 1472).decode(errors="replace"))
+               reply_within(FREE, read(request), 1472).decode(errors="replace"))
 # Of three pages one loses all of its rows, and each other all but one.
 IN_BULK = message(BULK, 1, [(E, NULL)], 0, 10)
 free_calls("Table::remove", "free_remove", "".join(f"{dotted(E)}.1.{i}.0|2|{i}\n" for i in range(1, 301)).encode(),
-           IN_BULK, served({E + (1, i, 0): integer(i) for i in (150, 300)}, read(IN_BULK)).decode(errors="replace"))
-free_calls("run_walk by GetNext over a link with memory reserved", "free_walk", TABLE, f"{dotted(E)}.1".encode(), GIVEN)
+           IN_BULK, reply_from({E + (1, i, 0): integer(i) for i in (150, 300)}, read(IN_BULK)).decode(errors="replace"))
+free_calls("run_walk by GetNext over a link with memory reserved", "free_walk", TABLE, f"{dotted(E)}.1".encode(),
+           WALKED)
 free_calls("run_walk by GetBulk over a link with memory reserved", "free_bulk_walk", TABLE, f"{dotted(E)}.1".encode(),
-           GIVEN)
+           WALKED)
 free_calls("run_get over a link with memory reserved", "free_get", TABLE, b"",
            "".join(f"{dotted(name)}\n{shown}" for name, shown in zip(NAMES, ["4\n", "", "6\n"])))
 # The first nodes are roots, which no module defines.
@@ -238,14 +239,15 @@ def serving_is_free():
     before = ["sh", "-c", 'cd "$0" && LD_PRELOAD=./heap.so exec "$@"', counting.folder.name]
     with Server("--turns", str(2 * len(requests) + 10), before=before) as server:
         for request in requests:
-            right = [] if request in dropped else [replied(AGENT_ROWS, read(request), 1472, OBJECTS)]
+            right = [] if request in dropped else [reply_within(AGENT_ROWS, read(request), 1472, OBJECTS)]
             wrong.append(differs(server.ask(request), right))
-        ended = server.end()
-    counted = re.fullmatch(r"(\d+) requests in (\d+) calls\n", ended.messages)
+        outcome = server.end()
+    counted = re.fullmatch(r"(\d+) requests in (\d+) calls\n", outcome.messages)
     if counted is None:
-        return wrongs(*wrong, repr(ended))
+        return wrongs(*wrong, repr(outcome))
     asked, called = map(int, counted.groups())
-    return wrongs(*wrong, differs((ended.status, asked), (0, 0)), "" if called > 4 * len(requests) else f"{called} calls")
+    return wrongs(*wrong, differs((outcome.status, asked), (0, 0)),
+                  "" if called > 4 * len(requests) else f"{called} calls")
 
 
 # -- the tools
@@ -262,11 +264,11 @@ def refused_in(words, output, messages, status, files):
         path = heap.put(f"{name}.{hashlib.sha256(octets).hexdigest()[:16]}", octets)
         line, said = line.replace(name, path), said.replace(name, path)
     line = [programs.PROGRAM, *line.split(" ")]
-    whole = programs.ran(line, cwd=heap.folder.name)
+    whole = programs.run_command(line, cwd=heap.folder.name)
     wrong = differs(whole, (status, whole.output if output is None else output, said))
     warnings = WARNINGS if messages.startswith(WARNINGS) else ""
     # The status of an agent's error stays where its message can't be made.
-    return wrong or judged(line, lambda *answer: answer == whole, lambda _, ended, wrote, said: (
+    return wrong or judge(line, lambda *answer: answer == whole, lambda _, ended, wrote, said: (
         ended in (1, status or 1) and whole.output.startswith(wrote) and wrote[-1:] in ("", "\n")
         and said in (NO_MEMORY, warnings + NO_MEMORY)))
 
@@ -297,7 +299,7 @@ def over_udp():
     # Each of several hundred runs walks the table.
     with Server(table=THREE.decode(), datagrams=20000) as server:
         # The system's own calls take memory too, and may keep it.
-        return judged([programs.PROGRAM, "snmpwalk", "-On", "-t4", server.place, ROOT],
+        return judge([programs.PROGRAM, "snmpwalk", "-On", "-t4", server.address, ROOT],
                       lambda *answer: answer == (0, whole, ""),
                       lambda _, status, wrote, said: (
                           status == 1 and whole.startswith(wrote) and wrote[-1:] in ("", "\n")

@@ -24,7 +24,7 @@ import tempfile
 
 from lib import programs
 from lib.programs import TOP
-from lib.runner import Counts, end_at_signals, tried
+from lib.runner import Counts, end_at_signals, try_test
 
 import module_facts
 import module_texts
@@ -252,23 +252,23 @@ class Titles(Counts):
         super().__init__()
         self.words, self.found_words = [], set()
 
-    def found(self, title, wrong):
+    def record(self, title, wrong):
         words = {word for word in self.words if word in title}
         self.found_words |= words
         if words or not self.words:
-            super().found(title, wrong)
+            super().record(title, wrong)
 
 
 counts = Titles()
 
 
 def check(title, got, wanted):
-    counts.found(title, "" if got == wanted else f"wanted {wanted!r}\n  got    {got!r}")
+    counts.record(title, "" if got == wanted else f"wanted {wanted!r}\n  got    {got!r}")
 
 
 def run(*words):
     """The status of the program, what it wrote and what it said."""
-    return programs.ran([programs.PROGRAM, *words], cwd=TOP)
+    return programs.run_command([programs.PROGRAM, *words], cwd=TOP)
 
 
 def mibs(files):
@@ -311,7 +311,7 @@ def joined():
         shutil.copytree(os.path.join(TOP, "tools"), f"{top}/tools")
 
         def join(*words):
-            return programs.ran([f"{top}/tools/join-modules", *words]).status
+            return programs.run_command([f"{top}/tools/join-modules", *words]).status
         check("modules/all.txt and modules/core.txt are what tools/join-modules makes", join("--check"), 0)
         with open(f"{top}/modules/z.txt", "w", encoding="ascii") as file:
             file.write("Z-MIB DEFINITIONS ::= BEGIN END\n")
@@ -328,7 +328,7 @@ def joined():
 def chosen():
     """Files of just the modules that are needed load without a warning, and show what all modules do."""
     def join(*words):
-        return tuple(programs.ran(["tools/join-modules", *words], cwd=TOP))
+        return tuple(programs.run_command(["tools/join-modules", *words], cwd=TOP))
     with tempfile.TemporaryDirectory() as folder:
         def kept(name, *words):
             status, text, said = join(*words)
@@ -394,7 +394,7 @@ def chosen():
         check(f"no such file, {words}", join(*words, "IF-MIB"),
               (1, "", "join-modules: no.txt: No such file or directory\n"))
     with open("/dev/full", "wb") as full:
-        ran = programs.ran(["tools/join-modules", "IF-MIB"], cwd=TOP, stdout=full)
+        ran = programs.run_command(["tools/join-modules", "IF-MIB"], cwd=TOP, stdout=full)
         check("a full disk", (ran.status, ran.messages), (1, "join-modules: No space left on device\n"))
     check("the help of join-modules", join("--help")[1].startswith("Joins modules to one file, for --mib:\n"), True)
 
@@ -714,7 +714,7 @@ def cure(path, folder):
     """Makes a text of SMIv1 loadable, in this folder."""
     with open(f"{folder}/cured.txt", "wb") as file:
         check(f"sed -E over {os.path.basename(path)}",
-              programs.ran(["sed", "-E", "-e", CURE[0], "-e", CURE[1], path], stdout=file), (0, "", ""))
+              programs.run_command(["sed", "-E", "-e", CURE[0], "-e", CURE[1], path], stdout=file), (0, "", ""))
     return f"{folder}/cured.txt"
 
 
@@ -740,7 +740,7 @@ def captures():
         with tempfile.TemporaryFile() as file:
             file.write(text.encode(encoding))
             file.seek(0)
-            return tuple(programs.ran(["tools/lines-to-table"], cwd=TOP, stdin=file))
+            return tuple(programs.run_command(["tools/lines-to-table"], cwd=TOP, stdin=file))
     lines = run("snmpbulkwalk", "-Onx", "table:examples/switch.tab", ".1")[1]
     table = turn(lines)
     check("a capture from .1 has LLDP", (table[0], "\n1.0.8802." in f"\n{table[1]}", table[2]), (0, True, ""))
@@ -783,9 +783,9 @@ def main(words):
     for part, *given in ((joined,), (texts, world, files), (indexes, world), (hints, world), (facts, world, words.root),
                          (loads, files), (walks, files), (devices,), (translations, files), (beside,)):
         # A part that breaks off is a failure, whatever the words are.
-        wrong = tried(lambda part=part, given=given: part(*given))
+        wrong = try_test(lambda part=part, given=given: part(*given))
         if wrong:
-            Counts.found(counts, part.__name__, wrong)
+            Counts.record(counts, part.__name__, wrong)
     unknown = [word for word in counts.words if word not in counts.found_words]
     if unknown:
         print(f"tests/modules.py: no test here has {unknown[0]!r} in its title", file=sys.stderr)

@@ -1,11 +1,11 @@
 #!/usr/bin/env python3
-"""Compares walks of the built program over random tables with a plain reading of what it should print.
+"""Runs walks of the built program over random tables, and compares what they print with what a simple model computes.
 
 usage: random_walks.py RUNS [SEED] [WORD..]
 
-It knows nothing of the program's code: tables, order, walks and lines are written anew here from
-docs/REFERENCE.md. A run's title is `run N of seed S: ` with its words; those run whose titles have one of the
-words given. The last line is 'N passed, M failed, K skipped'.
+The model shares no code with the program: it follows docs/PROFILE.md for tables, their order, walks and lines. The
+title of a run is `run N of seed S: ` and the run's arguments. If there are words, only those runs are made whose titles
+contain one of them. The last line is 'N passed, M failed, K skipped'.
 """
 import random
 import sys
@@ -17,6 +17,7 @@ from lib.texts import NO_INSTANCE, NO_OBJECT, dotted, hexadecimal, string, ticks
 
 
 def random_name(rng):
+    """Returns a name of three to six numbers, many of them at the border of an encoding."""
     first = rng.choice([0, 1, 2])
     second = rng.choice([0, 1, 39]) if first < 2 else rng.choice([0, 5, 4294967295])
     numbers = [rng.choice([0, 1, 2, 9, 10, 127, 128, 4294967295]) for _ in range(rng.randint(1, 4))]
@@ -24,7 +25,7 @@ def random_name(rng):
 
 
 def random_value(rng):
-    """A tag and value as a line of a table file states them, and the text that a walk prints."""
+    """Returns a random value twice: as the tag and value of a line of a table file, and as a walk prints it."""
     kind = rng.choice(["integer", "text", "octets", "identifier", "address", "opaque", "unsigned", "counter64"])
     if kind == "integer":
         n = rng.choice([-2147483648, -129, -1, 0, 1, 127, 128, 2147483647])
@@ -54,12 +55,13 @@ def random_value(rng):
 
 
 def random_table(rng):
+    """Returns the rows of a random table, its object prefixes, and its file, whose lines are in random order."""
     rows, objects, lines = {}, [], []
     for _ in range(rng.choice([0, 1, 3, 12, 40])):
         name = random_name(rng)
         if name not in rows:
-            stated, rows[name] = random_value(rng)
-            lines.append(f"{dotted(name)[rng.randint(0, 1):]}|{stated}")
+            field, rows[name] = random_value(rng)
+            lines.append(f"{dotted(name)[rng.randint(0, 1):]}|{field}")
     for _ in range(rng.randint(0, 2)):
         objects.append(random_name(rng)[:rng.randint(1, 3)])
         lines.append("object " + dotted(objects[-1]))
@@ -68,35 +70,37 @@ def random_table(rng):
     return rows, objects, rng.choice(["\n", "\r\n"]).join(lines)
 
 
-def got(rows, objects, name):
+def get(rows, objects, name):
+    """Returns what a Get of the name prints as its value."""
     if name in rows:
         return rows[name]
     return NO_INSTANCE if any(name[:len(it)] == it for it in objects) else NO_OBJECT
 
 
 def wire(name):
+    """Returns the name as it is sent: padded with zeros to two numbers."""
     return name + (0,) * (2 - len(name))
 
 
 def walk(rows, objects, root, mode):
-    """The bindings of a walk that isn't resumed: with -Ci, with -CI, or plain."""
+    """Returns the bindings of a walk without --after. The mode is 'i' for -Ci, 'I' for -CI, or empty."""
     below = sorted(name for name in rows if len(name) > len(root) and name[:len(root)] == root)
-    given = [(name, rows[name]) for name in below]
+    found = [(name, rows[name]) for name in below]
     if mode == "i":
         own = [(name, rows[name]) for name in rows if name == wire(root)]
-        return own + given
-    if mode == "I" or given:
-        return given
-    return [(wire(root), got(rows, objects, wire(root)))]
+        return own + found
+    if mode == "I" or found:
+        return found
+    return [(wire(root), get(rows, objects, wire(root)))]
 
 
 def rest(rows, root, after):
-    """The bindings of a walk that goes on after a name."""
+    """Returns the bindings of a walk that continues after a name."""
     return [it for it in walk(rows, [], root, "I") if it[0] > wire(after)]
 
 
 def random_walk(rng, rows, objects):
-    """The words of a walk, and the bindings that it has to print."""
+    """Returns the arguments of a random walk of the table, and what it has to print."""
     names = list(rows) or [(1, 3, 6)]
     root = rng.choice([rng.choice(names)[:rng.randint(0, 4)], random_name(rng)])
     command = rng.choice(["snmpwalk", "snmpbulkwalk"])
@@ -118,7 +122,7 @@ def random_walk(rng, rows, objects):
 
 
 def one_run(rng):
-    """A run's table as a file states it, its words, and what it has to print."""
+    """Returns a random table file, the arguments of a walk, and what the walk has to print."""
     rows, objects, text = random_table(rng)
     return (text, *random_walk(rng, rows, objects))
 
@@ -143,9 +147,9 @@ def main(words):
             if chosen(title):
                 with open(f"{folder}/t.tab", "w", newline="", encoding="ascii") as file:
                     file.write(text)
-                ran = programs.ran([programs.PROGRAM, *words], cwd=folder)
+                ran = programs.run_command([programs.PROGRAM, *words], cwd=folder)
                 wrong = differs(ran, (0, lines, ""))
-                counts.found(title, wrong and f"{wrong}\n  over\n{text}")
+                counts.record(title, wrong and f"{wrong}\n  over\n{text}")
     return counts.end()
 
 

@@ -1,12 +1,12 @@
 #!/usr/bin/env python3
-"""Runs what users meet around the program: ./snmp of a fresh clone, the default port, addresses of IPv6, devices that
-reply from another address, an agent under many walkers, a terminal, other locales, byte-order marks, and files that
-the shell substitutes.
+"""Tests what users meet around the program: ./snmp in a fresh clone, the default port, addresses of IPv6, devices that
+reply from another address, an agent with many walkers, a terminal, other locales, byte-order marks, and files that the
+shell substitutes.
 
 usage: users.py [WORD..]
 
-Tests run whose titles have one of the words; without words, all. What this machine has no means for is named, and not
-tried. The last line is 'N passed, M failed, K skipped'.
+Runs the tests whose titles contain one of the words, or all tests if there are no words. A test that can't run on this
+machine is skipped, and the reason is printed. The last line is 'N passed, M failed, K skipped'.
 """
 import os
 import pty
@@ -19,23 +19,22 @@ import termios
 import threading
 
 from lib import pipes, programs
-from lib.agents import Agent, serving
-from lib.commands import fails, lacks, lacks_networks
-from lib.messages import nexts, served, text
-from lib.programs import TOP, ran, run, start
-from lib.rows import E, FIRST, LINES, NAMES, NO_LINK, R, ROOT, ROWS, SECOND, SILENT, TABLE, THIRD, lines_of, stated
+from lib.agents import Agent
+from lib.commands import lacks, lacks_networks
+from lib.messages import nexts, reply_from, text
+from lib.programs import TOP, run, run_command, start
+from lib.rows import FIRST, LINES, NAMES, NO_LINK, R, ROOT, ROWS, SECOND, SILENT, TABLE, THIRD, lines_of, table_text
 from lib.runner import Tests, differs, sent_not, wrongs
 from lib.server import Server
-from lib.texts import dotted
 
 tests = Tests("tests/users.py")
 test = tests.test
 COMMANDS = "snmp", "snmptranslate", "snmpget", "snmpwalk", "snmpbulkwalk", "snmpd"
 
 
-# -- ./snmp of a clone, with a stand-in for the program and no toolchain
+# -- ./snmp in a clone, with a stand-in for the program and no toolchain
 
-# Where the commands of a system are, but not rt.
+# The PATH of these tests: it has the system's commands, but not rt.
 SYSTEM = "/usr/bin:/bin"
 LACKS_NOTHING = lacks("bash", "readlink") or ("rt is among the system's commands here"
                                               if shutil.which("rt", path=SYSTEM) else "")
@@ -45,7 +44,7 @@ STAND_IN = '#!/bin/sh\nprintf "%s|" "$PWD" "$@"\nexit 3\n'
 
 
 class Clone:
-    """A clone in a folder of its own, whose name has a blank and letters beyond ASCII, with links to its ./snmp."""
+    """A clone in a temporary folder, with a blank and a letter outside ASCII in its name, and links to its ./snmp."""
 
     def __enter__(self):
         self.room = tempfile.TemporaryDirectory()
@@ -68,38 +67,41 @@ class Clone:
         self.room.cleanup()
 
     def write(self, name, text):
+        """Writes a file of the clone."""
         with open(os.path.join(self.top, name), "w", encoding="utf-8") as file:
             file.write(text)
 
     def build(self):
-        """Puts the stand-in in the program's place, as one that was built from the sources."""
+        """Writes the stand-in to the path of the program, with the note that it was built from the sources."""
         program = os.path.join(self.top, "crates/snmp/out/snmp")
         os.makedirs(os.path.dirname(program), exist_ok=True)
         self.write("crates/snmp/out/snmp", STAND_IN)
         os.chmod(program, 0o755)
         asks = os.path.join(self.top, "tests/is-current")
-        sources = ran([asks, "--sources", program]).output.strip()
-        return ran([asks, "--built", program, sources])
+        sources = run_command([asks, "--sources", program]).output.strip()
+        return run_command([asks, "--built", program, sources])
 
     def ways(self):
-        """The folders and the words by which a user runs it."""
+        """Returns the ways in which a user can run ./snmp: the current folder and the command of each."""
         there = self.elsewhere
-        return ((self.top, "./snmp"), (there, os.path.join("..", "a clöne", "snmp")), (there, "./link"), (there, "snmp"),
-                ("/", os.path.join(there, "link")))
+        return ((self.top, "./snmp"), (there, os.path.join("..", "a clöne", "snmp")), (there, "./link"),
+                (there, "snmp"), ("/", os.path.join(there, "link")))
 
     def run(self, *words, way=0, path=SYSTEM):
+        """Runs ./snmp in one of these ways, with a folder on PATH that has a link to it."""
         folder, name = self.ways()[way]
-        return ran([name, *words], cwd=folder, env={**os.environ, "PATH": f"{self.elsewhere}/bin:{path}"})
+        return run_command([name, *words], cwd=folder, env={**os.environ, "PATH": f"{self.elsewhere}/bin:{path}"})
 
 
 def in_all_ways(clone, words, wanted):
-    """What is wrong where the words print something else in one of the ways."""
+    """Runs ./snmp with these arguments in each way, and returns what differs from `wanted(folder)`."""
     return wrongs(*(differs((folder, name, *clone.run(*words, way=way)), (folder, name, *wanted(folder)))
                     for way, (folder, name) in enumerate(clone.ways())))
 
 
-# Catches: a link that isn't followed, or but once; the folder of the caller as that of the clone; words that are split.
-@test("./snmp runs the built program from any folder and by links, in the folder and with the words of the caller",
+# Catches: a script that doesn't follow a link, or follows only one; that looks for the clone in the caller's folder;
+# that splits arguments.
+@test("./snmp runs the built program from any folder and through links, in the caller's folder and with its arguments",
       LACKS_NOTHING)
 def current_program():
     with Clone() as clone:
@@ -107,8 +109,9 @@ def current_program():
             clone, ["snmpget", "a b", "", "*"], lambda folder: (3, f"{folder}|snmpget|a b||*|", "")))
 
 
-# Catches: a program that is run though an edit came after it; a message that it isn't built, where it is.
-@test("./snmp of a clone without a toolchain says what is missing, and runs no program of other sources", LACKS_NOTHING)
+# Catches: a script that runs a program though its sources were edited after the build; one that then says that the
+# program isn't built.
+@test("./snmp without a toolchain says what is missing, and runs no program built from other sources", LACKS_NOTHING)
 def no_toolchain():
     with Clone() as clone:
         wrong = [in_all_ways(clone, words, lambda _: (1, "", UNBUILT))
@@ -123,7 +126,7 @@ def no_toolchain():
         return wrongs(*wrong, differs(sorted(os.listdir(clone.elsewhere)), ["bin", "link"]))
 
 
-@test("./snmp of a clone without a toolchain prints the help, of each command too", LACKS_NOTHING)
+@test("./snmp without a toolchain prints the help, also of each command", LACKS_NOTHING)
 def help_without():
     wrong = []
     with Clone() as clone:
@@ -137,20 +140,20 @@ def help_without():
     return wrongs(*wrong)
 
 
-# Catches: a build that goes on where nothing can be kept, and ends by another message.
-@test("./snmp --build in a clone where nothing can be written ends with the reason", LACKS_NOTHING)
+# Catches: a build that continues though it can't create its folder, and ends with another message.
+@test("./snmp --build ends with the reason if it can't write to the clone", LACKS_NOTHING)
 def build_of_nothing():
     with Clone() as clone:
         clone.write("crates/snmp/out", "no folder")
         os.symlink("/bin/false", os.path.join(clone.elsewhere, "bin", "rt"))
-        ended = clone.run("--build")
-        return wrongs(differs(ended[:2], (1, "")), differs(ended.messages.count("\n"), 1),
-                      differs(("mkdir" in ended.messages, "crates/snmp/out" in ended.messages), (True, True)))
+        outcome = clone.run("--build")
+        return wrongs(differs(outcome[:2], (1, "")), differs(outcome.messages.count("\n"), 1),
+                      differs(("mkdir" in outcome.messages, "crates/snmp/out" in outcome.messages), (True, True)))
 
 
 # -- the default port, and addresses
 
-# A network that only these have: its loopback address is up, and ports below 1024 need a right.
+# Sets up a network that only these commands have: its loopback address is up, and ports below 1024 need a right.
 NETWORK = "ip link set lo up || exit 99\necho 1024 >/proc/sys/net/ipv4/ip_unprivileged_port_start || exit 99\n"
 LACKS_PORTS = lacks("ip", "setpriv") or lacks_networks()
 ASKED_AT_161 = NETWORK + """
@@ -164,18 +167,19 @@ kill $!
 
 
 def in_network(script, *words):
-    return ran(["unshare", "-rn", "sh", "-c", script, "-", *words])
+    """Runs a shell script with these arguments in a network of its own."""
+    return run_command(["unshare", "-rn", "sh", "-c", script, "-", *words])
 
 
-# Catches: another default port of one of the two sides; snmpd at all addresses by default.
-@test("without --listen snmpd is at 127.0.0.1:161, which is asked where AGENT has no port", LACKS_PORTS)
+# Catches: another default port of snmpd or of snmpget; an snmpd that listens on all addresses by default.
+@test("snmpd listens on 127.0.0.1:161 by default, and an AGENT without a port is asked at port 161", LACKS_PORTS)
 def default_ports():
     with pipes.file(TABLE.encode()) as table, tempfile.TemporaryDirectory() as room:
         return differs(in_network(ASKED_AT_161, programs.PROGRAM, table, room, f"{ROOT}.1.0"),
                        (0, "listening on 127.0.0.1:161\n" + 3 * FIRST, ""))
 
 
-@test("without the right to port 161 snmpd says that the link failed", LACKS_PORTS)
+@test("snmpd reports that the link failed if it has no right to port 161", LACKS_PORTS)
 def no_right():
     with pipes.file(TABLE.encode()) as table:
         bounded = NETWORK + 'exec setpriv --bounding-set=-all --inh-caps=-all "$@"'
@@ -187,8 +191,8 @@ NO_ADDRESSES = ("[::1]", "[::1]:161", "::1", "fe80::1%eth0", "udp:[::1]", "udp::
                 "udp6:localhost", "tcp:127.0.0.1", "tcp:127.0.0.1:161", "127.0.0.1:snmp")
 
 
-# Catches: [::1] as a name that has no address, which is said otherwise.
-@test("addresses of IPv6 and other transports are no addresses, for each command")
+# Catches: a program that takes [::1] for a host name without an address, for which it has another message.
+@test("each command refuses addresses of IPv6 and of other transports")
 def other_protocols():
     wrong = []
     with pipes.file(TABLE.encode()) as table:
@@ -200,34 +204,34 @@ def other_protocols():
     return wrongs(*wrong)
 
 
-# A device of several addresses: asked at one, it replies from another one, at the same port. Catches: a walk that
-# takes whatever comes to its socket.
-@test("a reply from another address of the device is none, and the one from where it was asked is taken")
+# A device has several addresses. Asked at one of them, it replies from another, with the same port. Catches: a walk
+# that takes whatever arrives at its socket.
+@test("a walk ignores a reply from another address of the device, and takes the one from the address that it asked")
 def replies_from_elsewhere():
     wrong, others = [], {name: text(b"elsewhere") for name in ROWS}
-    for then, wanted in (lambda request: [], None), (lambda request: [served(ROWS, request)], LINES):
+    for then, wanted in (lambda request: [], None), (lambda request: [reply_from(ROWS, request)], LINES):
         def act(seen, then=then):
-            other.sendto(served(others, seen[-1]), agent.senders[-1])
+            other.sendto(reply_from(others, seen[-1]), agent.senders[-1])
             return then(seen[-1])
         with Agent(act, "127.0.0.2") as agent, socket.socket(socket.AF_INET, socket.SOCK_DGRAM) as other:
             other.bind(("127.0.0.3", agent.port))
-            ended = run("snmpwalk", "-On", *(["-t", "1", "-r", "1"] if wanted is None else []), agent.place, ROOT)
-            wrong += [differs(ended, (0, wanted, "") if wanted else (1, "", SILENT.replace("AGENT", agent.place))),
+            outcome = run("snmpwalk", "-On", *(["-t", "1", "-r", "1"] if wanted is None else []), agent.address, ROOT)
+            wrong += [differs(outcome, (0, wanted, "") if wanted else (1, "", SILENT.replace("AGENT", agent.address))),
                       *agent.faults]
     return wrongs(*wrong)
 
 
-# The system replies from the address by which it would ask the walker, 127.0.0.1: docs/HOWTO.md says so.
-@test("snmpd at all addresses, asked at one that the system doesn't reply from, is silent for the walker")
+# The system replies from the address from which it would send to the walker, 127.0.0.1 (docs/HOWTO.md).
+@test("if snmpd listens on all addresses, and the system replies from another than the one asked, snmpget times out")
 def all_addresses():
     with Server(host="0.0.0.0") as server:
         there = f"127.0.0.2:{server.port}"
-        ended = run("snmpget", "-t", "1", "-r", "0", there, f"{ROOT}.1.0")
+        outcome = run("snmpget", "-t", "1", "-r", "0", there, f"{ROOT}.1.0")
         at_one = run("snmpget", "-On", f"127.0.0.1:{server.port}", f"{ROOT}.1.0")
-        return wrongs(differs(ended, (1, "", SILENT.replace("AGENT", there))), differs(at_one, (0, FIRST, "")))
+        return wrongs(differs(outcome, (1, "", SILENT.replace("AGENT", there))), differs(at_one, (0, FIRST, "")))
 
 
-# -- an agent with much to do
+# -- an agent with many walkers
 
 MANY = {R + (i, i % 7): i if i % 3 else f"row {i}" for i in range(1, 400)}
 
@@ -235,16 +239,16 @@ MANY = {R + (i, i % 7): i if i % 3 else f"row {i}" for i in range(1, 400)}
 @test("snmpd replies to 48 walkers at once, and each prints all rows")
 def many_walkers():
     lines = lines_of(MANY)
-    with Server(table=stated(MANY), datagrams=48 * 500) as server:
+    with Server(table=table_text(MANY), datagrams=48 * 500) as server:
         kinds = ["snmpwalk"], ["snmpbulkwalk"], ["snmpbulkwalk", "-Cr1"], ["snmpbulkwalk", "-Cr40"]
-        going = [start(*kinds[i % 4], "-On", "-t", "30", server.place, ROOT) for i in range(48)]
-        return wrongs(*(differs(programs.ended(program), (0, lines, "")) for program in going))
+        going = [start(*kinds[i % 4], "-On", "-t", "30", server.address, ROOT) for i in range(48)]
+        return wrongs(*(differs(programs.finish(program), (0, lines, "")) for program in going))
 
 
 # -- a terminal
 
-# A shell of one job: its session gets the terminal of this name, the job its foreground. It says how that was stopped
-# and ended, and lets it go on.
+# A shell with one job, which runs in the foreground of the terminal at the path in the first argument. It prints when
+# the job is stopped, continues it, and prints how it ended.
 SHELL = """import os, signal, sys
 for door in 0, 1, 2:
     os.dup2(os.open(sys.argv[1], os.O_RDWR), door)
@@ -269,35 +273,37 @@ print("ended by", os.WTERMSIG(status), "with", os.WEXITSTATUS(status), flush=Tru
 
 
 class Terminal:
-    """A terminal on which a program runs, and what it shows."""
+    """A terminal on which a program runs, with all that it has shown."""
 
     def __init__(self, *words):
         self.master, self.slave = pty.openpty()
         self.shown = ""
-        # The terminal's own ends of lines aren't the program's.
+        # The terminal must not change the ends of lines that the program prints.
         self.before = termios.tcgetattr(self.slave)
         self.before[1] &= ~termios.OPOST
         termios.tcsetattr(self.slave, termios.TCSANOW, self.before)
-        self.shell = programs.started([sys.executable, "-c", SHELL, os.ttyname(self.slave), programs.PROGRAM, *words])
+        self.shell = programs.spawn([sys.executable, "-c", SHELL, os.ttyname(self.slave), programs.PROGRAM, *words])
 
     def __enter__(self):
         return self
 
     def until(self, end):
-        """Reads until it shows this."""
+        """Reads until the terminal has shown this text."""
         while end not in self.shown:
             self.more()
 
     def more(self):
+        """Waits until the terminal shows more, and reads it."""
         self.shown += pipes.some(self.master, 1 << 16).decode(errors="surrogateescape")
 
     def to_end(self):
-        """Reads until the job has ended; what was shown."""
+        """Reads until the job has ended. Returns all that was shown."""
         while not re.search(r"ended by \d+ with \d+\n", self.shown):
             self.more()
         return self.shown
 
     def types(self, octets):
+        """Types these keys."""
         os.write(self.master, octets)
 
     def __exit__(self, *_):
@@ -307,8 +313,8 @@ class Terminal:
         os.close(self.slave)
 
 
-# Catches: a program that takes a ^C as the end of its wait; that leaves the terminal otherwise, or a line cut.
-@test("^C on a terminal ends a walk and a Get: their lines are whole, and the terminal as it was")
+# Catches: a program that takes ^C for the end of its wait; that changes the terminal; that leaves a part of a line.
+@test("^C on a terminal ends a walk or a Get, with whole lines and the terminal unchanged")
 def interrupted_by_key():
     wrong = []
     for words, printed in (["snmpwalk", "-On"], FIRST), (["snmpget", "-On"], ""):
@@ -316,10 +322,10 @@ def interrupted_by_key():
 
         def act(seen):
             if printed and len(seen) == 1:
-                return [served(ROWS, seen[-1])]
+                return [reply_from(ROWS, seen[-1])]
             asked.set()
             return []
-        with Agent(act) as agent, Terminal(*words, "-t", "600", agent.place, ROOT) as terminal:
+        with Agent(act) as agent, Terminal(*words, "-t", "600", agent.address, ROOT) as terminal:
             terminal.until(printed)
             asked.wait(programs.PATIENCE)
             terminal.types(b"\x03")
@@ -328,8 +334,8 @@ def interrupted_by_key():
     return wrongs(*wrong)
 
 
-# Catches: a walk that ends, or asks anew, as it goes on.
-@test("^Z on a terminal stops a walk, which goes on in the foreground as if nothing had been")
+# Catches: a walk that ends when it is continued, or sends a request again.
+@test("^Z on a terminal stops a walk, which continues in the foreground as if it hadn't been stopped")
 def stopped_by_key():
     asked, going_on = threading.Event(), threading.Event()
 
@@ -337,8 +343,8 @@ def stopped_by_key():
         if len(seen) == 2:
             asked.set()
             going_on.wait(programs.PATIENCE)
-        return [served(ROWS, seen[-1])]
-    with Agent(act) as agent, Terminal("snmpwalk", "-On", "-t", "600", agent.place, ROOT) as terminal:
+        return [reply_from(ROWS, seen[-1])]
+    with Agent(act) as agent, Terminal("snmpwalk", "-On", "-t", "600", agent.address, ROOT) as terminal:
         try:
             terminal.until(FIRST)
             asked.wait(programs.PATIENCE)
@@ -351,15 +357,15 @@ def stopped_by_key():
                   sent_not(agent.seen, nexts(*NAMES)))
 
 
-# Catches: a string without a hint that is shown as text though a letter of it is none. Those with a hint are as the
-# device gave them, as docs/HOWTO.md says.
-@test("control characters of a device are shown as octets, and by a display hint as they are")
+# Catches: a program that shows a string as text though one of its octets isn't printable. A display hint shows a string
+# as the device sent it (docs/HOWTO.md).
+@test("a string with control characters is shown in hexadecimal, but unchanged if the object has a display hint")
 def control_characters():
     value = "\x1b]0;title\x07\x1b[2J\x9b31m"
     octets = value.encode("latin-1")
     with pipes.file(f"1.3.6.1.2.1.1.1.0|4x|{octets.hex().upper()}\n".encode()) as table:
         name = ".1.3.6.1.2.1.1.1.0"
-        # A line has sixteen of them.
+        # A line has sixteen octets.
         hexed = " \n".join(octets[i:i + 16].hex(" ").upper() for i in range(0, len(octets), 16))
         shown = os.fsdecode(octets)
         core = ["--mib", os.path.join(TOP, "modules/core.txt")]
@@ -368,7 +374,7 @@ def control_characters():
             differs(run("snmpget", "-On", *core, f"table:{table}", name), (0, f"{name} = STRING: {shown}\n", "")))
 
 
-# -- locales, names of files, and byte-order marks
+# -- locales, file names, and byte-order marks
 
 MODULE = """NAMES-MIB DEFINITIONS ::= BEGIN
 names OBJECT IDENTIFIER ::= { iso 3 6 1 4 1 32473 1 }
@@ -378,17 +384,18 @@ END
 
 
 def lacks_latin():
-    """What is missing for a Latin-1 locale."""
+    """Returns what is missing for making a Latin-1 locale, or an empty text."""
     return lacks("localedef") or ("" if os.path.exists("/usr/share/i18n/charmaps/ISO-8859-1.gz") else
                                   "no character map of Latin-1 here")
 
 
-# Catches: names of files, and messages with them, that aren't the octets of the words, or go by the locale.
-@test("names of files in UTF-8 are those octets in each locale, and in Latin-1 are refused in each", lacks_latin())
+# Catches: a program that changes the octets of a file name, in the call that opens the file or in a message, or does so
+# in some locales.
+@test("in each locale a file name in UTF-8 is used unchanged, and one in Latin-1 is refused", lacks_latin())
 def names_of_files():
     wrong, refused = [], (1, "", "error: invalid UTF-8 was detected in one or more arguments\n")
     with tempfile.TemporaryDirectory() as room:
-        ran(["localedef", "-i", "de_DE", "-f", "ISO-8859-1", f"{room}/de_DE"])
+        run_command(["localedef", "-i", "de_DE", "-f", "ISO-8859-1", f"{room}/de_DE"])
         wrong.append(differs(os.path.isdir(f"{room}/de_DE"), True))
         for locale in ({"LC_ALL": "C"}, {"LC_ALL": "C.UTF-8"}, {"LC_ALL": "de_DE", "LOCPATH": room}):
             for encoding in "utf-8", "latin-1":
@@ -412,12 +419,12 @@ def names_of_files():
     return wrongs(*wrong)
 
 
-# Catches: a mark that is skipped in one of them alone; a message that names another line.
-@test("a byte-order mark before a module, a table or a name is refused in the first line")
+# Catches: a program that skips the mark in one of these; a message that names another line than the first.
+@test("a byte-order mark at the start of a module, a table or a name is refused")
 def byte_order_marks():
     mark = b"\xef\xbb\xbf"
     wrong = []
-    for rows, fault in (TABLE, "bad line"), (stated({R + (1, 0): 1}), "bad name"):
+    for rows, fault in (TABLE, "bad line"), (table_text({R + (1, 0): 1}), "bad name"):
         with pipes.file(mark + rows.encode()) as table:
             wrong.append(differs(run("snmpget", f"table:{table}", ROOT), (1, "", f"{table}:1: {fault}\n")))
     with pipes.file(mark + MODULE.encode()) as module:
@@ -427,13 +434,13 @@ def byte_order_marks():
             differs(run("snmpget", "-r", "0", "\ufeff127.0.0.1", ROOT), (1, "", NO_LINK)))
 
 
-# Catches: a module or a table that is read twice, or asked for its size first.
-@test("a module and a table may come by the shell's <(..)", lacks("bash"))
+# Catches: a program that reads a module or a table twice, or asks for its size first.
+@test("a module or a table can be passed as the shell's <(..)", lacks("bash"))
 def substituted_files():
     modules = os.path.join(TOP, "modules/core.txt")
     with pipes.file(TABLE.encode()) as table:
-        return wrongs(*(differs(ran(["bash", "-c", f'"$1" {words}', "-", programs.PROGRAM, file]), (0, wanted, ""))
-                        for words, file, wanted in (
+        return wrongs(*(differs(run_command(["bash", "-c", f'"$1" {words}', "-", programs.PROGRAM, file]),
+                                (0, wanted, "")) for words, file, wanted in (
                             ('snmptranslate -On --mib <(cat "$2") IF-MIB::ifDescr.7', modules,
                              ".1.3.6.1.2.1.2.2.1.2.7\n"),
                             (f'snmpwalk -On table:<(cat "$2") {ROOT}', table, LINES))))

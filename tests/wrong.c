@@ -1,5 +1,5 @@
-// What makes the built program wrong at the machine's edge, for tests/wrong.py: each name that -D defines stands for one
-// wrong program. HEAP stands for the file heap.c, where it says which requests for memory are refused.
+// A library that makes the built program wrong, for tests/wrong.py. Each name defined by -D stands for one wrong
+// program. If HEAP is defined, it is the path of heap.c, which then refuses requests for memory.
 #define _GNU_SOURCE
 #include <arpa/inet.h>
 #include <dlfcn.h>
@@ -29,7 +29,7 @@
 #define IS_REFUSED 1
 #endif
 static __attribute__((unused)) void *volatile block;
-// The function of the same name that comes next.
+// `next` is the function of this name in the library that is loaded after this one.
 #define NEXT(name) __typeof__(&name) next = dlsym(RTLD_NEXT, #name)
 
 // -- sockets
@@ -109,14 +109,14 @@ int getaddrinfo(const char *restrict h, const char *restrict p, const struct add
 }
 #endif
 #ifdef SOCKET_FIRST
-// A program that takes a while to start, which then opens a socket before it says anything.
+// Takes half a second to start, and opens a socket before the program prints anything.
 __attribute__((constructor)) static void open_first(void) {
     while (clock() < CLOCKS_PER_SEC / 2) continue;
     (void)!socket(AF_INET, SOCK_DGRAM, 0);
 }
 #endif
 
-// What is sent: `tampered` does it in the place of a send.
+// Notes each datagram that is sent and its receiver, and for some names changes or drops datagrams.
 #if defined SECOND_SOCKET || defined LAST_OCTET_WRONG || defined A_REPLY_IS_LOST || defined ANY_ID || \
     defined ANY_SENDER || defined SENDS_4096_OCTETS || defined FAILED_SEND_IS_SENT
 static struct sockaddr_in asked;
@@ -155,7 +155,8 @@ ssize_t sendto(int s, const void *b, size_t n, int f, const struct sockaddr *a, 
 #if defined ANY_ID || defined ANY_SENDER || defined INTERRUPTED_IS_SILENCE || defined INTERRUPTED_IS_FAULT || \
     defined FAULT_IS_SILENCE || defined FAULT_ENDS_AT_ONCE || defined KEEPS_MEMORY || defined DIES_OF_A_DATAGRAM || \
     defined MORE_OF_THE_STACK || defined RECEIVES_484_OCTETS || defined RECEIVES_4096_OCTETS
-// Where the id of a message stands: behind its length, its version, its community, and the PDU's tag and length.
+// Returns the address of the encoded id of a message, or NULL. The id follows the tag and length of the message, its
+// version, its community, and the tag and length of the PDU.
 static __attribute__((unused)) unsigned char *id_of(unsigned char *it, size_t n) {
     size_t at = 0;
     for (int step = 0; step < 4; step++) {
@@ -252,7 +253,7 @@ static int writes;
         next(d, at + 9, n - 9 - (size_t)(at - (char *)b)); return (ssize_t)n; }
 #endif
 #ifdef ANOTHER_VALUE
-// The last octet of the last value that snmpget prints.
+// Changes the last octet of the last value that snmpget prints.
 static int gets;
 __attribute__((constructor)) static void note_command(int n, char **words) { gets = n > 1 && !strcmp(words[1], "snmpget"); }
 #define WRITES \
@@ -282,7 +283,7 @@ __attribute__((constructor)) static void note_command(int n, char **words) { get
 static int word_count;
 static char **words;
 __attribute__((constructor)) static void keep_words(int n, char **all) { word_count = n; words = all; }
-// Whether the text says that a table file can't be read, which a word names.
+// Returns whether the text says that a table file, which an argument names, can't be read.
 static int is_of_table(const char *text, size_t n) {
     for (int i = 1; i < word_count; i++) {
         char *path = !strncmp(words[i], "table:", 6) ? words[i] + 6 : !strcmp(words[i - 1], "--table") ? words[i] : NULL;
@@ -356,7 +357,7 @@ ssize_t read(int d, void *b, size_t n) {
 #if defined FILES_ARE_READ_TWICE || defined FILES_ARE_READ_FIRST
 static int word_count;
 static char **words;
-// The file that a word names, or none.
+// Returns the path of the file that an argument names, or NULL.
 static const char *file_of(int i) {
     if (!strncmp(words[i], "table:", 6)) return words[i] + 6;
     return !strcmp(words[i - 1], "--table") || !strcmp(words[i - 1], "--mib") ? words[i] : NULL;
@@ -399,10 +400,10 @@ int getentropy(void *b, size_t n) {
 }
 #endif
 
-// -- words and limits
+// -- arguments and limits
 
 #if defined A_TURN_MORE || defined MAX_SIZE_4096
-// Changes the number of an option among the words.
+// Replaces the number that follows an option in the arguments.
 static void change(int n, char **words, const char *option, unsigned long (*changed)(unsigned long)) {
     for (int i = 1; i + 1 < n; i++)
         if (!strcmp(words[i], option) && asprintf(&words[i + 1], "%lu", changed(strtoul(words[i + 1], NULL, 10))) < 0) _exit(99);

@@ -1,21 +1,21 @@
-"""What the scripts of tests/ share.
+"""The modules that the scripts of tests/ share.
 
-    messages   SNMP messages, written and read anew; what an agent over rows replies
-    texts      what the program prints for a value
+    messages   encodes and decodes SNMP messages, and computes an agent's reply from its rows
+    texts      the lines that the program prints for names and values
     rows       the rows that most tests serve, as a table file and as the lines of a walk
-    programs   the built programs, and how they are run
-    pipes      pipes that a program reads or writes, without waiting for one that has ended
-    ports      ports of UDP that nobody has
+    programs   finds, starts and ends the built programs
+    pipes      reads and writes the pipes of a program, without waiting for a program that has ended
+    ports      finds UDP ports that no program uses
     agents     agents that a script plays, and runs of the program against them
-    server     the program's own snmpd
+    server     starts the program's own snmpd
     relays     a network with faults between a walker and an agent
-    mutations  datagrams made from good ones, and what the program may do with them
-    heaps      programs over a heap that refuses memory
-    commands   which commands this machine has
-    runner     which tests are run, their counts, and what wasn't tried
+    mutations  makes faulty datagrams from good ones, and checks what the program did with them
+    heaps      runs programs with a heap that refuses memory
+    commands   checks which commands this machine has, and what they can do here
+    runner     chooses and runs the tests of a script, and counts them
 
-Python 3.9 or a later one runs all of them. So that an older one can say so here, the scripts that import this
-have no syntax which is newer than Python 3.6.
+Python 3.9 or later is required. A script that imports this package uses only the syntax of Python 3.6, so that an
+older interpreter gets as far as the check below.
 """
 import sys
 

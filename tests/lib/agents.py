@@ -1,8 +1,8 @@
 """Agents that a script plays, and runs of the program against them.
 
-An agent is a function from the requests so far, of which the last has just come, to what it does then: the
-datagrams that it sends, and pauses in seconds among them. `Elsewhere` is sent from another port, and `stopping`
-stops the program for a moment and lets it go on.
+An agent is a function. It is called for each request that arrives, with all requests so far, and returns what to do:
+a list of datagrams to send and of pauses in seconds. The datagram of an `Elsewhere` is sent from another port.
+`stopping` stops the program for a tenth of a second and then continues it.
 """
 import collections
 import concurrent.futures
@@ -14,37 +14,41 @@ import time
 import traceback
 
 from lib import programs
-from lib.messages import read, reply, served
+from lib.messages import read, reply, reply_from
 
 Elsewhere = collections.namedtuple("Elsewhere", "datagram")
 stopping = object()
 
 
 def serving(rows):
-    return lambda seen: [served(rows, seen[-1])]
+    """Returns an agent that replies to each request from these rows."""
+    return lambda seen: [reply_from(rows, seen[-1])]
 
 
 def silent(seen):
+    """An agent that never replies."""
     return []
 
 
 def losing(count, agent):
-    """The agent, after this many datagrams are lost."""
+    """Returns an agent that ignores the first `count` requests and then does what `agent` does."""
     return lambda seen: agent(seen) if len(seen) > count else []
 
 
 def saying(*replies):
-    """Replies with these bindings to the first request, the second, and so on."""
+    """Returns an agent that replies to the n-th request with the n-th list of bindings."""
     return lambda seen: [reply(seen[-1], replies[len(seen) - 1])]
 
 
 def failing(status, index, bindings=()):
+    """Returns an agent whose replies have this error status and error index."""
     return lambda seen: [reply(seen[-1], bindings, status, index)]
 
 
 class Agent:
-    """An agent of this script at one of this machine's addresses, with what it was sent and by whom. `pid` is told of
-    the program that asks, where the agent stops it."""
+    """Runs an agent at a port of `host`, one of this machine's addresses. `seen` and `senders` record the requests and
+    where each came from, `faults` the exceptions that the agent raised. An agent that stops or kills the program needs
+    its process id: the test sets it as the result of `pid`."""
 
     def __init__(self, agent, host="127.0.0.1"):
         self.agent, self.host, self.over = agent, host, False
@@ -55,24 +59,26 @@ class Agent:
         self.door.bind((self.host, 0))
         self.door.settimeout(0.5)
         self.port = self.door.getsockname()[1]
-        self.place = f"{self.host}:{self.port}"
+        self.address = f"{self.host}:{self.port}"
         self.player = threading.Thread(target=self.play)
         self.player.start()
         return self
 
     def __exit__(self, *_):
         self.over = True
-        # All that was sent before is played. Where there is no room for this datagram, half a second ends it.
+        # An empty datagram ends the thread, after the requests that were received before it. If it gets lost, the
+        # thread ends at its next time-out, within half a second.
         with socket.socket(socket.AF_INET, socket.SOCK_DGRAM) as ender:
             ender.sendto(b"", (self.host, self.port))
         self.player.join()
         self.door.close()
 
-    def asked(self):
-        """The program that asks."""
+    def wait_for_pid(self):
+        """Returns the process id of the program, once the test has set it."""
         return self.pid.result(programs.PATIENCE)
 
     def play(self):
+        """Receives requests and acts on each, until the `with` block of the test ends."""
         with socket.socket(socket.AF_INET, socket.SOCK_DGRAM) as other:
             while True:
                 try:
@@ -88,11 +94,11 @@ class Agent:
                     self.act(sender, other)
 
     def act(self, sender, other):
-        """Does what the agent does now."""
+        """Calls the agent for the last request, and does what it returns."""
         try:
             for act in self.agent([read(request) for request in self.seen]):
                 if act is stopping:
-                    pid = self.asked()
+                    pid = self.wait_for_pid()
                     os.kill(pid, signal.SIGSTOP)
                     time.sleep(0.1)
                     os.kill(pid, signal.SIGCONT)
@@ -106,18 +112,18 @@ class Agent:
             self.faults.append(traceback.format_exc())
 
 
-Run = collections.namedtuple("Run", "status output messages asked seconds faults")
+Run = collections.namedtuple("Run", "status output messages requests seconds faults")
 
 
 def run(words, agent):
-    """Runs the program as the words are, `AGENT` and `PORT` among them standing for the agent's place; that is what it
-    says then."""
-    with Agent(agent) as asked:
+    """Runs the program with these arguments against the agent. In the arguments, `AGENT` and `PORT` are replaced by the
+    agent's address and port; in what the program prints, the address is replaced by `AGENT`."""
+    with Agent(agent) as player:
         begun = time.monotonic()
-        words = [word.replace("AGENT", asked.place).replace("PORT", str(asked.port)) for word in words]
-        with programs.started([programs.PROGRAM, *words]) as program:
-            asked.pid.set_result(program.pid)
-            ran = programs.ended(program, 60)
+        words = [word.replace("AGENT", player.address).replace("PORT", str(player.port)) for word in words]
+        with programs.spawn([programs.PROGRAM, *words]) as program:
+            player.pid.set_result(program.pid)
+            ran = programs.finish(program, 60)
         seconds = time.monotonic() - begun
-    output, messages = (text.replace(asked.place, "AGENT") for text in ran[1:])
-    return Run(ran.status, output, messages, asked.seen, seconds, asked.faults)
+    output, messages = (text.replace(player.address, "AGENT") for text in ran[1:])
+    return Run(ran.status, output, messages, player.seen, seconds, player.faults)

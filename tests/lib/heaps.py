@@ -1,4 +1,4 @@
-"""Programs over the heap of tests/heap.c, which stands between them and the C library."""
+"""Runs programs with the heap of tests/heap.c, a library that replaces the C library's `malloc` and `realloc`."""
 import os
 import subprocess
 import tempfile
@@ -7,27 +7,28 @@ from lib import programs
 
 
 class Heap:
-    """A folder in which programs run over the heap, and their files are."""
+    """A temporary folder with the heap and the files of the programs that run in it."""
 
     def __init__(self):
         self.folder = tempfile.TemporaryDirectory()
 
     def make(self, *words):
-        """Builds the heap. What is there already is replaced at once."""
+        """Builds the heap with these options of the compiler. It replaces an earlier one in one step, so that no
+        program finds half a library."""
         with tempfile.NamedTemporaryFile(dir=self.folder.name, delete=False) as file:
             words = ["cc", "-O2", "-shared", "-fPIC", *words, "-o", file.name, f"{programs.TESTS}/heap.c"]
             subprocess.run(words, check=True, timeout=programs.PATIENCE)
         os.replace(file.name, f"{self.folder.name}/heap.so")
 
     def put(self, name, octets):
-        """A file with these octets, by its name in the folder. It is there whole at once, as tests that run side by
-        side share it."""
+        """Writes a file with these octets into the folder and returns its name. The file appears in one step: tests
+        that run at the same time share it."""
         with tempfile.NamedTemporaryFile(dir=self.folder.name, delete=False) as file:
             file.write(octets)
         os.replace(file.name, f"{self.folder.name}/{name}")
         return name
 
     def run(self, words):
-        """Runs a program by these words over the heap. That is named from the folder where the program runs, as blanks
-        and colons divide the names of LD_PRELOAD."""
-        return programs.ran(words, cwd=self.folder.name, env={**os.environ, "LD_PRELOAD": "./heap.so"})
+        """Runs a command with the heap, in the folder. LD_PRELOAD has the heap's path relative to the folder, since a
+        blank or a colon in the folder's own path would end the name."""
+        return programs.run_command(words, cwd=self.folder.name, env={**os.environ, "LD_PRELOAD": "./heap.so"})

@@ -1,5 +1,5 @@
-"""Prints a port of UDP that nobody has, and holds it at 127.0.0.2 while the script lasts that started this: a program
-can have it at 127.0.0.1, and no other test draws it.
+"""Prints a free UDP port, and then binds it at 127.0.0.2 until the script that started this has ended. So a program of
+that script can bind it at 127.0.0.1, but no other test chooses it.
 """
 import os
 import socket

@@ -1,14 +1,15 @@
-"""Datagrams that are made from good ones, and what the program may do with them."""
+"""Makes faulty datagrams from good ones, and checks what the program did with them."""
 import itertools
 
 from lib.agents import Elsewhere
-from lib.messages import END, INSTANCE, OBJECT, RESPONSE, STATUSES, answered, integer, read_or_none, reply
+from lib.messages import END, INSTANCE, OBJECT, RESPONSE, STATUSES, answer_bindings, integer, read_or_none, reply
 from lib.rows import BAD, R, SILENT
 from lib.texts import line
 
 
-def mutated(rng, octets):
-    """The octets with one to three of them changed, taken out, put in or repeated."""
+def mutate(rng, octets):
+    """Returns the octets after one to three random changes: octets replaced, removed, inserted or repeated, or a bit
+    flipped."""
     octets = bytearray(octets)
     for _ in range(rng.randint(1, 3)):
         at = rng.randrange(len(octets) + 1)
@@ -27,7 +28,7 @@ def mutated(rng, octets):
 
 
 def lengths(octets):
-    """Where the length octets of the message's elements stand, as far as they can be found."""
+    """Returns the offsets of up to twelve length octets of a message, as far as they can be found."""
     at, found = 0, []
     while at + 1 < len(octets) and len(found) < 12:
         found.append(at + 1)
@@ -35,8 +36,9 @@ def lengths(octets):
     return found
 
 
-def attacked(rng, octets):
-    """A datagram made from a good one."""
+def corrupt(rng, octets):
+    """Returns a datagram made from a good one: cut short, longer, with another length or a longer form of a length, or
+    with random changes. In a few cases it returns random octets, a row of octets 0x30, or an empty datagram."""
     kind = rng.randrange(8)
     if kind == 0:
         return octets[:rng.randrange(len(octets))]
@@ -52,53 +54,57 @@ def attacked(rng, octets):
         return octets[:at] + bytes([0x80 | len(size)]) + size + octets[at + 1:]
     if kind == 4 and rng.randrange(64) == 0:
         return rng.choice([rng.randbytes(rng.randint(0, 200)), b"\x30" * rng.randint(1, 65507), b""])
-    return mutated(rng, octets)
+    return mutate(rng, octets)
 
 
-# -- what a walker or a Get may do then
+# -- what a walker or a Get may do with such datagrams
 
-# Numbers from here on are marks, by which it is known from which datagram a line is.
+# INTEGER values from here on are marks. A line with a mark comes from the only datagram that has it.
 MARKS = 1000000
 ENDS = ["", SILENT, BAD, "Error in packet: ", "No progress after ", "Error: OID not increasing: ",
         "Too many requests.\n"]
 
 
-def good(rows, asked):
-    return reply(asked, answered(rows, asked))
+def good_reply(rows, asked):
+    """Returns the agent's reply to the request."""
+    return reply(asked, answer_bindings(rows, asked))
 
 
-def marked(rows, asked, mark):
-    """A good reply but for its values, which no other datagram has."""
+def marked_reply(rows, asked, mark):
+    """Returns the good reply with each value, but no exception, replaced by the mark."""
     return reply(asked, [(name, value if value in (OBJECT, INSTANCE, END) else integer(mark))
-                         for name, value in answered(rows, asked)])
+                         for name, value in answer_bindings(rows, asked)])
 
 
 def attacking(rng, rows, sent):
-    """An agent that sends a few mutated replies, and then perhaps a good one. It notes all that it sent."""
+    """Returns an agent that for each request sends up to three faulty replies, perhaps a reply with a wrong id or from
+    another port, and then, in 19 of 20 cases, the good one. It adds to `sent` each datagram that it sends from its own
+    port, with the request."""
     marks = itertools.count(MARKS)
 
     def agent(seen):
         asked = seen[-1]
-        datagrams = [attacked(rng, rng.choice([good(rows, asked), marked(rows, asked, next(marks))]))
+        datagrams = [corrupt(rng, rng.choice([good_reply(rows, asked), marked_reply(rows, asked, next(marks))]))
                      for _ in range(rng.randint(0, 3))]
         wrong_id = asked._replace(id=asked.id + rng.choice([-1, 1, 256]))
-        datagrams += rng.choice([[], [marked(rows, wrong_id, next(marks))],
-                                 [Elsewhere(marked(rows, asked, next(marks)))]])
+        datagrams += rng.choice([[], [marked_reply(rows, wrong_id, next(marks))],
+                                 [Elsewhere(marked_reply(rows, asked, next(marks)))]])
         datagrams = [it for it in datagrams if isinstance(it, Elsewhere) or len(it) > 0]
         if rng.randrange(20):
-            datagrams.append(good(rows, asked))
+            datagrams.append(good_reply(rows, asked))
         sent.extend((asked, it) for it in datagrams if isinstance(it, bytes))
         return datagrams
     return agent
 
 
 def is_reply(it, asked):
-    """Whether a message is a reply to the request that was waiting when it was sent."""
+    """Returns whether a message is a reply to the request `asked`."""
     return it is not None and (it.version, it.community, it.kind, it.id) == (1, b"public", RESPONSE, asked.id)
 
 
-def stated_in(sent):
-    """The names that all replies have, and the texts that a walk prints for their bindings."""
+def names_and_lines(sent):
+    """Returns the names in all datagrams of `sent` that are replies, and the lines that a walk prints for their
+    bindings."""
     names, texts = set(), set()
     for asked, datagram in sent:
         it = read_or_none(datagram)
@@ -109,7 +115,7 @@ def stated_in(sent):
 
 
 def split(output):
-    """The names of an output by numbers, each with its text, which may have several lines."""
+    """Yields the name of each binding in an output with numeric names, and its text, which may have several lines."""
     texts = []
     for piece in output.splitlines(True):
         if piece.startswith(".") or not texts:
@@ -122,8 +128,8 @@ def split(output):
 
 
 def faults_of(words, ran, sent):
-    """What is wrong with a run of a walker or a Get. It was sent these datagrams, each with the request that was
-    waiting then."""
+    """Yields what is wrong with a run of a walker or a Get. `sent` lists the datagrams that were sent to it, each with
+    the request that was waiting."""
     messages = ran.messages
     if ran.status not in (0, 1, 2):
         yield f"status {ran.status}"
@@ -138,22 +144,23 @@ def faults_of(words, ran, sent):
     except ValueError:
         yield f"lines without a name: {ran.output!r}"
         printed = []
-    names, texts = stated_in(sent)
+    names, texts = names_and_lines(sent)
     strange = [piece for name, piece in printed if name not in names or piece not in texts]
     if strange:
-        yield f"what no reply has: {strange}"
+        yield f"lines that no reply contains: {strange}"
     names = [name for name, _ in printed]
     if words[0] != "snmpget":
         below = [name for name in names if name != R]
         if any(name[:len(R)] != R for name in names) or any(a >= b for a, b in zip(below, below[1:])):
-            yield f"names that don't rise below the root: {names}"
+            yield f"names that aren't below the root and in increasing order: {names}"
     if ran.faults:
         yield f"this script: {ran.faults}"
 
 
 def ends_of_get(asked, datagrams):
-    """How a Get may end that was sent these datagrams one after the other: at a reply, where it takes that for one.
-    What is a reply as far as this script reads it may be none to the Get, which waits for the next one then."""
+    """Yields each way in which a Get may end that was sent these datagrams in this order, as status, output and
+    messages. It may end at each datagram that this script reads as a reply, because the Get, which checks more, may
+    refuse one and wait for the next. It may end without a reply only if this script reads none."""
     wanted = [name for name, _ in asked.bindings]
     for datagram in datagrams:
         it = read_or_none(datagram)

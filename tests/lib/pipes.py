@@ -1,5 +1,5 @@
-"""Pipes that a program reads or writes. Nothing here waits for a program that has ended, or for longer than a right
-one takes.
+"""Reads and writes the pipes of a program. No call here waits for a program that has ended, or longer than PATIENCE
+seconds, which is more than a correct program takes.
 """
 import contextlib
 import errno
@@ -16,7 +16,7 @@ from lib.programs import PATIENCE
 
 @contextlib.contextmanager
 def fifo():
-    """The path of a pipe that has a name."""
+    """Yields the path of a named pipe in a folder of its own."""
     with tempfile.TemporaryDirectory() as folder:
         os.mkfifo(f"{folder}/fifo")
         yield f"{folder}/fifo"
@@ -24,7 +24,8 @@ def fifo():
 
 @contextlib.contextmanager
 def file(octets=b"", size=None):
-    """The path of a file with these octets; of this size, the rest zeros that take no room on the disk."""
+    """Yields the path of a temporary file with these octets. With a size, the file is truncated or extended to it;
+    zeros at its end take no space on the disk."""
     with tempfile.NamedTemporaryFile() as it:
         it.write(octets)
         it.flush()
@@ -33,13 +34,14 @@ def file(octets=b"", size=None):
         yield it.name
 
 
-def held(pipe):
-    """How many octets wait in a pipe or a socket."""
+def waiting_octets(pipe):
+    """Returns the number of octets that can be read from a pipe or a socket."""
     return struct.unpack("i", fcntl.ioctl(pipe, termios.FIONREAD, bytes(4)))[0]
 
 
-def awaited(pipe, what, event=select.POLLIN):
-    """Waits until a pipe can be read, or written by another event."""
+def wait_for(pipe, what, event=select.POLLIN):
+    """Waits until a pipe can be read, or until another event occurs, such as that it can be written. Raises
+    TimeoutError with the text `what` if that takes too long."""
     poll = select.poll()
     poll.register(pipe, event)
     if not poll.poll(PATIENCE * 1000):
@@ -47,13 +49,15 @@ def awaited(pipe, what, event=select.POLLIN):
 
 
 def some(pipe, most):
-    """What has come through a pipe or a socket, at most so many octets and one at least; none where it has ended."""
-    awaited(pipe, "nothing came through a pipe")
+    """Waits until octets have arrived in a pipe or a socket, and returns at most `most` of them. Returns no octets if
+    the other end is closed."""
+    wait_for(pipe, "nothing came through a pipe")
     return os.read(pipe if isinstance(pipe, int) else pipe.fileno(), most)
 
 
-def taken(pipe, size, most=1 << 20):
-    """The next octets, just so many, by pieces of at most so many. A pipe that ends before is an error."""
+def read_exactly(pipe, size, most=1 << 20):
+    """Reads exactly `size` octets, at most `most` at a time, and returns them as text. Raises EOFError if the pipe ends
+    before."""
     octets = b""
     while len(octets) < size:
         piece = some(pipe, min(most, size - len(octets)))
@@ -64,7 +68,7 @@ def taken(pipe, size, most=1 << 20):
 
 
 def rest(pipe, most=1 << 20):
-    """What comes until its end, by pieces of at most so many octets."""
+    """Reads up to the end of a pipe, at most `most` octets at a time, and returns the text."""
     pieces = [some(pipe, most)]
     while pieces[-1]:
         pieces.append(some(pipe, most))
@@ -72,8 +76,8 @@ def rest(pipe, most=1 << 20):
 
 
 @contextlib.contextmanager
-def written(path, program):
-    """A pipe that is opened to be written as soon as the program reads it."""
+def open_for_writing(path, program):
+    """Waits until the program opens the named pipe at `path` for reading, and yields the end to write to."""
     end = time.monotonic() + PATIENCE
     pipe = None
     while pipe is None:
@@ -94,9 +98,9 @@ def written(path, program):
 
 
 def write(pipe, octets):
-    """Writes all of these, as the program reads them. One that has ended is an error."""
+    """Writes all octets, as fast as the program reads them. Raises BrokenPipeError if the program has ended."""
     while octets:
-        awaited(pipe, "nothing was read from a pipe", select.POLLOUT)
+        wait_for(pipe, "nothing was read from a pipe", select.POLLOUT)
         try:
             octets = octets[os.write(pipe, octets):]
         except BlockingIOError:
@@ -104,7 +108,7 @@ def write(pipe, octets):
 
 
 def line(pipe):
-    """The next line, of which no octet behind it is read; what there is of it, where the pipe ends before."""
+    """Reads the next line and nothing after it. If the pipe ends before the line does, returns what has arrived."""
     octets = b""
     while not octets.endswith(b"\n"):
         octet = some(pipe, 1)

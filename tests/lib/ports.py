@@ -1,17 +1,17 @@
-"""Ports of UDP that nobody has, below those that sockets get which ask for none (from 32768 on, where the machine
-doesn't say other).
+"""Finds UDP ports that no program uses. All are below 32768, where by default the range begins from which the system
+chooses a port for a socket that asks for none.
 """
 import contextlib
 import itertools
 import random
 import socket
 
-FIRST, BEHIND = 10000, 32000
-drawn = itertools.count(random.randrange(BEHIND - FIRST))
+FIRST, END = 10000, 32000
+numbers = itertools.count(random.randrange(END - FIRST))
 
 
 def is_free(port):
-    """Whether a socket can have it, at all addresses of this machine."""
+    """Returns whether a socket can be bound to the port at all addresses of this machine."""
     with socket.socket(socket.AF_INET, socket.SOCK_DGRAM) as door:
         try:
             door.bind(("0.0.0.0", port))
@@ -21,17 +21,17 @@ def is_free(port):
 
 
 def free_port():
-    """A port that nobody has now. Another program may take it before it is used."""
-    for number in itertools.islice(drawn, BEHIND - FIRST):
-        port = FIRST + number % (BEHIND - FIRST)
+    """Returns a port that no program uses now. Another program may bind it before the caller does."""
+    for number in itertools.islice(numbers, END - FIRST):
+        port = FIRST + number % (END - FIRST)
         if is_free(port):
             return port
     raise RuntimeError("no port is free here")
 
 
 def over_free_port(test):
-    """What a test finds wrong that is told a port. Where another program has taken that meanwhile, the test is told
-    another one."""
+    """Calls the test with a free port and returns what it finds wrong. If it finds something and another program has
+    bound the port meanwhile, tries again with another port, up to 20 times."""
     for _ in range(20):
         port = free_port()
         wrong = test(port)
@@ -42,8 +42,9 @@ def over_free_port(test):
 
 @contextlib.contextmanager
 def closed_port():
-    """A port of loopback where nobody listens, and which nobody can take: a socket has it that takes what one other
-    port sends, so that all else is refused as where there is no socket."""
+    """Yields a port of loopback where no program listens and that no other program can bind. A socket holds it that is
+    connected to another port, and so accepts datagrams only from there. The system refuses all others, as it does if
+    no socket has the port."""
     with socket.socket(socket.AF_INET, socket.SOCK_DGRAM) as door, \
             socket.socket(socket.AF_INET, socket.SOCK_DGRAM) as other:
         for end in door, other:

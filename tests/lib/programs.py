@@ -1,5 +1,5 @@
-"""The built programs, and how they are run: each in a process group of its own, for a time that no right program
-takes, and ended where the script is.
+"""Finds and runs the built programs. Each runs in a process group of its own. It is killed when it takes longer than a
+correct program does, and when the script ends.
 """
 import atexit
 import collections
@@ -11,17 +11,17 @@ import weakref
 
 TESTS = os.path.dirname(os.path.dirname(os.path.abspath(__file__)))
 TOP = os.path.dirname(TESTS)
-# Those that stand for the sources.
+# The programs that `rt` built from the sources.
 BUILT = os.path.join(TOP, "crates", "snmp", "out", "snmp")
 CHECKS = os.path.join(TOP, "crates", "heap_checks", "out", "heap_checks")
-# The program that tests run, which tests/wrong.py makes another one.
+# The program that tests run. tests/wrong.py replaces it by a wrong one.
 PROGRAM = BUILT
-# So many seconds no right program takes to end, to write or to read.
+# A correct program ends, writes or reads in fewer seconds than this.
 PATIENCE = 300
 
 
 def are_current(script, *programs):
-    """Whether these programs are there, and are those of the sources; else it is said what is wrong."""
+    """Returns whether these programs exist and were built from the current sources. If not, prints what is wrong."""
     asks = os.path.join(TESTS, "is-current")
     for program in programs:
         if not os.access(program, os.X_OK):
@@ -33,15 +33,16 @@ def are_current(script, *programs):
     return True
 
 
-# A child holds what is open here until it is another program: what is closed under this lock is closed for good. A
-# signal that ends all may come while it is held.
+# A child process holds all open files of the script until it executes its program. While a thread holds this lock, no
+# other starts a child: what the thread closes is then open nowhere else. The lock is reentrant because a signal, whose
+# handler calls `end_all`, may arrive while it is held.
 starting = threading.RLock()
 running = weakref.WeakSet()
 over = False
 
 
 class Program(subprocess.Popen):
-    """A program that is started while no other is, in a process group of its own."""
+    """A program in a process group of its own. No two are started at the same time."""
 
     def __init__(self, *words, **where):
         with starting:
@@ -51,7 +52,8 @@ class Program(subprocess.Popen):
             running.add(self)
 
     def kill(self):
-        """Ends it, and what it started. Until its status is known no other group has its number."""
+        """Kills the program and what it started, unless its status is known. Until then no other process group has its
+        number."""
         if self.returncode is None:
             try:
                 os.killpg(self.pid, 9)
@@ -60,7 +62,7 @@ class Program(subprocess.Popen):
 
 
 def end_all():
-    """Ends all programs that run, and lets none be started any more."""
+    """Kills all programs that are running, and lets no more be started."""
     global over
     with starting:
         over = True
@@ -68,53 +70,55 @@ def end_all():
             program.kill()
 
 
-# A test that broke off may have left one.
+# A test that raised an exception may have left a program running.
 atexit.register(end_all)
 
 
 Ended = collections.namedtuple("Ended", "status output messages")
 
 
-def decoded(octets):
+def decode(octets):
+    """Returns octets as text, in which others than UTF-8 are surrogates. None is read as no octets."""
     return (octets or b"").decode(errors="surrogateescape")
 
 
-def ended(program, seconds=PATIENCE):
-    """The status of a program, and what is left of its output and messages where these are pipes to here. One that
-    takes longer is killed, and that is an error."""
+def finish(program, seconds=PATIENCE):
+    """Waits for the end of a program. Returns its status and the rest of its output and messages, if these are pipes to
+    the script. Kills the program and raises TimeoutError if it takes longer than `seconds`."""
     try:
         output, messages = program.communicate(timeout=seconds)
     except subprocess.TimeoutExpired:
         program.kill()
-        output, messages = map(decoded, program.communicate(timeout=PATIENCE))
+        output, messages = map(decode, program.communicate(timeout=PATIENCE))
         raise TimeoutError(f"{program.args}: no end in {seconds} seconds; it wrote {output[-1000:]!r} and {messages!r}"
                            ) from None
-    return Ended(program.returncode, decoded(output), decoded(messages))
+    return Ended(program.returncode, decode(output), decode(messages))
 
 
-def started(words, **where):
-    """Starts a command, without input, and with its output and messages as pipes to here."""
+def spawn(words, **where):
+    """Starts a command without input, with pipes to the script for its output and messages. `where` overrides these,
+    and has more arguments of `Popen`."""
     where = {"stdin": subprocess.DEVNULL, "stdout": subprocess.PIPE, "stderr": subprocess.PIPE, **where}
     return Program(words, **where)
 
 
-def ran(words, seconds=PATIENCE, **where):
-    """Runs a command to its end."""
-    return ended(started(words, **where), seconds)
+def run_command(words, seconds=PATIENCE, **where):
+    """Runs a command and waits for its end."""
+    return finish(spawn(words, **where), seconds)
 
 
 def patient(words):
-    """The words of a walk or a Get, where they say nothing of it with four seconds to wait for each reply, so that a
-    machine with other work sends nothing again."""
+    """Returns the arguments, with `-t 4` added to those of a walk or a Get without a `-t`. So the program waits four
+    seconds for a reply before it sends a request again, and on a busy machine sends none again needlessly."""
     said = words[0] in ("snmpd", "snmptranslate") or any(word.startswith("-t") for word in words)
     return [*words] if said or not words[0].startswith("snmp") else [words[0], "-t", "4", *words[1:]]
 
 
 def start(*words, before=(), **where):
-    """Starts the program by these words, with a command that runs it before them."""
-    return started([*before, PROGRAM, *patient(words)], **where)
+    """Starts the program with these arguments. `before` is a command that runs it, such as strace."""
+    return spawn([*before, PROGRAM, *patient(words)], **where)
 
 
 def run(*words, **how):
-    """Runs the program to its end."""
-    return ended(start(*words, **how))
+    """Runs the program and waits for its end."""
+    return finish(start(*words, **how))

@@ -1,4 +1,4 @@
-"""A network with faults, which stands between a walker and an agent on loopback."""
+"""A network with faults between a walker and an agent, on loopback."""
 import collections
 import select
 import socket
@@ -6,15 +6,16 @@ import threading
 import time
 
 from lib.messages import RESPONSE, integer, message
-from lib.rows import R, lines_of, stated
+from lib.rows import R, lines_of, table_text
 
-# A datagram that is to go on, the end that it came to, and as what it came.
-Carried = collections.namedtuple("Carried", "due end datagram came")
+# A datagram to pass on: the time when it is due, the socket at which the original arrived, the datagram, which may
+# differ from the original, and the original.
+Pending = collections.namedtuple("Pending", "due end datagram original")
 
 
 class Relay:
-    """Carries datagrams between a walker and the agent at a port. What becomes of one its `fate` says: the datagrams
-    that come of it, each with its delay in seconds. `place` is where the walker asks."""
+    """Passes datagrams between a walker and the agent at a port of 127.0.0.1. For each datagram, `fate` returns the
+    datagrams that are sent on instead, each with a delay in seconds. The walker sends its requests to `address`."""
 
     def __init__(self, port):
         self.port, self.over = port, False
@@ -23,7 +24,7 @@ class Relay:
         self.door, self.back = (socket.socket(socket.AF_INET, socket.SOCK_DGRAM) for _ in range(2))
         self.door.bind(("127.0.0.1", 0))
         self.back.connect(("127.0.0.1", self.port))
-        self.place = "127.0.0.1:{1}".format(*self.door.getsockname())
+        self.address = "127.0.0.1:{1}".format(*self.door.getsockname())
         self.carrier = threading.Thread(target=self.carry)
         self.carrier.start()
         return self
@@ -37,13 +38,14 @@ class Relay:
     def fate(self, datagram):
         raise NotImplementedError
 
-    def came(self, datagram, from_walker):
-        """Is told of each datagram that comes."""
+    def note_arrival(self, datagram, from_walker):
+        """Called for each datagram that arrives."""
 
-    def goes(self, datagram, came, to_walker):
-        """Is told of each datagram that goes, and as what it came."""
+    def note_departure(self, datagram, original, to_walker):
+        """Called for each datagram that is sent on, with the one that arrived."""
 
     def carry(self):
+        """Receives datagrams and sends on those that are due, until the `with` block of the test ends."""
         walker, due = None, []
         while not self.over:
             ready, _, _ = select.select([self.door, self.back], [], [], 0.02)
@@ -53,12 +55,12 @@ class Relay:
                 except OSError:
                     # The agent has ended.
                     continue
-                self.came(datagram, end is self.door)
+                self.note_arrival(datagram, end is self.door)
                 walker = sender if end is self.door else walker
-                due += [Carried(time.monotonic() + wait, end, it, datagram) for wait, it in self.fate(datagram)]
+                due += [Pending(time.monotonic() + wait, end, it, datagram) for wait, it in self.fate(datagram)]
             now = time.monotonic()
             for it in [it for it in due if it.due <= now]:
-                self.goes(it.datagram, it.came, it.end is self.back)
+                self.note_departure(it.datagram, it.original, it.end is self.back)
                 try:
                     if it.end is self.door:
                         self.back.send(it.datagram)
@@ -70,7 +72,8 @@ class Relay:
 
 
 class Unlucky(Relay):
-    """By this chance a datagram is lost, or comes more than once, or late, after those that were sent behind it."""
+    """A relay that, with probability `chance`, loses a datagram, repeats it or delays it. One that is delayed may
+    arrive after others that were sent later."""
 
     def __init__(self, port, rng, chance):
         super().__init__(port)
@@ -86,15 +89,16 @@ Walk = collections.namedtuple("Walk", "lines table size words")
 
 
 def random_walk(rng, most, numbers):
-    """A walk of a random table of at most so many rows, whose names are of these numbers: the lines that it prints
-    where all goes well, the table file, the size of the agent's greatest message, and the walk's first words."""
+    """Returns a walk of a random table: the lines that it prints if nothing fails, the table file, the agent's greatest
+    message size, and the first arguments of the walk. The table has at most `most` rows, and the names below the root
+    consist of these numbers."""
     rows = {}
     for _ in range(rng.randint(20, most)):
         name = R + tuple(rng.choice(numbers) for _ in range(rng.randint(1, 4)))
         rows[name] = rng.choice([0, -1, 200, 2147483647])
     longest = max(len(message(RESPONSE, 2147483647, [(name, integer(value))])) for name, value in rows.items())
     walker = rng.choice([["snmpwalk"], ["snmpbulkwalk"], ["snmpbulkwalk", f"-Cr{rng.choice([1, 2, 7, 1000])}"]])
-    table = stated(rows).splitlines(True)
+    table = table_text(rows).splitlines(True)
     rng.shuffle(table)
     return Walk(lines_of(rows).splitlines(True), "".join(table), longest + rng.choice([0, 1, 20, 100, 400]),
                 [*walker, "-On"])

@@ -1,4 +1,4 @@
-"""The rows that most tests serve, as a table file has them and as a walk prints them."""
+"""The rows that most tests serve, as a table file and as the lines of a walk."""
 from lib.messages import element, identifier, integer, text
 from lib.texts import NO_OBJECT, dotted
 
@@ -12,19 +12,19 @@ FIRST, SECOND, THIRD = (f"{dotted(name)} = {value}\n"
 LINES = FIRST + SECOND + THIRD
 MISSING = f"{ROOT} = {NO_OBJECT}\n"
 
-# What the program says. AGENT stands for the agent's place.
+# Messages of the program. AGENT stands for the agent's address.
 SILENT = "Timeout: No Response from AGENT.\n"
 BAD = "Bad reply from AGENT.\n"
 NO_LINK = "The link failed.\n"
 NO_MEMORY = "Out of memory.\n"
-# What it says of tests/data/tiny.txt.
+# The program's warnings about tests/data/tiny.txt.
 WARNINGS = """snmp: TINY-MIB imports absent from TINY-SMI, which has no absent
 snmp: TINY-MIB imports from GONE-MIB, which is not loaded
 snmp: TINY-MIB::loopA stands on a cycle
 snmp: TINY-MIB::loopB stands on a cycle
 """
 
-# What a server serves where a test says no other, beside the rows above.
+# The object prefixes, values and rows of the table that a `Server` serves by default. It has the rows above too.
 OBJECTS = [R + (2,)]
 AGENT_VALUES = [identifier((2, 4294967295, 0)), integer(200, 0x41), integer(4294967295, 0x42), integer(127, 0x43),
                 integer(18446744073709551615, 0x46), element(0x40, bytes([192, 0, 2, 1])), element(0x44, b"\x9f"),
@@ -47,12 +47,12 @@ TABLE = f"""object {ROOT}.2
 """
 
 
-def stated(rows):
-    """A table file of these rows, whose values are numbers or texts."""
+def table_text(rows):
+    """Returns a table file of these rows, whose values are numbers or strings."""
     return "".join(f"{dotted(name)}|{2 if isinstance(value, int) else 4}|{value}\n" for name, value in rows.items())
 
 
 def lines_of(rows):
-    """What a walk of them prints."""
+    """Returns the lines that a walk prints of these rows."""
     return "".join(f"{dotted(name)} = " + (f"INTEGER: {value}\n" if isinstance(value, int) else
                                            f'STRING: "{value}"\n') for name, value in sorted(rows.items()))

@@ -1,7 +1,7 @@
-"""Which tests of a script are run, what is counted, and what wasn't tried.
+"""Chooses and runs the tests of a script, and counts them.
 
-A script's last line is 'N passed, M failed, K skipped'. Its status is 0 where none failed, and one passed at least or
-was left out with a reason: that is told on standard error, as 'not tried: WHAT: REASON'.
+The last line of a script is 'N passed, M failed, K skipped'. Its status is 0 if no test failed and at least one passed
+or was skipped. Each reason for skipping is on standard error, as 'not tried: WHAT: REASON'.
 """
 import concurrent.futures
 import signal
@@ -12,47 +12,51 @@ from lib import programs
 
 
 def differs(got, wanted):
+    """Returns a text that shows both values, or an empty one if they are equal."""
     return "" if got == wanted else f"{got!r}\n  not {wanted!r}"
 
 
-def shown(datagrams):
+def hex_lines(datagrams):
+    """Returns the first 200 octets of each datagram in hexadecimal, one datagram a line, or 'none'."""
     return "\n    ".join(datagram.hex()[:400] for datagram in datagrams) or "none"
 
 
 def sent_not(got, wanted):
-    """What is wrong where these datagrams were sent."""
-    return "" if list(got) == list(wanted) else f"sent\n    {shown(got)}\n  not\n    {shown(wanted)}"
+    """Returns a text that shows the datagrams sent and those expected, or an empty one if they are equal."""
+    return "" if list(got) == list(wanted) else f"sent\n    {hex_lines(got)}\n  not\n    {hex_lines(wanted)}"
 
 
 def wrongs(*found):
+    """Returns those of the texts that aren't empty, as lines of one text."""
     return "\n  ".join(filter(None, found))
 
 
 class Counts:
-    """What passed, failed and was left out."""
+    """The numbers of tests that passed, failed and were skipped."""
 
     def __init__(self):
         self.passed = self.failed = self.skipped = 0
 
-    def found(self, title, wrong):
-        """Counts a test, which failed where there is a text that says what is wrong."""
+    def record(self, title, wrong):
+        """Counts a test. `wrong` says what is wrong, and is empty if the test passed."""
         self.passed, self.failed = self.passed + (not wrong), self.failed + bool(wrong)
         if wrong:
             print(f"FAILED: {title}\n  {wrong}", flush=True)
 
     def left_out(self, what, reason, count=1):
+        """Counts tests that are skipped, and prints why."""
         self.skipped += count
         print(f"not tried: {what}: {reason}", file=sys.stderr, flush=True)
 
     def end(self):
-        """Prints the last line; the script's status."""
+        """Prints the last line, and returns the script's status."""
         print(f"{self.passed} passed, {self.failed} failed, {self.skipped} skipped", flush=True)
         return 0 if self.failed == 0 and self.passed + self.skipped > 0 else 1
 
 
 def chosen_by(words, script, titles):
-    """Says whether a title has one of the words, or there are none. A word that no title has ends the script with
-    status 2."""
+    """Returns a function that returns whether a title contains one of the words, or whether there are no words. If no
+    title contains one of the words, ends the script with status 2."""
     for word in words:
         if not any(word in title for title in titles):
             print(f"{script}: no test here has {word!r} in its title", file=sys.stderr)
@@ -61,28 +65,30 @@ def chosen_by(words, script, titles):
 
 
 def end_by_signal(number, _):
-    """Ends what the script started, at which what waits for that ends too; and then the script."""
+    """Kills all programs that the script started, so that no thread waits for one any longer, and ends the script."""
     programs.end_all()
     raise SystemExit(128 + number)
 
 
 def end_at_signals():
-    """From here on such a signal leaves nothing behind that runs."""
+    """From now on SIGINT, SIGTERM and SIGHUP, unless they are ignored, end the script and all programs that it
+    started."""
     for number in signal.SIGINT, signal.SIGTERM, signal.SIGHUP:
         if signal.getsignal(number) is not signal.SIG_IGN:
             signal.signal(number, end_by_signal)
 
 
 class Tests(list):
-    """The tests of a script: titles, each with a function that returns what is wrong, or nothing. `untried` has those
-    that this machine has no means for, with the reasons."""
+    """The tests of a script. An item is a title and a function, which returns what is wrong or an empty text. `untried`
+    lists the titles of tests that can't run on this machine, with the reasons."""
 
     def __init__(self, script):
         super().__init__()
         self.script, self.untried = script, []
 
     def test(self, title, lacks=""):
-        """Marks a function as a test, which is tried where nothing is lacking."""
+        """Returns a decorator that makes a function a test with this title. If `lacks` isn't empty, it is the reason
+        why the test can't run here."""
         def mark(function):
             if lacks:
                 self.untried.append((title, lacks))
@@ -92,8 +98,9 @@ class Tests(list):
         return mark
 
     def main(self, words, *built, lacks="", prepare=None):
-        """Runs those that the words choose, of these built programs, once they are prepared for; none where something
-        is lacking. The script's status."""
+        """Runs the tests that the words choose, and returns the script's status. No test runs, and the status is 1, if
+        one of the programs `built` isn't current. If `lacks` isn't empty, the tests are skipped for this reason.
+        `prepare` is called before the first test."""
         titles = [title for title, _ in [*self, *self.untried]]
         chosen = chosen_by(words, self.script, titles)
         if not programs.are_current(self.script, *built):
@@ -107,15 +114,16 @@ class Tests(list):
         if prepare:
             prepare()
         tests = [test for test in self if chosen(test[0])]
-        for (title, _), wrong in zip(tests, side_by_side(tried, [function for _, function in tests], 16)):
-            counts.found(title, wrong)
+        for (title, _), wrong in zip(tests, side_by_side(try_test, [function for _, function in tests], 16)):
+            counts.record(title, wrong)
         for title, reason in self.untried:
             if chosen(title):
                 counts.left_out(title, reason)
         return counts.end()
 
 
-def tried(function):
+def try_test(function):
+    """Returns what the test returns, or the traceback of the exception that it raises."""
     try:
         return function()
     except Exception:
@@ -123,8 +131,8 @@ def tried(function):
 
 
 def side_by_side(function, items, count):
-    """What the function returns of each item, in order; most of the time goes by in waiting, so that many are run at
-    once."""
+    """Yields what the function returns for each item, in the order of the items. Up to `count` calls run at once, since
+    tests spend most of their time waiting."""
     pool = concurrent.futures.ThreadPoolExecutor(count)
     try:
         yield from pool.map(function, items)

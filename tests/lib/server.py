@@ -1,4 +1,4 @@
-"""The program's own snmpd, asked by a socket of the script; and the sockets that a program has."""
+"""Starts the program's own snmpd and sends it datagrams, and lists the sockets of a program."""
 import glob
 import os
 import socket
@@ -10,13 +10,14 @@ from lib.messages import GET, RESPONSE, message
 from lib.ports import free_port
 from lib.rows import NO_LINK, TABLE
 
-# An idle second is a turn: so many end a server that a script left behind.
+# A second without a datagram is a turn of snmpd. After this number of them, a server that a script failed to end ends
+# by itself.
 IDLE = 600
 
 
 class Server:
-    """snmpd over a table, with a command that runs it before its words. Where these don't say how many turns it has,
-    it has one for each of `datagrams`, the most that a test sends it, and those that it may be idle."""
+    """Runs snmpd with a table and more arguments. `before` is a command that runs it, such as strace. Without --turns
+    in `words`, it has a turn for each of `datagrams`, the greatest number that the test sends, and IDLE more."""
 
     def __init__(self, *words, table=TABLE, host="127.0.0.1", before=(), datagrams=0):
         turns = () if "--turns" in words else ("--turns", str(datagrams + IDLE))
@@ -35,12 +36,13 @@ class Server:
         return self
 
     def listen(self):
-        """Starts it at a port, or at the next one where another program has that."""
+        """Starts snmpd at a free port, and reads its first line. If another program has bound the port meanwhile, tries
+        again with another port, up to 20 times."""
         for _ in range(20):
             self.port = free_port()
-            self.place = f"{self.host}:{self.port}"
+            self.address = f"{self.host}:{self.port}"
             self.begun = time.monotonic()
-            self.program = programs.start("snmpd", "--table", self.file.name, "--listen", self.place, *self.words,
+            self.program = programs.start("snmpd", "--table", self.file.name, "--listen", self.address, *self.words,
                                           before=self.before)
             try:
                 self.listening = pipes.line(self.program.stdout)
@@ -49,10 +51,10 @@ class Server:
                 raise
             if self.listening:
                 return
-            ended = self.end()
-            if ended != (1, "", NO_LINK):
+            outcome = self.end()
+            if outcome != (1, "", NO_LINK):
                 break
-        raise RuntimeError(f"snmpd ended: {ended}")
+        raise RuntimeError(f"snmpd ended: {outcome}")
 
     def close(self):
         self.socket.close()
@@ -64,10 +66,12 @@ class Server:
         self.close()
 
     def send(self, datagram):
+        """Sends a datagram to the server, at 127.0.0.1."""
         self.socket.sendto(datagram, ("127.0.0.1", self.port))
 
     def receive(self, seconds=60):
-        """The next datagram. Where the server has ended and none waits, there is none."""
+        """Returns the next datagram from the server. Raises TimeoutError if none arrives in time, or if none is waiting
+        and the server has ended."""
         end = time.monotonic() + seconds
         while True:
             has_ended = self.program.poll() is not None
@@ -82,7 +86,8 @@ class Server:
         return datagram
 
     def ask(self, datagram, community=b"public"):
-        """What it sends for this datagram: all that comes before the reply to a Get of nothing."""
+        """Sends a datagram and returns the list of replies to it: those that arrive before the reply to a Get without
+        names, which is sent right after."""
         probe = message(GET, 7777777, [], community=community)
         self.send(datagram)
         self.send(probe)
@@ -93,15 +98,16 @@ class Server:
         return replies[:-1]
 
     def end(self):
-        """Its status, and what else it wrote."""
-        return programs.ended(self.program)
+        """Waits for the end of the server. Returns its status, the rest of its output, and its messages."""
+        return programs.finish(self.program)
 
 
 def sockets_of(pid):
-    """How many sockets a program has, and the addresses and ports of those of UDP, as /proc/net/udp has them."""
+    """Returns the number of sockets of a program, and the addresses and ports of its UDP sockets as in
+    /proc/net/udp."""
     links = [os.readlink(link) for link in glob.glob(f"/proc/{pid}/fd/*")]
     sockets = [link[len("socket:["):-1] for link in links if link.startswith("socket:[")]
-    # A line of it may come twice where other sockets go while it is read.
+    # A line may be read twice if other sockets are closed meanwhile.
     with open("/proc/net/udp", encoding="ascii") as file:
-        places = {fields[1] for fields in map(str.split, file) if fields[9] in sockets}
-    return len(sockets), sorted(places)
+        addresses = {fields[1] for fields in map(str.split, file) if fields[9] in sockets}
+    return len(sockets), sorted(addresses)

@@ -1,6 +1,6 @@
 # shellcheck shell=bash
-# What the tests in shell share. They source it with the words of their command line: where there are some, a test runs
-# where its title contains one of them.
+# What the tests in shell share. A script sources this file, which takes the script's arguments: a test runs if its
+# title contains one of them, or if there are none.
 set -uo pipefail
 export LC_ALL=C
 top=$(cd "$(dirname "${BASH_SOURCE[0]}")/../.." && pwd) || exit 1
@@ -9,15 +9,15 @@ titles=("$@")
 passed=0
 failed=0
 skipped=0
-# What a test writes; it and what the script started go where the script ends, by a signal too.
-# A colon in its name would divide PATH.
+# The folder for what tests write. It is removed, and jobs are ended, when the script ends, also by a signal.
+# A colon in its name would end an entry of PATH.
 [[ ${TMPDIR:-} != *:* ]] || TMPDIR=/tmp
 got=$(mktemp -d) || exit 1
 # shellcheck disable=SC2046  # each number is a word
 trap 'kill $(jobs -p) 2>/dev/null; rm -rf "$got"' EXIT
 trap 'exit 1' INT TERM HUP
 
-# Whether the test of this title runs.
+# chosen TITLE: whether the test runs. `found` has the arguments that are contained in a title.
 declare -A found=()
 chosen() {
     local word status=1
@@ -26,7 +26,7 @@ chosen() {
     return $status
 }
 
-# count TITLE WRONG: counts a test, which failed where there is a text that says why.
+# count TITLE WRONG: counts a test. WRONG says what is wrong, and is empty if the test passed.
 count() {
     chosen "$1" || return 0
     if [ -z "$2" ]; then
@@ -37,16 +37,16 @@ count() {
     fi
 }
 
-# same TITLE WANTED GOT: two texts are one.
+# same TITLE WANTED GOT: a test that passes if the two texts are equal, and otherwise shows their difference.
 same() {
     if [ "$2" = "$3" ]; then count "$1" ''; else count "$1" "$(diff <(echo "$2") <(echo "$3"))"; fi
 }
 
-# least TITLE NUMBER GOT: there are so many, at least.
-least() { count "$1" "$([ "$3" -ge "$2" ] || echo "there are $3, and not $2")"; }
+# least TITLE NUMBER GOT: a test that passes if GOT is at least NUMBER.
+least() { count "$1" "$([ "$3" -ge "$2" ] || echo "expected at least $2, got $3")"; }
 
-# has NUMBER TITLE COMMAND..: whether this machine has these commands. Where it lacks one, so many tests are skipped,
-# and it is told which.
+# has NUMBER TITLE COMMAND..: whether the test runs and this machine has these commands. If one is missing, NUMBER tests
+# are counted as skipped, and the command is named on standard error.
 has() {
     local command
     chosen "$2" || return 1
@@ -59,7 +59,7 @@ has() {
     done
 }
 
-# hold_port: port is one of UDP at 127.0.0.1 that is free, and that no other test draws while this script lasts.
+# hold_port: sets `port` to a UDP port that is free at 127.0.0.1, and that no other test chooses until this script ends.
 hold_port() {
     local door
     exec {door}< <(PYTHONPATH=$top/tests exec python3 -m lib.hold_port)
@@ -68,13 +68,14 @@ hold_port() {
     [ -n "$port" ] || { echo "$script: no port is free here" >&2; exit 1; }
 }
 
-# are_current NAME..: the built programs of these crates are those of the sources, else the script ends.
+# are_current NAME..: ends the script unless the programs of these crates were built from the current sources.
 are_current() {
     local name
     for name; do "$top/tests/is-current" "$top/crates/$name/out/$name" || exit 1; done
 }
 
-# The last line, and the status of the script: 2 where a word stands in no title.
+# end: prints the last line and ends the script, with status 0 if no test failed and one passed or was skipped. If no
+# title contains one of the arguments, ends it with status 2.
 end() {
     local word
     for word in "${titles[@]}"; do

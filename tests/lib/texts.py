@@ -1,4 +1,4 @@
-"""What the program prints for a name and a value with -On and no module file, written anew from docs/REFERENCE.md."""
+"""The lines that the program prints for names and values with -On and no module file, by docs/PROFILE.md."""
 from lib.messages import NULL, elements, name_in
 
 NO_OBJECT = "No Such Object available on this agent at this OID"
@@ -6,10 +6,12 @@ NO_INSTANCE = "No Such Instance currently exists at this OID"
 
 
 def dotted(name):
+    """Returns a name as numbers, each after a dot."""
     return "".join(f".{n}" for n in name) or "."
 
 
 def ticks(n):
+    """Returns the text of a number of hundredths of a second."""
     seconds, hundredths = divmod(n, 100)
     minutes, seconds = divmod(seconds, 60)
     hours, minutes = divmod(minutes, 60)
@@ -19,11 +21,13 @@ def ticks(n):
 
 
 def hexadecimal(octets):
+    """Returns octets in hexadecimal, 16 a line, each with a blank after it."""
     lines = [octets[i:i + 16] for i in range(0, len(octets), 16)]
     return "\n".join("".join(f"{octet:02X} " for octet in line) for line in lines)
 
 
 def string(octets):
+    """Returns the text of a string: in quotes if each octet is printable ASCII, otherwise in hexadecimal."""
     if not octets:
         return '""'
     if all(32 <= octet <= 126 for octet in octets):
@@ -33,7 +37,8 @@ def string(octets):
 
 
 def number(content, octets, signed=False):
-    """A number of at most so many octets; one that is never below 0 may lack the zero octet before it."""
+    """Returns the number that a content encodes, which must fit into `octets` octets. Unless `signed`, its first octet
+    isn't read as a sign, and the content may have one more octet, a zero."""
     n = int.from_bytes(content, "big", signed=signed)
     if not content or len(content) > octets + (not signed) or n >> 8 * octets not in (0, -1):
         raise ValueError("no such number")
@@ -41,7 +46,7 @@ def number(content, octets, signed=False):
 
 
 def value_text(value):
-    """The text of a value that is one element, or None where the standard has no such value."""
+    """Returns the text of an encoded value or exception, or None if the standard has no such value."""
     (tag, content), = elements(value)
     try:
         if tag == 0x02:
@@ -68,5 +73,5 @@ def value_text(value):
 
 
 def line(name, value):
-    """What is printed for a binding."""
+    """Returns what is printed for a binding."""
     return f"{dotted(name)} = {value_text(value)}\n"
