@@ -1,23 +1,23 @@
 #!/usr/bin/env python3
-"""Tries the edits of tests/edits, each of which makes a crate wrong: the proofs must refuse it. The gate itself tries
-the most telling ones, those of crates/NAME/must-fail, and asks whether the others were tried over what stands here.
+"""Tries the edits of tests/edits. Each makes a crate wrong, and the proofs must refuse it. The gate always tries those
+of crates/NAME/must-fail; it tries the others if a crate has changed since its edits were tried last.
 
 usage: edits.py [--seconds N] [CRATE..]
        edits.py --stale
 
-The edits of a crate are tried in a copy of the repository, in place of the gate's, over what `rt check` kept of it:
-so check the crate first. Each takes a processor 10 to 60 seconds, those of large crates most. Where all of a crate's
-were refused, its line in tests/edits/tried.txt has the hash of what they were tried over: its sources, definitions,
-proofs and edits, and the definitions of all crates below it, all without comments, and the toolchain that README.md
-names. Where one wasn't, the crate has no line. The last line is 'N passed, M failed, K skipped'. With --seconds, the
-tries end after that time, and what wasn't tried by then is skipped.
+Tries the edits of these crates, or of all, in a copy of the repository in which they replace those of must-fail. The
+copy uses what `rt check` has stored for a crate, so check the crate first. An edit takes a processor 10 to 60 seconds,
+longest in large crates. If all edits of a crate were refused, its line in tests/edits/tried.txt has a hash: of the
+sources, definitions, proofs and edits of the crate and the definitions of all crates that it uses, all without
+comments, and of the toolchain that README.md names. If one wasn't refused, the crate has no line. The last line printed
+is 'N passed, M failed, K skipped'. With --seconds, the tries end after that time, and the remaining edits are skipped.
 
-The copy is a folder `.edits-..` beside the checkout, of second names of its files (hard links): so the folder above the
-checkout must be writable, and of the same file system. What is written in place in a file of one is written in the
-other too; nothing here does, and an editor that does is best left alone meanwhile.
+The copy is a folder `.edits-..` next to the checkout, and its files are hard links. So the parent folder of the
+checkout must be writable and on the same file system. If a file is changed in place, it changes in the copy too. This
+script doesn't do that; don't use an editor that does while it runs.
 
-With --stale, as in the gate, nothing is tried: the status is 2 where a crate's line has another hash than what is
-here, or isn't there, and 1 where a library has no edits. The last line says how many crates are as they were tried.
+With --stale, which the gate uses, nothing is tried. The status is 2 if a crate has no line or one with another hash
+than its current files, and 1 if the edits of a library are missing. The last line says how many crates haven't changed.
 """
 import hashlib
 import os
@@ -33,36 +33,36 @@ TOP = os.path.dirname(os.path.dirname(os.path.abspath(__file__)))
 EDITS = os.path.join("tests", "edits")
 TRIED = os.path.join(EDITS, "tried.txt")
 HEAD = "# Of each crate whose edits were all refused, the hash of what they were tried over: tests/edits.py wrote it.\n"
-# How the lines begin that are comments, or list the files of a folder, which are in the hash by their names.
+# Lines that begin like this aren't hashed: comments, and lists of the files of a folder, whose paths are hashed anyway.
 NO_STATEMENTS = {".rt": (b"//",), ".antt": (b"--", b"pub mod ")}
 IMPORT = re.compile(rb"(\b(?:ghost |pub |unfoldable )*use Rattle\.[\w.+]+\.)\{([^}]*)\}(;?) ?")
-# Why a crate's edits are to be tried.
-NO_LINE = "it has no line"
-STALE = "it isn't what its edits were tried over"
+# Why the edits of a crate have to be tried.
+NO_LINE = "it has no line in tests/edits/tried.txt"
+STALE = "it has changed since its edits were tried"
 REFUSED = re.compile(r"rt: must-fail (\w+)/(\w+)\.edit: refused, as it must be(: .*)?\n?")
-# What begins each verdict.
+# The beginning of each line with a verdict.
 VERDICT = re.compile(r"rt: must-fail (\w+)/(\w+)\.edit: ")
 
 
 def at(path):
-    """A path of the checkout."""
+    """Returns the path of a file of the checkout."""
     return os.path.join(TOP, path)
 
 
 def edits_in(folder):
-    """The names of the edits in a folder, which needn't be there."""
+    """Returns the names of the edits in a folder, none if there is no such folder."""
     names = os.listdir(at(folder)) if os.path.isdir(at(folder)) else []
     return {name.removesuffix(".edit") for name in names if name.endswith(".edit")}
 
 
 def edits_of_crates():
-    """The edits of each crate that has a folder of them, by their names."""
+    """Returns the names of the edits of each crate that has a folder in tests/edits."""
     crates = sorted(entry.name for entry in os.scandir(at(EDITS)) if entry.is_dir())
     return {crate: edits_in(os.path.join(EDITS, crate)) for crate in crates}
 
 
 def crates_of_list():
-    """The crates of crates.txt, each with those that it uses."""
+    """Returns the crates of crates.txt, each with those that it uses."""
     with open(at("crates.txt"), encoding="utf-8") as file:
         lines = [line.partition("#")[0].partition(":") for line in file]
     uses = {head.split()[0]: used.split() for head, colon, used in lines if colon}
@@ -70,7 +70,7 @@ def crates_of_list():
 
 
 def crates_below(crate):
-    """The crates that a crate stands on, also through others."""
+    """Returns the crates that a crate uses, also through others."""
     uses = crates_of_list()
     found, left = set(), [crate]
     while left:
@@ -81,15 +81,15 @@ def crates_below(crate):
 
 
 def libraries():
-    """The crates whose contracts others rest on, or which promise what the pages say: not tests, and not bench."""
+    """Returns the libraries whose contracts other crates or the pages rely on: all but crates of tests and bench."""
     return [crate for crate in crates_of_list() if os.path.exists(at(f"crates/{crate}/src/lib.rt"))
             and not crate.endswith("_tests") and crate != "bench"]
 
 
 def statements_of(path):
-    """What a file says, in whichever lines it says it: without blank ones, comments and lists of the files beside it,
-    imported names and definitions of `specs` each by itself, in one order, and those of `private` as if they stood with
-    the others."""
+    """Returns the content of a file in a form that doesn't depend on its layout: without blank lines, comments, line
+    breaks and lists of files. Imported names are written one by one and sorted, and so are the definitions in `specs`.
+    Paths in `specs/private` are written as if they were in `specs`."""
     marks = NO_STATEMENTS.get(os.path.splitext(path)[1], ())
     with open(path, "rb") as file:
         text = file.read()
@@ -105,7 +105,7 @@ def statements_of(path):
 
 
 def toolchain():
-    """The toolchain that README.md names."""
+    """Returns the toolchain that README.md names."""
     with open(at("README.md"), encoding="utf-8") as file:
         found = re.search(r"^Proved with: `([^`]+)`", file.read(), re.MULTILINE)
     if not found:
@@ -114,26 +114,26 @@ def toolchain():
 
 
 def hash_of(crate):
-    """The hash of what decides whether the edits of a crate are refused. Of the crates below it those are their
-    definitions, in whose words its contracts speak; what their contracts no longer say its proofs can't use, and what
-    they say more is true."""
+    """Returns the hash of what decides whether the edits of a crate are refused. Of the crates that it uses, these are
+    the definitions, in which its contracts are written. Their contracts aren't hashed: if one becomes weaker, the
+    proofs of this crate can't use what it no longer says; if one becomes stronger, what it says is true."""
     folders = [f"crates/{crate}/{part}" for part in ("src", "specs", "proofs")] + [os.path.join(EDITS, crate)]
     folders += [f"crates/{below}/specs" for below in crates_below(crate)]
     hashed = hashlib.sha256(toolchain().encode())
     for folder in folders:
         said = {}
         for path in (os.path.join(room, name) for room, _, names in os.walk(at(folder)) for name in names):
-            place, text = os.path.relpath(path, TOP).replace("/private/", "/"), statements_of(path)
-            if text and place in said:
-                sys.exit(f"edits.py: {place} is there twice, once in private")
-            said.update({place: text} if text else {})
-        for place, text in sorted(said.items()):
-            hashed.update(f"{place} {len(text)}\n".encode() + text)
+            public, text = os.path.relpath(path, TOP).replace("/private/", "/"), statements_of(path)
+            if text and public in said:
+                sys.exit(f"edits.py: {public} exists twice: once in private/ and once outside")
+            said.update({public: text} if text else {})
+        for public, text in sorted(said.items()):
+            hashed.update(f"{public} {len(text)}\n".encode() + text)
     return hashed.hexdigest()
 
 
-def tried():
-    """The hash of each crate that has a line."""
+def read_tried():
+    """Returns the hash of each crate that has a line in tried.txt."""
     if not os.path.exists(at(TRIED)):
         return {}
     with open(at(TRIED), encoding="ascii") as file:
@@ -141,62 +141,67 @@ def tried():
 
 
 def write_tried(hashes):
+    """Writes a line for each of these crates to tried.txt."""
     with open(at(TRIED), "w", encoding="ascii") as file:
         file.write(HEAD + "".join(f"{crate} {hashes[crate]}\n" for crate in sorted(hashes)))
 
 
 def wrong_of(crate, of, hashes):
-    """What is wrong with a crate, its edits and its line."""
+    """Returns what is wrong with a crate, its edits or its line, or an empty text."""
     ours = f"crates/{crate}/must-fail"
     for folder in ours, f"{EDITS}/{crate}":
         if os.path.isdir(at(folder)) and not edits_in(folder):
             return f"{folder} has no edits"
     if crate not in of:
-        return "it has a line and no edits" if crate in hashes else "" if edits_in(ours) else "a library without edits"
+        if crate in hashes:
+            return "it has a line in tests/edits/tried.txt but no edits"
+        return "" if edits_in(ours) else "a library without edits"
     if crate not in hashes:
         return NO_LINE
     return "" if hash_of(crate) == hashes[crate] else STALE
 
 
 def say_stale(of):
-    """Says which crates don't stand as their edits were tried, and returns the status."""
-    hashes = tried()
+    """Prints which crates have changed since their edits were tried, or have no line. Returns the status."""
+    hashes = read_tried()
     crates = sorted({*of, *hashes, *libraries()})
     wrong = {crate: text for crate in crates if (text := wrong_of(crate, of, hashes))}
     for crate, text in wrong.items():
         print(f"{crate}: {text} (tests/edits.py {crate})")
     more = f", {len(wrong)} aren't" if wrong else ""
-    print(f"{len(crates) - len(wrong)} crates are as their edits were tried{more}")
+    print(f"{len(crates) - len(wrong)} crates are unchanged since their edits were tried{more}")
     return 0 if not wrong else 2 if set(wrong.values()) <= {NO_LINE, STALE} else 1
 
 
-def copied(room):
-    """Copies what is proved, with the edits in place of those of the gate; a crate's kept work by links."""
+def copy_crates(room):
+    """Copies the crates and the files that they need into a folder, by hard links, with the stored results of earlier
+    checks. In each crate the edits of tests/edits replace those of must-fail."""
     for name in "crates.txt", "HANDLES":
         shutil.copy(at(name), room)
     subprocess.run(["cp", "-al", at("crates"), room], check=True)
     for crate in os.listdir(os.path.join(room, "crates")):
-        place = os.path.join(room, "crates", crate, "must-fail")
-        shutil.rmtree(place, ignore_errors=True)
+        folder = os.path.join(room, "crates", crate, "must-fail")
+        shutil.rmtree(folder, ignore_errors=True)
         if os.path.isdir(at(f"{EDITS}/{crate}")):
-            shutil.copytree(at(f"{EDITS}/{crate}"), place)
+            shutil.copytree(at(f"{EDITS}/{crate}"), folder)
 
 
 def refused_by(line):
-    """The crate and the edit that a line says was refused, by the whole of the line."""
+    """Returns the crate and the edit that a line reports as refused, or None. The whole line has to have this form. An
+    edit doesn't count as refused if the line says that this was only because a proof file names something."""
     verdict = REFUSED.fullmatch(line)
     return None if not verdict or "only because a proof file names" in line else verdict.groups()[:2]
 
 
 def end(tries, over):
-    """Ends the tries and what they started, and notes that their time is over."""
+    """Ends the tries and what they started, and sets `over`, which says that their time was up."""
     over.set()
     os.killpg(tries.pid, signal.SIGTERM)
 
 
 def start(words, room):
-    """Starts the tries in a group of their own, which a signal to this script ends too. Each verdict is written at
-    once."""
+    """Starts the tries in a process group of their own, and ends them if a signal ends this script. They print each
+    verdict without delay."""
     tries = subprocess.Popen(words, cwd=room, stdout=subprocess.PIPE, text=True, start_new_session=True,
                              env={**os.environ, "PYTHONUNBUFFERED": "1"})
 
@@ -209,23 +214,23 @@ def start(words, room):
     return tries
 
 
-def refused(crates, seconds):
-    """Tries the edits of these crates. Returns those that were refused, each with its crate; and if the time was over
-    before the last verdict, those of which there is a verdict, else None."""
+def try_edits(crates, seconds):
+    """Tries the edits of these crates for at most this time. Returns the edits that were refused, each as its crate and
+    name. Also returns those with a verdict if the time was up before the end, otherwise None."""
     found, judged, over, above = set(), set(), threading.Event(), os.path.dirname(TOP)
     try:
-        # Beside the checkout, so that files can have a second name there.
-        place = tempfile.TemporaryDirectory(prefix=".edits-", dir=above)
+        # Next to the checkout, since hard links need the same file system.
+        folder = tempfile.TemporaryDirectory(prefix=".edits-", dir=above)
     except OSError as fault:
-        sys.exit(f"edits.py: no copy can be made beside the checkout, in {above}: {fault.strerror}")
-    with place as room:
+        sys.exit(f"edits.py: the copy next to the checkout, in {above}, failed: {fault.strerror}")
+    with folder as room:
         try:
-            copied(room)
+            copy_crates(room)
         except (OSError, subprocess.CalledProcessError) as fault:
             why = fault if isinstance(fault, OSError) else "cp -al failed"
-            sys.exit(f"edits.py: no copy can be made beside the checkout, in {above}: {why}")
+            sys.exit(f"edits.py: the copy next to the checkout, in {above}, failed: {why}")
         try:
-            # Anew, since those that this machine tried before would have no line.
+            # With --anew rt prints a verdict also for an edit that it has tried on this machine before.
             words = ["rt", "must-fail", "--anew", *crates]
             tries = start(words, room)
         except FileNotFoundError:
@@ -252,25 +257,26 @@ def main(names):
         seconds, names = float(names[1]), names[2:]
     unknown = [name for name in names if name not in of]
     if unknown:
-        sys.exit(f"edits.py: no edits of {unknown[0]}; there are some of {' '.join(of)}")
+        sys.exit(f"edits.py: {unknown[0]} has no edits; the crates with edits are {' '.join(of)}")
     crates = names or list(of)
     before = {crate: hash_of(crate) for crate in crates}
-    found, judged = refused(crates, seconds)
+    found, judged = try_edits(crates, seconds)
     left = {crate: [edit for edit in of[crate] if (crate, edit) not in found] for crate in crates}
     untried = set() if judged is None else {(crate, edit) for crate in crates for edit in left[crate]} - judged
-    # What has changed since it was copied was tried in part at most.
+    # If a crate has changed since the copy was made, its edits were tried in an older version.
     passed = {crate: before[crate] for crate in crates
               if of[crate] and not left[crate] and hash_of(crate) == before[crate]}
-    write_tried({crate: value for crate, value in tried().items() if crate not in crates} | passed)
+    write_tried({crate: value for crate, value in read_tried().items() if crate not in crates} | passed)
     for crate in crates:
         for edit in sorted(left[crate]):
             if (crate, edit) not in untried:
-                print(f"FAILED: {crate}/{edit}.edit isn't refused")
+                print(f"FAILED: {crate}/{edit}.edit wasn't refused")
         if not left[crate] and crate not in passed:
-            print(f"{crate}: {'no edits' if not of[crate] else 'it was changed meanwhile'}, so it has no line")
+            why = "it has no edits" if not of[crate] else "it was changed while they were tried"
+            print(f"{crate}: {why}, so it gets no line in tests/edits/tried.txt")
     if untried:
         late = " ".join(sorted({crate for crate, _ in untried}))
-        print(f"not tried: {len(untried)} edits of {late}: the time was over", file=sys.stderr)
+        print(f"not tried: {len(untried)} edits of {late}: the time was up", file=sys.stderr)
     failed = sum(map(len, left.values())) - len(untried)
     count = sum(len(of[crate]) for crate in crates)
     print(f"{count - failed - len(untried)} passed, {failed} failed, {len(untried)} skipped")

@@ -1,6 +1,6 @@
 #!/usr/bin/env bash
-# Asks whether each crate is laid out as `rt fmt` lays it out, in a copy. `rt ci` asks that too, but of each crate only
-# once those below it are proved.
+# Checks, in a copy, that `rt fmt` leaves each crate unchanged. `rt ci` checks this too, but for each crate only after
+# the crates that it uses are proved.
 #
 #   tests/layout.sh
 set -uo pipefail

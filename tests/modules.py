@@ -754,7 +754,7 @@ def captures():
     for letters in "nq", "nv", "nqv":
         untyped = run("snmpbulkwalk", f"-O{letters}", TABLE, ".1")[1]
         first, count = untyped.split("\n")[0][:60], untyped.count("\n")
-        check(f"a capture with -O{letters}", turn(untyped), (1, "", "input:1: no NAME = TYPE: VALUE, nor in "
+        check(f"a capture with -O{letters}", turn(untyped), (1, "", "input:1: not NAME = TYPE: VALUE, nor in "
               f"{count - 1} more lines: walk without -Oq, -OQ, -Ov and -Ot: {first}\n"))
     for letters in "nQ", "nt":
         status, rows, said = turn(run("snmpbulkwalk", f"-O{letters}", TABLE, ".1")[1])
@@ -765,7 +765,7 @@ def captures():
     check("a mark that isn't the first is no mark", turn(".1.3.6.1 = INTEGER: 1\n\ufeff.1.3.6.2 = INTEGER: 2\n")[:2],
           (1, "1.3.6.1|2|1\n"))
     check("one line without a type", turn(".1.3.6.1 = 5\n"),
-          (1, "", "input:1: no type that a table has: .1.3.6.1 = 5\n"))
+          (1, "", "input:1: not a type that a table can have: .1.3.6.1 = 5\n"))
 
 
 def main(words):

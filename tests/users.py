@@ -39,7 +39,7 @@ SYSTEM = "/usr/bin:/bin"
 LACKS_NOTHING = lacks("bash", "readlink") or ("rt is among the system's commands here"
                                               if shutil.which("rt", path=SYSTEM) else "")
 NO_TOOLCHAIN = "snmp: the program {}, and the command rt, which builds it, isn't on PATH: README.md, Install\n"
-UNBUILT, STALE = (NO_TOOLCHAIN.format(what) for what in ("isn't built", "isn't that of the sources as they stand"))
+UNBUILT, STALE = (NO_TOOLCHAIN.format(what) for what in ("isn't built", "wasn't built from the current sources"))
 STAND_IN = '#!/bin/sh\nprintf "%s|" "$PWD" "$@"\nexit 3\n'
 
 
@@ -116,7 +116,7 @@ def no_toolchain():
     with Clone() as clone:
         wrong = [in_all_ways(clone, words, lambda _: (1, "", UNBUILT))
                  for words in (["snmpwalk", "127.0.0.1"], ["--build"], [], ["nothing", "--help"], ["--version"])]
-        unbuilt = "snmp: the program isn't built, or isn't that of the sources: ./snmp --build\n"
+        unbuilt = "snmp: the program isn't built, or not from the current sources: ./snmp --build\n"
         wrong.append(in_all_ways(clone, ["--install", "there"], lambda _: (1, "", unbuilt)))
         clone.build()
         clone.write("crates/snmp/src/main.rt", "fn another\n")

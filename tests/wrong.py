@@ -131,8 +131,8 @@ IN_A_NETWORK = {
 }
 IN_SHELL = {
     "SOCKET_FIRST": [("program.sh", "after a wait")],
-    "REFUSES_ITS_MOST": [("operator.sh", "where the help says")],
-    "ANOTHER_MESSAGE": [("program.sh", "listen udp:"), ("operator.sh", "where the help says")],
+    "REFUSES_ITS_MOST": [("operator.sh", "with the range")],
+    "ANOTHER_MESSAGE": [("program.sh", "listen udp:"), ("operator.sh", "with the range")],
 }
 
 
