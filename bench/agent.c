@@ -1,13 +1,13 @@
-// Calls the agent over one GetBulk, for bench/agent.sh: agent REQUEST ROWS REPLIES.
-// It prints how many bindings a reply has.
+// Lets the agent reply to a GetBulk again and again, for bench/agent.sh: agent REQUEST ROWS REPLIES.
+// Prints the number of bindings of a reply.
 #include <stddef.h>
 #include <stdint.h>
 #include <stdio.h>
 #include <stdlib.h>
 #include <string.h>
 
-// Reads the table, replies that many times, and returns the number of bindings of the last reply; SIZE_MAX
-// where the table is refused or a request is dropped.
+// Reads the table, replies `replies` times, and returns the number of bindings of the last reply. Returns
+// SIZE_MAX if the table is refused or a request is dropped.
 size_t agent_bench(const uint8_t *table, size_t table_length, const uint8_t *request, size_t request_length,
                    size_t max_size, size_t replies);
 
@@ -19,7 +19,8 @@ static void put(const char *content, size_t count) {
     length += count;
 }
 
-// An element's tag, with room for a length of two octets; `close` fills it in.
+// Appends the tag of an element and leaves room for a length of two octets, which `close` writes. Returns the
+// offset of the content.
 static size_t open(char tag) {
     char head[] = {tag, (char)0x82, 0, 0};
     put(head, sizeof head);
@@ -47,7 +48,7 @@ static void put_number(int32_t number) {
     put(content, sizeof content);
 }
 
-// Eight names, from 1.3.6.1.4.1.32473.1.128 on by 64: each stands for a column of a table.
+// Appends eight names, 1.3.6.1.4.1.32473.1.128 and each 64 more, as if each were a column of a table.
 static void put_columns(void) {
     for (char column = 0; column < 8; column++) {
         char name[] = "\x2B\x06\x01\x04\x01\x81\xFD\x59\x01\x81\x00";
@@ -57,7 +58,7 @@ static void put_columns(void) {
     }
 }
 
-// 1.3.6.1.4.1.32473.1.500, in the middle of a table of 1,000 rows; a name before each row, and one after.
+// 1.3.6.1.4.1.32473.1.500, in the middle of a table of 1,000 rows; a name before all rows; a name after all rows.
 static const char MIDDLE[] = "\x2B\x06\x01\x04\x01\x81\xFD\x59\x01\x83\x74";
 static const char BEFORE[] = "\x2B\x06\x01\x04\x01\x81\xFD\x59\x00";
 static const char AFTER[] = "\x53";

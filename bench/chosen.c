@@ -1,5 +1,5 @@
-// Writes a module of many names, for bench/chosen.sh: chosen plain|chosen COUNT.
-// The plain names are numbered. The chosen ones come to one bucket of a map whose hash has the fixed key.
+// Writes a module with COUNT names, for bench/chosen.sh and tests/edge.py: chosen plain|chosen COUNT.
+// The plain names are in no way chosen. The chosen ones fall into one bucket of a map whose hash has the fixed key.
 #include <stdint.h>
 #include <stdio.h>
 #include <stdlib.h>
@@ -31,7 +31,7 @@ static void take(struct sip *s, uint64_t word) {
     s->v0 ^= word;
 }
 
-// The hash of a name: of its octets, eight at a time with the first as the lowest, and of their number.
+// Returns the hash of a name: of its octets, eight at a time with the first as the lowest, and of their number.
 static uint64_t hash(const char *name, size_t length) {
     struct sip s = {0x736f6d6570736575, 0x646f72616e646f6d, 0x6c7967656e657261, 0x7465646279746573};
     uint64_t word = 0;
@@ -47,13 +47,13 @@ static uint64_t hash(const char *name, size_t length) {
     return s.v0 ^ s.v1 ^ s.v2 ^ s.v3;
 }
 
-// The place in a map of up to 4096 groups.
+// Returns the bucket of a name in a map of up to 4096 groups.
 static uint64_t place(const char *name) {
     uint64_t found = hash(name, strlen(name));
     return (found ^ found >> 32) & 4095;
 }
 
-// The name of a number: eight letters.
+// Writes the name of a number, eight letters.
 static void spell(uint64_t number, char *name) {
     for (int i = 0; i < 8; i++, number /= 26) name[i] = (char)('a' + number % 26);
     name[8] = 0;

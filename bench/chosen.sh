@@ -1,7 +1,7 @@
 #!/usr/bin/env bash
-# Counts the instructions of loading 20,000 names that were chosen to come to one bucket under the fixed key
-# of the names' hash, and of as many plain ones, by that key and by another one. It fails where the chosen
-# names cost more than twice what the plain ones do by a key that whoever chose them didn't know.
+# Counts the instructions of loading 20,000 names that were chosen so that their hashes under the fixed key fall into
+# one bucket, and of as many plain names, each with that key and with another one. Fails if with the other key, which
+# whoever chose the names didn't know, the chosen names take more than twice the instructions of the plain ones.
 source "$(dirname "${BASH_SOURCE[0]}")/common.sh"
 driver tree.c
 cc -O2 -o "$work/chosen" "$top/bench/chosen.c"

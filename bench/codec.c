@@ -1,4 +1,4 @@
-// Calls the codec over one message, so many times, for bench/codec.sh.
+// Encodes or decodes one message again and again, for bench/codec.sh: codec length|decode|walk|encode TIMES.
 #include <stdbool.h>
 #include <stddef.h>
 #include <stdint.h>

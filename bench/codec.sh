@@ -1,7 +1,7 @@
 #!/usr/bin/env bash
-# Counts the instructions that the codec takes for a Response of 20 bindings of Counter32, 463 octets:
-# to decode it, to decode it and read its bindings, and to encode it; and what Net-SNMP's library takes to
-# bring it into its own structures and out of them, where it is installed.
+# Counts the codec's instructions for a Response of 20 bindings of Counter32, 463 octets: to decode it, to decode it and
+# read its bindings, and to encode it. If Net-SNMP's library is installed, also counts its instructions to read the
+# message into its structures and to write it from them.
 source "$(dirname "${BASH_SOURCE[0]}")/common.sh"
 driver codec.c
 echo "octets: $("$work/driver" length 0)"

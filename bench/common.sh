@@ -1,6 +1,6 @@
-# What the benchmarks share. Most call the static library of crates/bench, which is proved as every crate
-# is, from a small C program, and counts instructions by valgrind's callgrind.
-# A count is the difference of two runs, so that what a run does once doesn't count, or that of one call.
+# What the benchmarks share. Most call the static library of crates/bench, which is proved like every crate, from a
+# small C program, and count instructions with valgrind's callgrind. A count is the difference between two runs, so that
+# what a run does once isn't included, or it is the count of one function.
 set -euo pipefail
 top=$(cd "$(dirname "${BASH_SOURCE[0]}")/.." && pwd)
 work=$(mktemp -d)
@@ -8,7 +8,7 @@ trap 'rm -rf "$work"' EXIT
 
 library=$top/crates/bench/out/libbench.a
 
-# is_built FILE: whether the file is there, and was built from the sources as they stand.
+# is_built FILE: whether the file exists and was built from the current sources.
 is_built() { "$top/tests/is-current" "$1" 2>/dev/null; }
 
 # build: proves and builds the library, which all drivers link.
@@ -19,7 +19,7 @@ build() {
     "$top/tests/is-current" --built "$library" "$hash"
 }
 
-# driver SOURCE: links the C program with the library, as $work/driver.
+# driver SOURCE: compiles the C program and links it with the library, as $work/driver.
 driver=$work/driver
 driver() {
     local kit
@@ -28,18 +28,19 @@ driver() {
     cc -O2 -o "$work/driver" "$top/bench/$1" "$library" "$kit/c/liblibc_c.a"
 }
 
-# has_net_snmp: whether Net-SNMP's library is installed to be compared with (Debian's package libsnmp-dev).
+# has_net_snmp: whether Net-SNMP's library is installed (Debian's package libsnmp-dev), to compare with it.
 has_net_snmp() { command -v net-snmp-config >/dev/null; }
 
-# net_snmp COUNT WORD..: a count of the driver of Net-SNMP's library, which it links at the first call; COUNT is
-# one of the functions below, with its own first words.
+# net_snmp COUNT ARGUMENT..: calls COUNT, one of the functions below, with these arguments, for the driver of Net-SNMP's
+# library. The first call links this driver.
 net_snmp() {
     [ -x "$work/net-snmp" ] || cc -O2 -o "$work/net-snmp" "$top/bench/net-snmp.c" $(net-snmp-config --libs)
     local driver=$work/net-snmp
     "$@"
 }
 
-# compared NAME OURS COUNT WORD..: a line with our count, and Net-SNMP's by that call where it is installed.
+# compared NAME OURS COUNT ARGUMENT..: prints a line with our count and, if Net-SNMP is installed, what `net_snmp COUNT
+# ARGUMENT..` prints.
 compared() {
     local name=$1 ours=$2 theirs
     shift 2
@@ -51,21 +52,21 @@ compared() {
     echo
 }
 
-# instructions WORD..: how many instructions the driver takes with these words.
+# instructions ARGUMENT..: prints the number of instructions of a run of the driver with these arguments.
 instructions() {
     valgrind --tool=callgrind --callgrind-out-file=/dev/null "$driver" "$@" 2>&1 >/dev/null |
         sed -n 's/.*Collected : \([0-9]*\).*/\1/p'
 }
 
-# each TIMES WORD..: the instructions of one repetition, from runs of TIMES and of twice as many; the
-# driver's last word is the number of repetitions.
+# each TIMES ARGUMENT..: prints the instructions of one repetition, computed from a run with TIMES repetitions and one
+# with twice as many. The number of repetitions is the driver's last argument.
 each() {
     local times=$1
     shift
     echo $((($(instructions "$@" $((2 * times))) - $(instructions "$@" "$times")) / times))
 }
 
-# within FUNCTION WORD..: the instructions of the driver's calls of one function, and of all below it.
+# within FUNCTION ARGUMENT..: prints the instructions of the driver's calls of one function, with all that it calls.
 within() {
     local function=$1
     shift

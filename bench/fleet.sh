@@ -1,13 +1,13 @@
 #!/usr/bin/env bash
-# Polls many agents on loopback, each over a table of 24 interfaces that the program's own snmpd serves, so
-# many at a time: by a Get of five names, and by walks and bulk walks of a column and of the whole table. It
-# prints the seconds, the clients' seconds of a processor and their instructions for each poll, beside those
-# of Net-SNMP's tools where these are installed (Debian's package snmp), which take turns with ours in each
-# round; of the seconds it prints the median. Then it polls a fleet of which one in ten is silent.
+# Polls many agents on loopback, AT-ONCE at the same time. Each is the program's own snmpd with a table of 24
+# interfaces. The polls are a Get of five names, and walks and bulk walks of a column and of the whole table. Prints the
+# seconds, the clients' processor seconds, and their instructions for each poll. If Net-SNMP's tools are installed
+# (Debian's package snmp), they are measured too, in turns with ours in each round. The seconds are medians of the
+# rounds. Then it polls agents of which one in ten doesn't reply.
 #
 #   bench/fleet.sh [AGENTS [AT-ONCE [ROUNDS [GETS]]]]        200, 16, 5 and 1,000 by default
 #
-# Without valgrind it leaves the instructions out. The seconds are of use on a quiet machine alone.
+# Without valgrind, instructions aren't counted. The seconds are only meaningful on a machine without other work.
 source "$(dirname "${BASH_SOURCE[0]}")/common.sh"
 agents=${1:-200}
 at_once=${2:-16}
@@ -41,7 +41,8 @@ for ((i = 0; i < agents; i++)); do
     grep -q '^listening' "$work/agent.$i" || { cat "$work/agent.$i" >&2; exit 1; }
 done
 
-# timed DEVICES PROGRAM WORD..: polls the devices, DEVICE among the words; the seconds, and those of a processor.
+# timed DEVICES PROGRAM ARGUMENT..: runs the program for each device, which replaces DEVICE in the arguments. Prints the
+# seconds and the processor seconds.
 timed() {
     local devices=$1 TIMEFORMAT='%R %U %S'
     shift
@@ -49,7 +50,7 @@ timed() {
         awk '{ print $1, $2 + $3 }'
 }
 
-# count PROGRAM WORD..: the instructions of a run.
+# count PROGRAM ARGUMENT..: prints the instructions of a run with the first agent, or nothing without valgrind.
 count() {
     command -v valgrind >/dev/null || return 0
     ln -sf "$(command -v "$1")" "$work/driver"
@@ -57,10 +58,10 @@ count() {
     instructions "${@//DEVICE/127.0.0.1:$port}"
 }
 
-# beside NAME POLLS: a line of what ours and theirs, as $work/ours and $work/theirs have them, take.
+# beside NAME POLLS: prints a line that compares the measurements in $work/ours and, if there are any, $work/theirs.
 beside() {
     awk -v name="$1" -v polls="$2" '
-        # The middle of n numbers, which it puts in order.
+        # Sorts n numbers, and returns their median.
         function middle(all, n, i, j, it) {
             for (i = 2; i <= n; i++) {
                 it = all[i]
@@ -88,7 +89,7 @@ beside() {
         }' "${both[@]}"
 }
 
-# compare NAME DEVICES COMMAND OPTIONS WORD..: polls by ours and theirs, in turns.
+# compare NAME DEVICES COMMAND OPTIONS ARGUMENT..: polls with our command and theirs in turns, and prints a line.
 compare() {
     local name=$1 devices=$2 command=$3 options=$4 both=(ours) round
     shift 4
@@ -107,7 +108,7 @@ compare() {
     beside "$name" "$(wc -l <"$devices")"
 }
 
-# A Get is short, so each agent is asked several times.
+# A Get takes little time, so each agent is asked several times.
 for ((i = 0; i < gets; i += agents)); do cat "$work/devices"; done >"$work/many"
 echo "$agents agents, $at_once at a time, $(wc -l <"$work/table.tab") rows each, medians of $rounds rounds"
 compare 'Get of five names' "$work/many" snmpget '' "${names[@]}"
@@ -116,7 +117,7 @@ compare 'bulk walk of a column, -Cr25' "$work/devices" snmpbulkwalk -Cr25 "$colu
 compare 'walk of the table' "$work/devices" snmpwalk '' "$table"
 compare 'bulk walk of the table, -Cr25' "$work/devices" snmpbulkwalk -Cr25 "$table"
 
-# One in ten is silent: sockets that nobody reads.
+# One agent in ten doesn't reply: it is replaced by a socket that no program reads.
 silent=$(((agents + 9) / 10))
 : >"$work/silent"
 python3 - "$silent" >>"$work/silent" <<'SILENT' &

@@ -1,11 +1,11 @@
-// Shows a line a number of times, for bench/lines.sh: lines NUMERIC NUMBERS NUMBER TIMES, where NUMBERS
-// is how many numbers the name has (each is NUMBER). It prints how many octets the line has.
+// Shows a line TIMES times, for bench/lines.sh: lines NUMERIC NUMBERS NUMBER TIMES. The name has NUMBERS numbers,
+// each of which is NUMBER. Prints the number of octets of the line.
 #include <stddef.h>
 #include <stdint.h>
 #include <stdio.h>
 #include <stdlib.h>
 
-// The octets of the line of an INTEGER, shown that many times.
+// Shows the line of an INTEGER `times` times, and returns its number of octets.
 size_t line_octets(uint32_t numeric, size_t numbers, uint32_t number, uint64_t times);
 
 int main(int count, char **words) {

@@ -1,6 +1,6 @@
 #!/usr/bin/env bash
-# Counts the instructions of a line, `NAME = INTEGER: 5`, whose name is in numbers, by how many numbers it
-# has and how long they are.
+# Counts the instructions of showing a line, `NAME = INTEGER: 5`, with a numeric name of a varying number of numbers of
+# varying length.
 source "$(dirname "${BASH_SOURCE[0]}")/common.sh"
 driver lines.c
 

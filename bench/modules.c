@@ -1,14 +1,14 @@
-// Reads the module text of a file, for bench/modules.sh: modules tokens|definitions FILE TIMES.
-// It prints the octets of the text, and the tokens or definitions.
+// Reads the module text in a file TIMES times, for bench/modules.sh: modules tokens|definitions FILE TIMES.
+// Prints the number of octets of the text, and of its tokens or definitions.
 #include <stddef.h>
 #include <stdint.h>
 #include <stdio.h>
 #include <stdlib.h>
 #include <string.h>
 
-// The definitions of the text, or SIZE_MAX where it is refused.
+// Returns the number of definitions of the text, or SIZE_MAX if it is refused.
 size_t smi_definitions_in(const uint8_t *text, size_t length);
-// The tokens of the text before its first fault.
+// Returns the number of tokens of the text before its first fault.
 size_t smi_tokens_in(const uint8_t *text, size_t length);
 
 int main(int count, char **words) {

@@ -1,13 +1,13 @@
 #!/usr/bin/env python3
 """Writes SMIv2 module texts with every production of the grammar, for the benchmark of the parser.
 
-usage: modules_text.py OCTETS            modules in turn until there are that many octets
+usage: modules_text.py OCTETS            one module after the other, until there are at least OCTETS octets
        modules_text.py definitions N     one module of N small definitions
        modules_text.py objects N         one module of N small objects with named numbers
        modules_text.py parents N         one module of N definitions, each below the next one
        modules_text.py types N           one object of the first of N types, each made of the next one
        modules_text.py braces N          one DEFVAL of N nested braces
-       modules_text.py string OCTETS     one definition whose description has that many octets
+       modules_text.py string OCTETS     one definition with a description of OCTETS octets
 """
 import sys
 
@@ -16,7 +16,7 @@ WORDS = ("the number of octets received on this interface including framing char
 
 
 def prose(seed, words):
-    """So many words in lines of some 60 octets, as descriptions have them."""
+    """Returns a text of `words` words in lines of about 60 octets, as in descriptions."""
     lines, line = [], ""
     for i in range(words):
         word = WORDS[(seed * 7 + i * 5) % len(WORDS)]
@@ -29,6 +29,7 @@ def prose(seed, words):
 
 
 def status(seed, words, reference=False):
+    """Returns a STATUS and a DESCRIPTION of `words` words, and perhaps a REFERENCE."""
     text = f'    STATUS      current\n    DESCRIPTION\n           "{prose(seed, words)}"\n'
     if reference:
         text += f'    REFERENCE\n           "RFC {1000 + seed % 9000}, Section {seed % 9}"\n'
@@ -36,6 +37,7 @@ def status(seed, words, reference=False):
 
 
 def head(n):
+    """Returns the beginning of module n, up to its imports."""
     return f"""MODULE-{n}-MIB {{ iso org(3) dod(6) internet {n} }} DEFINITIONS ::= BEGIN
 
 IMPORTS
@@ -52,6 +54,7 @@ IMPORTS
 
 
 def identities(n):
+    """Returns the MODULE-IDENTITY of module n, and other definitions of identifiers."""
     return f"""
 module{n} MODULE-IDENTITY
     LAST-UPDATED "200006140000Z"
@@ -77,6 +80,7 @@ module{n}Identity OBJECT-IDENTITY
 
 
 def types(n):
+    """Returns textual conventions, types and macros."""
     return f"""
 Owner{n} ::= TEXTUAL-CONVENTION
     DISPLAY-HINT "255a"
@@ -106,6 +110,7 @@ END
 
 
 def column(n, table, k):
+    """Returns the definition of column k of a table."""
     syntaxes = ["Counter32", "INTEGER { up(1), down(2), testing(3) }", "Integer32 (0..2147483647)",
                 "OCTET STRING (SIZE (0..255))", "OBJECT IDENTIFIER", f"Owner{n}", "Gauge32", "BITS { a(0), b(7) }"]
     units = '    UNITS       "packets"\n' if k % 4 == 0 else ""
@@ -119,6 +124,7 @@ item{n}T{table}C{k} OBJECT-TYPE
 
 
 def table(n, t, columns):
+    """Returns the definitions of table t and its columns."""
     fields = ",\n".join(f"    item{n}T{t}C{k}          Counter32" for k in range(1, columns + 1))
     index = f"INDEX   {{ item{n}T{t}C1, IMPLIED item{n}T{t}C2 }}" if t % 2 else f"AUGMENTS {{ item{n}T1Entry }}"
     text = f"""
@@ -141,6 +147,7 @@ Item{n}T{t}Entry ::= SEQUENCE {{
 
 
 def conformance(n):
+    """Returns notifications, groups, a compliance and capabilities, and the end of the module."""
     return f"""
 -- conformance information
 
@@ -187,10 +194,12 @@ END
 
 
 def module(n):
+    """Returns module n."""
     return head(n) + identities(n) + types(n) + table(n, 1, 14) + table(n, 2, 9) + conformance(n)
 
 
 def modules(octets):
+    """Returns modules with at least this number of octets together."""
     text, n = "", 1
     while len(text) < octets:
         text += module(n)
@@ -199,11 +208,13 @@ def modules(octets):
 
 
 def definitions(count):
+    """Returns a module with `count` small definitions."""
     lines = "".join(f"name{i} OBJECT IDENTIFIER ::= {{ iso {i} }}\n" for i in range(count))
     return "MANY DEFINITIONS ::= BEGIN\n" + lines + "END\n"
 
 
 def objects(count):
+    """Returns a module with `count` small objects with named numbers."""
     lines = "".join(
         f"name{i} OBJECT-TYPE SYNTAX INTEGER {{ up(1), down(2) }} MAX-ACCESS read-only STATUS current "
         f'DESCRIPTION "" ::= {{ many {i} }}\n' for i in range(count))
@@ -211,22 +222,26 @@ def objects(count):
 
 
 def parents(count):
+    """Returns a module with `count` definitions, each below the next one."""
     lines = "".join(f"name{i} OBJECT IDENTIFIER ::= {{ name{i + 1} 1 }}\n" for i in range(count))
     return "PARENTS DEFINITIONS ::= BEGIN\n" + lines + f"name{count} OBJECT IDENTIFIER ::= {{ iso 1 }}\nEND\n"
 
 
 def type_chain(count):
+    """Returns a module with `count` types, each made of the next one, and an object of the first."""
     lines = "".join(f"Type{i} ::= Type{i + 1}\n" for i in range(count))
     return ("TYPES DEFINITIONS ::= BEGIN\n"
             'x OBJECT-TYPE SYNTAX Type0 MAX-ACCESS read-only STATUS current DESCRIPTION "" ::= { iso 1 }\n' + lines + f"Type{count} ::= INTEGER {{ last(1) }}\nEND\n")
 
 
 def braces(count):
+    """Returns a module with a DEFVAL of `count` nested braces."""
     return ('DEEP DEFINITIONS ::= BEGIN\nx OBJECT-TYPE SYNTAX BITS MAX-ACCESS read-only STATUS current DESCRIPTION ""\n'
             "DEFVAL { " + "{" * count + "}" * count + " } ::= { iso 1 }\nEND\n")
 
 
 def string(octets):
+    """Returns a module with a description of this number of octets."""
     return ('LONG DEFINITIONS ::= BEGIN\nx OBJECT-IDENTITY STATUS current DESCRIPTION "' + "a" * octets +
             '" ::= { iso 1 }\nEND\n')
 

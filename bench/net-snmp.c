@@ -1,6 +1,6 @@
-// Calls Net-SNMP's library for what the scripts of bench/ count, where its headers are installed:
-//   net-snmp decode|encode TIMES       a Response of 20 bindings, into and out of its own structures
-//   net-snmp exchange ROWS TIMES       a request and its Response of so many rows, each written and read
+// Does with Net-SNMP's library what the scripts of bench/ count. They compile this if its headers are installed.
+//   net-snmp decode|encode TIMES       reads a Response of 20 bindings into its structures, or writes it from them
+//   net-snmp exchange ROWS TIMES       writes and reads a request, and its Response with ROWS rows
 //   net-snmp modules FILE TIMES        reads the modules of a file (TIMES is 1)
 //   net-snmp names|lines FILE TIMES    finds a name, or shows a line, among the nodes of the file's modules
 #include <stdbool.h>
@@ -27,8 +27,7 @@ static netsnmp_pdu *decoded(u_char *octets, size_t left) {
     return pdu;
 }
 
-// Writes the message, and reads what was written where it is to be read. The library writes from the end of
-// the packet to its front.
+// Writes the message, and reads it again if `is_read`. The library writes a packet from its end to its start.
 static netsnmp_pdu *coded(netsnmp_session *session, netsnmp_pdu *pdu, bool is_read) {
     u_char *packet = malloc(2048);
     size_t size = 2048, offset = 0;
@@ -38,7 +37,8 @@ static netsnmp_pdu *coded(netsnmp_session *session, netsnmp_pdu *pdu, bool is_re
     return read;
 }
 
-// A GetNext for one row, or a GetBulk for more, and its Response, which has INTEGERs at names of ten numbers.
+// Writes and reads a GetNext for one row, or a GetBulk for more, and its Response, which has INTEGERs at names of ten
+// numbers.
 static void exchange(netsnmp_session *session, long rows) {
     oid name[] = {1, 3, 6, 1, 4, 1, 32473, 1, 1000, 0};
     netsnmp_pdu *asked = snmp_pdu_create(rows == 1 ? SNMP_MSG_GETNEXT : SNMP_MSG_GETBULK);
@@ -63,7 +63,7 @@ static void exchange(netsnmp_session *session, long rows) {
     snmp_free_pdu(asked);
 }
 
-// Where the instructions of reading a file are counted.
+// Reads a file. The instructions of this function are counted.
 __attribute__((noinline)) void net_snmp_modules(const char *file) {
     if (read_mib(file) == NULL) exit(1);
 }

@@ -1,7 +1,7 @@
 #!/usr/bin/env bash
-# Counts the instructions and the peak memory of the program as it reads a table file of 25,000, 50,000 and
-# 100,000 rows in no order, by a walk that begins after all of them; and what each row costs more by a walk
-# over all of them, its request, its reply and its line included.
+# Counts the instructions and the peak memory of reading a table file of 25,000, 50,000 and 100,000 rows in no order, by
+# a walk that begins after all of them. Then counts how many more instructions each row takes in a walk over all of
+# them, including its request, its reply and its line.
 source "$(dirname "${BASH_SOURCE[0]}")/common.sh"
 program=$top/crates/snmp/out/snmp
 is_built "$program" || "$top/snmp" --build

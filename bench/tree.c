@@ -1,21 +1,21 @@
 // Loads the modules of a file, for bench/tree.sh and bench/chosen.sh: tree
-// nodes|keyed|names|identifiers|syntaxes|lines FILE TIMES. It prints the nodes, how often the name, the
-// identifier or the syntax was found, or the octets of the line.
+// nodes|keyed|names|identifiers|syntaxes|lines FILE TIMES. Prints the number of nodes, how many times the name, the
+// identifier or the syntax was found, or the number of octets of the line.
 #include <stddef.h>
 #include <stdint.h>
 #include <stdio.h>
 #include <stdlib.h>
 #include <string.h>
 
-// The nodes of the modules of the text, or SIZE_MAX where it is refused.
+// Returns the number of nodes of the modules in the text, or SIZE_MAX if it is refused.
 size_t tree_nodes_in(const uint8_t *text, size_t length);
-// The same, with names hashed by a key of these octets.
+// The same, with a key for the names' hash whose octets are all `seed`.
 size_t tree_nodes_keyed(const uint8_t *text, size_t length, uint8_t seed);
-// How often a look-up finds something, so many times.
+// Makes a look-up `times` times, and returns how many of them found something.
 size_t tree_names_in(const uint8_t *text, size_t length, size_t times);
 size_t tree_identifiers_in(const uint8_t *text, size_t length, size_t times);
 size_t tree_syntaxes_in(const uint8_t *text, size_t length, size_t times);
-// The octets of a line, shown so many times.
+// Shows a line `times` times, and returns its number of octets.
 size_t tree_lines_in(const uint8_t *text, size_t length, size_t times);
 
 int main(int count, char **words) {

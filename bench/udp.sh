@@ -1,10 +1,9 @@
 #!/usr/bin/env bash
-# Counts the instructions that a walker takes for each row over UDP on loopback, where the program's own
-# snmpd serves the table, and prints them as a ratio to those of Net-SNMP's walkers where these are
-# installed (Debian's package snmp). It is the difference of walks over 40,000 and 20,000 rows, so that
-# what a run does once doesn't count. Then what a run does once: the words, and a walk over an empty table.
-# Last the rows a second of walks over 100,000 rows to a file, medians of five runs in turn with Net-SNMP's,
-# which are of use on a quiet machine alone.
+# Counts a walker's instructions for each row over UDP on loopback, from the program's own snmpd. If Net-SNMP's walkers
+# are installed (Debian's package snmp), prints theirs too, and the ratio. The count is the difference between walks
+# over 40,000 and 20,000 rows, so that what a run does once isn't included. This is counted next: reading the arguments,
+# and a walk over an empty table. Last come the rows per second of walks over 100,000 rows to a file, the medians of
+# five runs in turns with Net-SNMP's. They are only meaningful on a machine without other work.
 source "$(dirname "${BASH_SOURCE[0]}")/common.sh"
 program=$top/crates/snmp/out/snmp
 is_built "$program" || "$top/snmp" --build
@@ -14,7 +13,7 @@ rows=20000
 python3 - $rows >"$work/table.tab" <<'ROWS'
 import sys
 rows = int(sys.argv[1])
-# The last row stands behind the parts, so that no walk of one ends at the end of the view.
+# The last row comes after the three parts, so that no walk of a part ends at the end of the view.
 for part, count in (1, rows), (2, 2 * rows), (3, 5 * rows), (4, 1):
     for i in range(count):
         print(f"1.3.6.1.4.1.32473.{part}.{i // 100}.{i % 100}|2|{i}")
@@ -23,14 +22,14 @@ ROWS
 trap 'kill %1 2>/dev/null; rm -rf "$work"' EXIT
 until grep -q '^listening' "$work/server.log"; do sleep 0.1; done
 
-# count PROGRAM WORD..: the instructions of a run.
+# count PROGRAM ARGUMENT..: prints the instructions of a run.
 count() {
     ln -sf "$(command -v "$1")" "$work/driver"
     shift
     instructions "$@"
 }
 
-# each_row PROGRAM WORD..: the instructions of one more row.
+# each_row PROGRAM ARGUMENT..: prints how many more instructions a walk takes for each more row.
 each_row() {
     local short long
     short=$(count "$@" "$agent" .1.3.6.1.4.1.32473.1)
@@ -38,7 +37,8 @@ each_row() {
     echo $(((long - short) / rows))
 }
 
-# beside NAME OURS THEIR-PROGRAM WORD..: a line with our count, and theirs as a multiple of it.
+# beside NAME OURS THEIR-PROGRAM ARGUMENT..: prints a line with our count and, if their program is installed, theirs and
+# the ratio.
 beside() {
     local name=$1 ours=$2 theirs
     shift 2
@@ -56,17 +56,17 @@ beside 'snmpbulkwalk -Cr50' "$(each_row "$program" snmpbulkwalk -On -Cr50)" snmp
 echo "start-up: --version $(count "$program" --version) instructions," \
     "a walk over an empty table $(count "$program" snmpwalk -On "table:$work/empty.tab" .1.3)"
 
-# seconds PROGRAM WORD..: those that a walk of the longest part takes.
+# seconds PROGRAM ARGUMENT..: prints the seconds that a walk of the longest part takes.
 seconds() {
     local TIMEFORMAT=%R
     { time "$@" "$agent" .1.3.6.1.4.1.32473.3 >"$work/lines" 2>"$work/said"; } 2>&1
     [ "$(wc -l <"$work/lines")" = $((5 * rows)) ] || { echo "$1: a walk without all rows" >&2; exit 1; }
 }
 
-# rate FILE: the rows a second, by the middle one of its seconds.
+# rate FILE: prints the rows per second of the walk with the median time.
 rate() { sort -n "$1" | awk -v rows=$((5 * rows)) '{ all[NR] = $1 } END { printf "%d", rows / all[int((NR + 1) / 2)] }'; }
 
-# in_turn COMMAND WORD..: rows a second, ours and theirs.
+# in_turn COMMAND ARGUMENT..: runs our walker and theirs in turns, and prints their rows per second.
 in_turn() {
     local command=$1 round
     shift

@@ -1,12 +1,12 @@
-// Shows a value a number of times, for bench/values.sh: values KIND HINT OCTETS TIMES, where OCTETS is
-// how many octets the value has (each is 65). It prints how many octets the text has.
+// Shows a value TIMES times, for bench/values.sh: values KIND HINT OCTETS TIMES. The value has OCTETS octets, each of
+// which is 65. Prints the number of octets of the text.
 #include <stddef.h>
 #include <stdint.h>
 #include <stdio.h>
 #include <stdlib.h>
 #include <string.h>
 
-// The octets of the text of a value of this kind, shown that many times.
+// Shows a value of this kind `times` times, and returns the number of octets of its text.
 size_t value_text_octets(uint32_t kind, const uint8_t *text, size_t length, size_t hint,
                          uint64_t times);
 

@@ -1,6 +1,6 @@
 #!/usr/bin/env bash
-# Counts the instructions of showing a value: an INTEGER, TimeTicks, and strings of 100 and 200 octets,
-# without a display hint and under some, which shows that the cost is linear in the text and the octets.
+# Counts the instructions of showing a value: an INTEGER, TimeTicks, and strings of 100 and 200 octets, without a
+# display hint and with several, which shows that the cost is linear in the lengths of the text and of the string.
 source "$(dirname "${BASH_SOURCE[0]}")/common.sh"
 driver values.c
 

@@ -1,12 +1,12 @@
-// Walks over a link in memory, for bench/walk.sh: walk REPETITIONS ROWS WALKS.
-// It prints how many bindings the walks gave.
+// Walks over a link in memory WALKS times, for bench/walk.sh: walk REPETITIONS ROWS WALKS.
+// Prints the number of bindings that the walks returned.
 #include <stddef.h>
 #include <stdint.h>
 #include <stdio.h>
 #include <stdlib.h>
 
-// Reads the table, walks that many times, by GetBulk with these repetitions or by GetNext where there are
-// none, and returns the number of bindings that were given; SIZE_MAX where the table is refused.
+// Reads the table and walks `walks` times, by GetBulk with these repetitions, or by GetNext if they are below 1. Returns
+// the number of bindings that the walks returned, or SIZE_MAX if the table is refused.
 size_t walk_bench(const uint8_t *table, size_t table_length, int32_t repetitions, size_t max_size, size_t walks);
 
 int main(int count, char **words) {

@@ -1,10 +1,9 @@
 #!/usr/bin/env bash
-# Counts the instructions that a walk over a link in memory takes for each row, by GetNext and by GetBulk of
-# 1, 10 and 50: request, agent and reply together, without printing. It is the difference of walks over 4,000
-# and 2,000 rows, so that what a walk does once doesn't count, nor the reading of the table. Net-SNMP's
-# library has no link in memory: of it, where it is installed, what it takes to write and read a request and
-# its Response is counted, without a search for the row and without what its walk does.
-# Of a GetNext it counts what the agent takes, too.
+# Counts the instructions of a walk over a link in memory for each row, by GetNext and by GetBulk of 1, 10 and 50. They
+# include the request, the agent and the reply, but no printing. The count is the difference between walks over 4,000
+# and 2,000 rows, so that it doesn't include what a walk does once and the reading of the table. Net-SNMP's library has
+# no link in memory. If it is installed, the count is that of writing and reading a request and its Response, without a
+# search for the row and without the work of its walk. For GetNext, the agent's part is counted too.
 source "$(dirname "${BASH_SOURCE[0]}")/common.sh"
 driver walk.c
 rows=2000
