@@ -1,6 +1,6 @@
-# Completion of the words of snmp in bash: commands, options, letters, and files of --mib, --table and
-# table:. Source it, or install it where bash-completion finds it (./snmp --install does). For the names
-# that ./snmp --install --with-names puts in place:
+# Completion for snmp in bash: commands, options, letters, and the files of --mib, --table and table:. Source it, or
+# install it where bash-completion finds it (./snmp --install does). For the scripts that ./snmp --install --with-names
+# writes:
 #
 #   complete -F _snmp snmptranslate snmpget snmpwalk snmpbulkwalk snmpd
 
@@ -28,8 +28,8 @@ _snmp_letters() {
 }
 
 _snmp() {
-    local words=() word command option='' front='' value given=0 i piece breaks=''
-    # bash splits words at : and =, unless these were taken from COMP_WORDBREAKS; here they are whole.
+    local words=() word command option='' prefix='' value count=0 i piece breaks=''
+    # bash splits words at : and = unless they were removed from COMP_WORDBREAKS. Here they are joined again.
     for ((i = 0; i <= COMP_CWORD; i++)); do
         piece=${COMP_WORDS[i]}
         if ((i > 0)) && [[ $piece == [:=]* || ${words[-1]} == *[:=] ]]; then
@@ -42,7 +42,7 @@ _snmp() {
     unset 'words[-1]'
     COMPREPLY=()
 
-    # The command is a word of snmp, or what was called by its own name.
+    # The command is the first argument of snmp, or was called by its own name.
     [ ${#words[@]} -gt 0 ] || return
     command=${words[0]##*/}
     words=("${words[@]:1}")
@@ -57,7 +57,7 @@ _snmp() {
         words=("${words[@]:1}")
     fi
 
-    # How many words came that are no options, and whether the one before takes this as its value.
+    # Counts the arguments that aren't options, and finds out whether this word is the value of the option before it.
     for piece in "${words[@]}"; do
         if [ -n "$option" ]; then
             option=''
@@ -66,17 +66,17 @@ _snmp() {
         case $piece in
             -[OTvcrtC] | --mib | --after | --max-size | --table | --listen | --turns) option=$piece ;;
             -*) ;;
-            *) given=$((given + 1)) ;;
+            *) count=$((count + 1)) ;;
         esac
     done
     if [ -z "$option" ]; then
         case $word in
-            --mib=* | --table=*) option=${word%%=*} front=$option= ;;
-            -[OTvC]*) option=${word:0:2} front=$option ;;
-            table:*) [ $given -gt 0 ] || option=table: front=table: ;;
+            --mib=* | --table=*) option=${word%%=*} prefix=$option= ;;
+            -[OTvC]*) option=${word:0:2} prefix=$option ;;
+            table:*) [ $count -gt 0 ] || option=table: prefix=table: ;;
         esac
     fi
-    value=${word#"$front"}
+    value=${word#"$prefix"}
 
     case $option in
         --mib | --table | table:)
@@ -85,25 +85,25 @@ _snmp() {
         -O | -T | -C)
             compopt -o nospace 2>/dev/null
             for piece in $(_snmp_letters "$command" "$option"); do
-                # No more letters belong behind the number of r.
+                # No letter can follow the number of r.
                 [[ $value == *"$piece"* || $value == *r* && $option == -C ]] || COMPREPLY+=("$value$piece")
             done ;;
         -v) mapfile -t COMPREPLY < <(compgen -W 2c -- "$value") ;;
         '')
             if [[ $word == -* ]]; then
                 mapfile -t COMPREPLY < <(compgen -W "$(_snmp_options "$command")" -- "$word")
-            elif [[ $command == snmp*@(get|walk) && $given == 0 ]]; then
+            elif [[ $command == snmp*@(get|walk) && $count == 0 ]]; then
                 mapfile -t COMPREPLY < <(compgen -W 'table: udp:' -A hostname -- "$word")
                 [[ ${COMPREPLY[*]} != *: ]] || compopt -o nospace 2>/dev/null
             fi ;;
     esac
 
-    # bash replaces the word behind the last of its breaks alone.
+    # bash replaces only what follows the last of its breaks in the word.
     [[ $COMP_WORDBREAKS != *:* ]] || breaks+=:
     [[ $COMP_WORDBREAKS != *=* ]] || breaks+='='
     [ -z "$breaks" ] || piece=${word##*["$breaks"]}
     [ -n "$breaks" ] || piece=$word
-    COMPREPLY=("${COMPREPLY[@]/#/$front}")
+    COMPREPLY=("${COMPREPLY[@]/#/$prefix}")
     COMPREPLY=("${COMPREPLY[@]#"${word%"$piece"}"}")
 }
 
