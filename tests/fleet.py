@@ -1,15 +1,15 @@
 #!/usr/bin/env python3
-"""Runs each command of docs/MANY-DEVICES.md over agents on loopback, most of which the program's own snmpd
-serves, and compares what is collected with what their tables hold.
+"""Runs each command of docs/MANY-DEVICES.md with agents on loopback, most of them the program's own snmpd, and compares
+what is collected with the agents' tables.
 
 usage: fleet.py [WORD..]
 
-The page's commands are the blocks that it marks as `sh`; they run in order, in one folder. Of these tests, whose titles
-are the page's headings, those count whose titles have one of the words; what stands before them on the page runs too.
-Without words, all count. The last line is 'N passed, M failed, K skipped'.
+The commands are the blocks of the page that are marked as `sh`. They run in order, in one folder. Each block is a test
+whose title is its heading. If there are words, only the tests count whose titles contain one of them, but the blocks
+before these run too. The last line is 'N passed, M failed, K skipped'.
 
-Catches, in wrong programs that would prove as well: a run that fails with status 0, without its message or with that of
-another fault; lines that are left out or cut, where all is there and where descriptors or memory are not.
+Catches these wrong programs, which the proofs would accept: one that fails with status 0, without its message or with
+that of another fault; one that leaves out or cuts lines, with all resources or without descriptors or memory.
 """
 import collections
 import contextlib
@@ -31,24 +31,24 @@ from lib.server import Server
 from lib.texts import NO_OBJECT, dotted
 
 PAGE = os.path.join(programs.TOP, "docs", "MANY-DEVICES.md")
-# What polls, which tests/wrong.py makes another one.
+# The program that polls the agents. tests/wrong.py replaces it by a wrong one.
 PROGRAM = programs.BUILT
 ROWS_OF_INTERFACES = (1, 3, 6, 1, 2, 1, 2, 2, 1)
 NAMES_OF_INTERFACES = ROWS_OF_INTERFACES + (2,)
 RECEIVED = ROWS_OF_INTERFACES + (10,)
 SERVED = 50
-# No block of the page takes so long, in seconds; nor is a server sent so many datagrams.
+# A block of the page takes fewer seconds than this, and no server receives ten times as many datagrams.
 LONG = 600
 
 # -- the agents
 
 
 def interfaces(device):
-    """The rows of a table of 24 interfaces: to each name its tag, its value and the text that a walk prints."""
+    """Returns the rows of a table of 24 interfaces. Each name has a tag, a value, and the text that a walk prints."""
     rows = {}
     for port in range(1, 25):
         label, address = f"port {port} of {device}", bytes([2, 0, device, 0, 0, port])
-        # Of one line in hexadecimal, or of several.
+        # A string that takes one line in hexadecimal, or several.
         alias = b"port \xb7 of device" + bytes([device]) * (port % 3 * 10)
         lines = [alias[at:at + 16] for at in range(0, len(alias), 16)]
         shown = "\n".join("".join(f"{octet:02X} " for octet in line) for line in lines)
@@ -64,24 +64,26 @@ def interfaces(device):
 
 
 def table(rows):
+    """Returns a table file with these rows and one that is in no walk of the page."""
     return "1.3.6.1.2.1.1.1.0|4|device\n" + "".join(f"{dotted(name)}|{tag}|{value}\n"
                                                     for name, (tag, value, _) in rows.items())
 
 
 def walk_output(rows, root=ROWS_OF_INTERFACES):
-    """What a walk prints below the root."""
+    """Returns what a walk of this root prints."""
     return "".join(f"{dotted(name)} = {text}\n" for name, (_, _, text) in sorted(rows.items())
                    if name[:len(root)] == root)
 
 
 class BreakingOff:
-    """An agent over rows that replies to so many requests, each as often as it comes, and then falls silent."""
+    """An agent that replies to a number of different requests, also when one is repeated, and then to no more."""
 
     def __init__(self, rows):
         self.rows = rows
         self.replies_to(0)
 
     def replies_to(self, count):
+        """From now on, lets it reply to this number of requests."""
         self.left, self.last_request = count, None
 
     def __call__(self, seen):
@@ -96,8 +98,8 @@ Fleet = collections.namedtuple("Fleet", "rows failing breaking")
 
 
 def fleet(stack):
-    """Agents over tables, with what they hold; those that fail, with the status and the message that each must end
-    with; and those that break off, with what they hold."""
+    """Starts the agents: those that serve a table, with its rows; those with which a walk fails, with the status and
+    message that it must have; and those that stop replying during a walk, with their rows."""
     rows, ends, breaking = {}, {}, {}
     for device in range(SERVED):
         server = Server(table=table(interfaces(device)), datagrams=10 * LONG)
@@ -121,7 +123,7 @@ def fleet(stack):
 # -- the commands
 
 def blocks():
-    """The page's commands: to each heading the blocks below it."""
+    """Returns the blocks of commands below each heading of the page."""
     with open(PAGE, encoding="utf-8") as file:
         sections = file.read().split("\n## ")[1:]
     found = {section.splitlines()[0]: re.findall(r"^```sh\n(.*?)^```$", section, re.M | re.S) for section in sections}
@@ -129,7 +131,7 @@ def blocks():
 
 
 class Folder:
-    """Where the page's commands run, over a fleet."""
+    """The folder in which the commands of the page run, and the agents that they ask."""
 
     def __init__(self, path, fleet):
         self.path, self.fleet, self.said = path, fleet, ""
@@ -139,46 +141,49 @@ class Folder:
         shutil.copy(PROGRAM, f"{path}/bin/snmp")
 
     def run(self, commands):
-        """Runs commands, which must end with status 0 and no message. A reply has twice the page's second to come, as
-        this machine has the agents' work too."""
+        """Runs commands, and returns what differs from status 0 without messages. They wait two seconds for a reply and
+        not one as on the page, because the agents run on the same machine."""
         commands = commands.replace(" -t 1 ", " -t 2 ")
         ran = programs.run_command(["bash", "-e", "-c", commands], LONG, cwd=self.path, env=self.environment)
         self.said = ran.output
         return differs((ran.status, ran.messages), (0, ""))
 
     def text(self, name):
+        """Returns the content of a file of the folder."""
         with open(f"{self.path}/{name}", encoding="ascii") as file:
             return file.read()
 
     def write(self, name, text):
+        """Writes an executable file of the folder."""
         with open(f"{self.path}/{name}", "w", encoding="ascii") as file:
             file.write(text)
         os.chmod(f"{self.path}/{name}", 0o755)
 
     def ends(self, name):
-        """A list of statuses: to each device its status and message."""
+        """Returns the status and message of each device, from a file that lists them."""
         lines = [line.split(" ", 2) for line in self.text(name).splitlines()]
         return sorted((device, (int(status), message)) for status, device, message in lines)
 
     def silent(self, addresses):
+        """Returns the status and message of each of these devices if it doesn't reply."""
         return {address: (1, f"Timeout: No Response from {address}.") for address in addresses}
 
     def files(self, addresses):
-        """What differs between the files of these devices and their tables."""
+        """Returns what differs between the files of these devices and their tables."""
         rows = {**self.fleet.rows, **{address: held for address, (_, held) in self.fleet.breaking.items()}}
         return [differs((address, self.text(f"out/{address}")), (address, walk_output(rows[address])))
                 for address in addresses]
 
     def lines(self, root, mark):
-        """What a walk of all devices prints, each line with its device before it, in order of texts; and its
-        messages."""
+        """Returns the lines that walks of all devices print, each after its device and the mark, and likewise the
+        messages. Both are sorted."""
         rows = {**self.fleet.rows, **{address: held for address, (_, held) in self.fleet.breaking.items()}}
         lines = [f"{address}{mark}{line}" for address, held in rows.items()
                  for line in walk_output(held, root).splitlines()]
         return sorted(lines), sorted(f"{address}{mark}{said}" for address, (_, said) in self.fleet.failing.items())
 
 
-# Each returns what is wrong with a block, and with what it left.
+# Each of these tests runs a block, and returns what is wrong with its output and its files.
 
 def the_devices(folder, block):
     addresses = [*folder.fleet.rows, *folder.fleet.failing, *folder.fleet.breaking]
@@ -196,8 +201,8 @@ def files_of_devices(folder, block):
 
 
 def files_after_starvation(folder, block):
-    """Over the agents that serve, with descriptors and memory taken from some runs: each of these is among the
-    failures, the other files are whole, and the second round completes the list."""
+    """Runs the block only with agents that serve, while some runs have too few descriptors or too little memory. These
+    runs must be listed as failures, the other files must be complete, and a second round must complete the rest."""
     rows, whole = folder.fleet.rows, f"{folder.path}/bin/snmp"
     os.rename(whole, f"{whole}.whole")
     folder.write("bin/snmp", f"""#!/bin/sh
@@ -231,7 +236,7 @@ def what_failed(folder, block):
 
 
 def second_round(folder, block):
-    """One of the devices that were silent replies by now, and the other breaks off after one reply."""
+    """Of the two devices that had stopped replying, one replies now, and the other stops again after one reply."""
     (first, (replying, _)), (second, (breaking, held)) = folder.fleet.breaking.items()
     replying.replies_to(99)
     breaking.replies_to(1)
@@ -242,7 +247,7 @@ def second_round(folder, block):
 
 
 def cut_off(folder, block):
-    """It goes on where it was cut off."""
+    """Both devices reply now, and the walk that was cut off continues."""
     (_, (first, _)), (second, (breaking, _)) = folder.fleet.breaking.items()
     for agent in first, breaking:
         agent.replies_to(99999)
@@ -263,7 +268,7 @@ def lines_as_they_come(folder, block):
 
 
 def messages(folder):
-    """What the runs said, without what xargs and parallel add."""
+    """Returns the messages of the runs, without those of xargs and parallel."""
     lines = folder.text("messages.txt").splitlines()
     return sorted(line for line in lines if not line.startswith(("parallel: Warning", "xargs: ")))
 
@@ -278,7 +283,8 @@ def by_parallel(folder, block):
 
 
 def over_machines(folder, block):
-    """What stands for ssh and scp runs and copies here, in a folder of each machine; as at a login, SHELL is set."""
+    """Replaces ssh and scp by scripts that run and copy on this machine, in a folder for each of the others. As at a
+    login, SHELL is set."""
     folder.write("bin/ssh", f"""#!/bin/sh
 while :; do case $1 in -o) shift 2 ;; -*) shift ;; *) break ;; esac; done
 machine=$1

@@ -1,19 +1,22 @@
 #!/usr/bin/env python3
-"""Refuses memory, one request after the other, over the heap of tests/heap.c: to the calls that take it, by the program
-heap_checks, and to command lines of the tools.
+"""Refuses requests for memory, one after the other, with the heap of tests/heap.c: in the calls that allocate, which
+the program heap_checks makes, and in command lines of the tools.
 
 usage: heap.py [WORD..]
 
-Each run has its whole answer, or is refused, and what was to be changed is as it was; each block that it took is given
-back. Of a command line that is refused, what is written is whole lines from the beginning of its text, and 'Out of
-memory.' with status 1 (or that of an agent's error). Where no request was refused, the answer is the whole one, with
-the message of its own reason; so it is where one was that can't end the call: memory for rows that are gathered, or
-where that was made once more. Of calls that ask for no memory the requests are counted, and of snmpd as it serves.
-Tests run whose titles have one of the words; without words, all. The last line is 'N passed, M failed, K skipped'.
+Each run either has its whole answer or is refused. If it is refused, what it should have changed is unchanged. All its
+blocks are freed. A refused command line has written complete lines, a prefix of its output, and 'Out of memory.' with
+status 1 (or the status of an agent's error). If no request was refused, the answer is the whole one, with the message
+of its own reason. The same holds if the refused request can't end the call: it was for rows that are gathered, or is
+made again. For calls that don't allocate, and for snmpd as it serves, the requests are counted.
 
-Catches, in wrong programs that prove as well: half a line where memory runs out; a beginning of the lines at status 0,
-or without a message; a line that is left out; a block that is kept; 'Out of memory.' where no request was refused; a
-run that gives up wherever one is; a call that asks for memory where it says that it asks for none.
+Runs the tests whose titles contain one of the words, or all tests if there are no words. The last line is 'N passed, M
+failed, K skipped'.
+
+Catches these wrong programs, which the proofs would accept: one that writes half a line when memory runs out; that
+prints some lines and ends with status 0 or without a message; that leaves out a line; that doesn't free a block; that
+prints 'Out of memory.' though no request was refused; that gives up whenever one is refused; and one with a call that
+allocates although it is documented not to.
 """
 import hashlib
 import re
@@ -36,10 +39,11 @@ heap = Heap()
 
 
 def judge(words, is_whole, is_refused, keeps=False, spared=0, between=-1):
-    """What is wrong with the answers of a program, whose status, output and messages these are told; the second is told
-    first whether one request was refused `alone`, or `later` ones too. Where requests are spared, none of the last, so
-    many at least, ends it alone: until then it is refused, but for one request perhaps of those for its words. Where it
-    makes two marks, so many requests come between them."""
+    """Runs a command with the heap and returns what is wrong with its answers. `is_whole` is called with the status,
+    output and messages of an answer; so is `is_refused`, after 'alone' or 'later', which says whether one request was
+    refused or all after it too. If `spared` isn't 0, the run must survive the refusal of any one of its last `spared`
+    requests or more, and before these of at most one, a request for its arguments. `between` is the number of requests
+    between the two marks of the program, or -1 if it makes none. `keeps` allows blocks that aren't freed."""
     ran = heap.run(words)
     wrong, refusals, wholes, last_refused, last_whole = [], 0, 0, 0, 0
     for line in ran.output.splitlines():
@@ -49,30 +53,33 @@ def judge(words, is_whole, is_refused, keeps=False, spared=0, between=-1):
         whole = is_whole(*answer)
         refusals += times * (how != "none")
         if not (whole or how != "none" and is_refused(how, *answer)) or (kept and not keeps):
-            wrong.append(f"{how}, {times} times from the {first}. request on, {kept} blocks kept: {str(answer)[:300]}")
+            wrong.append(f"refused: {how}, {times} times, first request {first}; {kept} blocks not freed; answer "
+                         f"{str(answer)[:300]}")
         if how == "none" and came != between:
-            wrong.append(f"{came} requests between two marks, not {between}; -1 stands for no marks")
+            wrong.append(f"expected {between} requests between the marks, got {came}; -1 stands for no marks")
         if how == "alone" and whole:
             wholes, last_whole = wholes + times, max(last, last_whole)
         elif how == "alone":
             last_refused = max(last, last_refused)
     if ran.status != 0 or ran.messages or refusals == 0:
-        wrong.append(f"status {ran.status}, {ran.messages!r}, {refusals} runs were refused memory")
+        wrong.append(f"status {ran.status}, messages {ran.messages!r}, memory refused in {refusals} runs")
     late = last_whole - last_refused
     if spared and (late < spared or wholes > late + 1):
-        wrong.append(f"alone, whole at {wholes} requests, and {late} of these after the last at which it is refused")
+        wrong.append(f"with one request refused, {wholes} runs have the whole answer, {late} of them after the last "
+                     f"that hasn't; expected at least {spared} after it and at most one before")
     return wrongs(*wrong[:5])
 
 
 # -- the calls
 
 def data(name):
+    """Returns the content of a file of tests/data."""
     with open(f"{programs.TESTS}/data/{name}", "rb") as file:
         return file.read()
 
 
 TINY, TINY_TABLE, TWO_TABLE = data("tiny.txt"), data("tiny.tab"), data("two.tab")
-# More rows than a page of a table has.
+# More rows than fit into a page of a table.
 ROWS = {E + (1, i, 0): text(b"%d" % i) for i in range(1, 300) if i != 5}
 TABLE = "".join(f"{dotted(name)}|4|{name[-2]}\n" for name in ROWS).encode()
 NAMES = [E + (1, i, 0) for i in (4, 5, 6)]
@@ -80,12 +87,13 @@ ASKED = message(GET, 1, [(name, NULL) for name in NAMES])
 
 
 def reply_text(rows):
-    """The reply to ASKED over these rows, as a text."""
+    """Returns the reply to ASKED from these rows, as a text."""
     return reply_from(rows, read(ASKED)).decode(errors="replace")
 
 
 def check_call(title, check, a, b, whole, **how_many):
-    """What is wrong with a check of heap_checks, whose whole answer this is."""
+    """Runs a check of heap_checks with two files, and returns what is wrong with its answers. `whole` is the output if
+    no request is refused."""
     files = [heap.put(f"{title.replace(' ', '_')}.{i}", octets) for i, octets in enumerate([a, b])]
     refused = {"alone": [(1, "", "")], "later": [(1, "", ""), (3, "", "")]}
     return judge([programs.CHECKS, check, *files], lambda *answer: answer == (0, whole, ""),
@@ -93,12 +101,14 @@ def check_call(title, check, a, b, whole, **how_many):
 
 
 def calls(title, check, a, b, whole, **how_many):
+    """Adds a test of a check that allocates."""
     @test(f"{title}, with each request for memory refused")
     def it():
         return check_call(title, check, a, b, whole, **how_many)
 
 
 def free_calls(title, check, a, b, whole):
+    """Adds a test of a check that makes no request between its marks."""
     @test(f"{title} asks for no memory")
     def it():
         return check_call(title, check, a, b, whole, between=0)
@@ -111,8 +121,9 @@ calls("Table::read", "table", TABLE, ASKED, reply_text(ROWS))
 LINES = TABLE.splitlines(keepends=True)
 calls("Table::read in no order", "table", b"".join(LINES[i * 121 % len(LINES)] for i in range(len(LINES))), ASKED,
       reply_text(ROWS))
-# Rows in order, and among them as many in no order as tell that rows are gathered from then on: more of these, the last
-# of all, long ones, and an object. One request that is refused while rows are gathered doesn't end the reading.
+# Rows in order, and then enough rows out of order that from there on rows are gathered: among these are more such rows,
+# the last name of all, long values and an object. A single request that is refused while rows are gathered doesn't end
+# the reading.
 GATHERED = {E + (1, 2 * at, 0): b"%d" % at for at in range(10000)}
 GATHERED |= {E + (1, 2 * (at * 619 % 10000) + 1, 0): b"%d" % at for at in range(460)}
 GATHERED |= {E + (1, 20000, 0): b"last"} | {E + (1, at, 1): b"a long one" * 6 for at in range(20)}
@@ -125,11 +136,11 @@ calls("Table::read of a name that is gathered twice", "double", "".join(NO_ORDER
 calls("Table::read_with", "table_with", b"#snmptab 2\n" + TABLE, ASKED, reply_text(ROWS))
 calls("Table::put", "put", TABLE, ASKED, reply_text({**ROWS, E + (1, 5, 0): text(b"sextet")}))
 IN_PLACE = TABLE + b".1.3.6.1.4.1.32473.1.5.0|2|1"
-calls("Table::put in place of a value", "put", IN_PLACE, ASKED, reply_text({**ROWS, E + (1, 5, 0): text(b"sextet")}))
-# Its row, of 60 octets, doesn't stand in the table's.
+calls("Table::put that replaces a value", "put", IN_PLACE, ASKED, reply_text({**ROWS, E + (1, 5, 0): text(b"sextet")}))
+# A row with this value has 60 octets, too many to be stored inline.
 LONG = b"a string of 43 octets, more than in a place"
 calls("Table::put of a long value", "put_long", TABLE, ASKED, reply_text({**ROWS, E + (1, 5, 0): text(LONG)}))
-calls("Table::put of a long value in place of another", "put_long", IN_PLACE, ASKED,
+calls("Table::put of a long value that replaces another", "put_long", IN_PLACE, ASKED,
       reply_text({**ROWS, E + (1, 5, 0): text(LONG)}))
 
 
@@ -173,7 +184,7 @@ tinyState OBJECT-TYPE
 calls("detail", "detail", TINY, ROOT.encode(), f"before: {DETAIL}")
 
 
-# -- calls that ask for no memory
+# -- calls that don't allocate
 
 NO_MESSAGE = b"\x30" * 3000
 FREE = ROWS | {E + (2, 0): text(b"x" * 1400)}
@@ -188,7 +199,7 @@ for title, request in {
         "answer to no message": NO_MESSAGE}.items():
     free_calls(title, "free_answer", FREE_TABLE, request, "" if request == NO_MESSAGE else
                reply_within(FREE, read(request), 1472).decode(errors="replace"))
-# Of three pages one loses all of its rows, and each other all but one.
+# The table has three pages. One loses all of its rows, and each of the others all but one.
 IN_BULK = message(BULK, 1, [(E, NULL)], 0, 10)
 free_calls("Table::remove", "free_remove", "".join(f"{dotted(E)}.1.{i}.0|2|{i}\n" for i in range(1, 301)).encode(),
            IN_BULK, reply_from({E + (1, i, 0): integer(i) for i in (150, 300)}, read(IN_BULK)).decode(errors="replace"))
@@ -198,7 +209,7 @@ free_calls("run_walk by GetBulk over a link with memory reserved", "free_bulk_wa
            WALKED)
 free_calls("run_get over a link with memory reserved", "free_get", TABLE, b"",
            "".join(f"{dotted(name)}\n{shown}" for name, shown in zip(NAMES, ["4\n", "", "6\n"])))
-# The first nodes are roots, which no module defines.
+# The first three nodes are built-in roots, which no module defines.
 FIRST_CHILDREN = {".1.3.6.1": ".4", ".1.3.6.1.4": ".1", ".1.3.6.1.4.1": ".32473", dotted(E): ".1", f"{dotted(E)}.2": ".1",
                   f"{dotted(E)}.2.1": ".1", f"{dotted(E)}.3": ".1", f"{dotted(E)}.3.1": ".1"}
 WITH_SYNTAX = [f"{dotted(E)}{rest}" for rest in (".1", ".2.1.1", ".2.1.2", ".3.1.1")]
@@ -212,7 +223,7 @@ free_calls("each call that reads or writes a message", "free_codec", ONE, b"", (
 free_calls("Lexer", "free_lexer", b'a { 1 } -- b\n"c\n" \'0F\'H ?', b"", "a\n{\n1\n}\n\"c\n\"\n'0F'H\na bad octet\n")
 free_calls("Lexer of an open string", "free_lexer", b'a "b', b"", "a\nan open string\n")
 for name, answer in {"tinyState": "tinyState\n", "enterprises": "enterprises\nTINY-SMI\n", "nosuch": ""}.items():
-    free_calls(f"Module::define and import of {name}", "free_found", TINY, name.encode(), answer)
+    free_calls(f"Module::define and Module::import of {name}", "free_found", TINY, name.encode(), answer)
 free_calls("resolve_front", "free_front", TINY, b'tinyMac."a|b"|4|x', f"{dotted(E)}.2.1.2.3.97.124.98\n|4|x\n")
 free_calls("resolve_front of a name that means nothing", "free_front", TINY, b"nosuch|4|x", "a fault\n")
 for letters, answer in {b"nfsSqQxavetbUX": "X\n", b"": "all\n"}.items():
@@ -227,7 +238,7 @@ for hint, kind in {b"2d-1d-1d,1d:1d:1d.1d,1a1d:1d": "of octets", b"*1x:" * 200: 
     free_calls(f"Hint::parse of {hint[:30].decode()}", "free_hint", hint, b"", f"{kind}\n")
 
 
-# Requests of each kind, of none, and ones that have no reply; long ones too. The turns that are left bring nothing.
+# Requests of each kind, without names, without a reply, and long ones. The remaining turns pass without a datagram.
 @test("snmpd asks for no memory as it serves")
 def serving_is_free():
     counting, wrong = Heap(), []
@@ -257,8 +268,8 @@ FIRST, SECOND, THIRD = (f"{ROOT}.{rest}\n" for rest in ("1.0 = INTEGER: 1", '2.0
 
 
 def refused_in(words, output, messages, status, files):
-    """What is wrong with a command line over these files, with and without memory. Where nothing is told of its output,
-    that is what it prints as it is."""
+    """Runs a command line with these files, with memory and with requests refused, and returns what is wrong. If
+    `output` is None, it is what the command prints with memory."""
     line, said = words, messages
     for name, octets in files.items():
         path = heap.put(f"{name}.{hashlib.sha256(octets).hexdigest()[:16]}", octets)
@@ -267,14 +278,14 @@ def refused_in(words, output, messages, status, files):
     whole = programs.run_command(line, cwd=heap.folder.name)
     wrong = differs(whole, (status, whole.output if output is None else output, said))
     warnings = WARNINGS if messages.startswith(WARNINGS) else ""
-    # The status of an agent's error stays where its message can't be made.
+    # If the message of an agent's error can't be made, the status is still that of the error.
     return wrong or judge(line, lambda *answer: answer == whole, lambda _, ended, wrote, said: (
         ended in (1, status or 1) and whole.output.startswith(wrote) and wrote[-1:] in ("", "\n")
         and said in (NO_MEMORY, warnings + NO_MEMORY)))
 
 
 def runs(words, output, messages="", status=0, table=THREE, modules=TINY):
-    """A test that a command line prints this, and that with memory refused it is refused so."""
+    """Adds a test that a command line prints this, and that it is refused correctly if memory is."""
     assert NO_MEMORY not in messages
 
     @test(f"{words[:70]}, with each request for memory refused")
@@ -283,7 +294,7 @@ def runs(words, output, messages="", status=0, table=THREE, modules=TINY):
 
 
 def listens(words, messages="", table=THREE):
-    """The same of snmpd at a port that is free, DOOR."""
+    """Adds the same test of snmpd, with DOOR replaced by a free address."""
     @test(f"{words[:70]}, with each request for memory refused")
     def it():
         def listening(port):
@@ -296,9 +307,9 @@ def listens(words, messages="", table=THREE):
 @test("a walk over UDP, with each request for memory refused")
 def over_udp():
     whole = FIRST + SECOND + THIRD
-    # Each of several hundred runs walks the table.
+    # Each of the several hundred runs walks the table.
     with Server(table=THREE.decode(), datagrams=20000) as server:
-        # The system's own calls take memory too, and may keep it.
+        # Functions of the C library allocate too, and need not free it.
         return judge([programs.PROGRAM, "snmpwalk", "-On", "-t4", server.address, ROOT],
                       lambda *answer: answer == (0, whole, ""),
                       lambda _, status, wrote, said: (
@@ -326,7 +337,7 @@ listens("snmpd --mib MODULES --table TABLE --listen DOOR --turns 0", WARNINGS, T
 runs("snmpget --help", None)
 runs("--version", None)
 
-# What is refused for a reason of its own.
+# Command lines that are refused for another reason.
 FAR = "x" * 300
 runs(f"snmpwalk -OX {AGENT}", "", "Unknown letter: X\n", 1)
 runs(f"snmpget -v {FAR} {AGENT} .1", "", f"Unknown version: {FAR}\n", 1)

@@ -1,8 +1,8 @@
-"""The facts of modules as packages of Debian have them: libsnmp-base, which holds Net-SNMP's own as texts (and
-keepalived VRRP-MIB); python3-pysnmp4-mibs, which holds those of the RFCs as Python; and, of SNMP's own modules,
-erlang-snmp as texts and python3-pysnmp4 as Python. The first that has a module counts. Numbers, syntaxes, named
-numbers, access, indexes and hints are compared. Statuses are in the texts alone, and units in these and, of scalars,
-in python3-pysnmp4-mibs."""
+"""Compares the facts of modules with those in packages of Debian: libsnmp-base has Net-SNMP's own modules as texts, and
+keepalived has VRRP-MIB; python3-pysnmp4-mibs has those of the RFCs as Python. Of SNMP's own modules, erlang-snmp has
+texts and python3-pysnmp4 has Python. The first package that has a module counts. Numbers, syntaxes, named numbers,
+access, indexes and hints are compared. Only the texts have statuses; they have units too, and python3-pysnmp4-mibs has
+those of scalars."""
 import glob
 import os
 import re
@@ -11,14 +11,14 @@ import module_texts
 
 PYTHON = "usr/lib/python3/dist-packages/pysnmp_mibs", "usr/lib/python3/dist-packages/pysnmp/smi/mibs"
 TEXTS = "usr/share/snmp/mibs/{}.txt", "usr/lib/erlang/lib/snmp-*/mibs/{}.mib"
-# Of these erlang-snmp has another revision, or other hints.
+# Modules of which erlang-snmp has another revision, or other hints.
 OTHER = {"SNMP-COMMUNITY-MIB", "SNMP-FRAMEWORK-MIB", "SNMP-TARGET-MIB", "SNMPv2-TM"}
 NAMES = {"Integer": "Integer32", "INTEGER": "Integer32", "OctetString": "OCTET STRING",
          "ObjectIdentifier": "OBJECT IDENTIFIER", "Bits": "BITS", "Counter": "Counter32", "Gauge": "Gauge32"}
 ACCESS = {"readonly": "read-only", "readwrite": "read-write", "readcreate": "read-create",
           "noaccess": "not-accessible", "notifyonly": "accessible-for-notify",
           "accessiblefornotify": "accessible-for-notify"}
-# What stands in modules/ by a later revision than that of the package; and where that has types of its own.
+# Labels that modules/ has in a later revision than the package, or for which the package has types of its own.
 MEDIA = """10GbaseT 10GbaseLRM 1000baseKX 10GbaseKX4 10GbaseKR 40GbaseKR4 40GbaseCR4 40GbaseSR4 40GbaseFR 40GbaseLR4
     100GbaseCR10 100GbaseSR10 100GbaseLR4 100GbaseER4 25GbaseCR 25GbaseKR 25GbaseSR 25GbaseT 100GbaseCR4 100GbaseKR4
     100GbaseSR4 2p5GigT 5GigT"""
@@ -30,8 +30,8 @@ LATER = {"ENTITY-MIB": {"entPhysicalClass", "entPhysicalUUID", "entity4Complianc
          "SNMPv2-TM": {"SnmpOSIAddress"}}
 
 
-def merged(ranges):
-    """Ranges in order, those that meet as one."""
+def merge(ranges):
+    """Returns the ranges in order, with those that overlap or follow one another joined."""
     found = []
     for low, high in sorted((part[0], part[-1]) for part in ranges):
         if found and low <= found[-1][1] + 1:
@@ -42,14 +42,14 @@ def merged(ranges):
 
 
 def constraints(text):
-    """The ranges, and the names of numbers, of an expression in Python."""
+    """Returns the ranges and the names of numbers in an expression in Python."""
     ranges = re.findall(r"Value(?:Range|Size)Constraint\((-?\d+), ?(-?\d+)\)", text)
     names = re.findall(r'\("([^"]+)", (-?\d+)\)', text.partition("NamedValues")[2])
-    return merged((int(low), int(high)) for low, high in ranges), {name: int(number) for name, number in names}
+    return merge((int(low), int(high)) for low, high in ranges), {name: int(number) for name, number in names}
 
 
 def of_line(kind, rest):
-    """The facts of one definition in Python."""
+    """Returns the facts of one definition in Python."""
     fact = {}
     access = re.search(r'setMaxAccess\("(\w+)"\)', rest)
     if kind in ("MibScalar", "MibTableColumn"):
@@ -68,7 +68,7 @@ def of_line(kind, rest):
 
 
 def of_python(path):
-    """The facts of a module in Python, by its labels and types."""
+    """Returns the facts of a module in Python, by label or type name."""
     with open(path, encoding="latin-1") as file:
         text = file.read()
     found = {}
@@ -80,24 +80,25 @@ def of_python(path):
         hint = re.search(r"""displayHint = ["'](.*)["']""", body)
         found[label] = {"base": (NAMES.get(name, name), *constraints(body)), "hint": hint and hint[1]}
     for label, kind, numbers, more in re.findall(r"^(\w+) = (\w+)\(\(([\d, ]+)\)(.*)", rest, re.M):
-        place = tuple(map(int, re.findall(r"\d+", numbers)))
-        found[label.replace("_", "-")] = {"numbers": place, **of_line(kind, more)}
+        identifier = tuple(map(int, re.findall(r"\d+", numbers)))
+        found[label.replace("_", "-")] = {"numbers": identifier, **of_line(kind, more)}
     for base, label in re.findall(r'^(\w+)\.registerAugmentions\(\("[^"]*", "(\w+)"\)\)', rest, re.M):
         found[label]["index"] = ["AUGMENTS " + base]
     return found
 
 
 def syntax_of(kind):
-    return NAMES.get(kind.name, kind.name), merged(kind.ranges), kind.names
+    """Returns the name, ranges and named numbers of a type."""
+    return NAMES.get(kind.name, kind.name), merge(kind.ranges), kind.names
 
 
 def of_text(world, module, definition):
-    """The facts of a definition that stands in a module text."""
+    """Returns the facts of a definition in a module text."""
     fact, clauses = {}, definition.clauses
     if definition.value:
         fact["numbers"] = world.numbers(module, definition)
     if "STATUS" in clauses:
-        # What SMIv1 calls mandatory is current.
+        # SMIv1 says mandatory instead of current.
         fact["status"] = clauses["STATUS"].replace("mandatory", "current")
     row = clauses.get("INDEX") or ["AUGMENTS " + label for label in clauses.get("AUGMENTS", [])]
     if row:
@@ -106,7 +107,7 @@ def of_text(world, module, definition):
         fact |= {"syntax": syntax_of(definition.type), "access": clauses["ACCESS"], "units": clauses.get("UNITS")}
     elif definition.macro == "TEXTUAL-CONVENTION":
         base, ranges, names, hint = world.meaning(module, definition.type, clauses.get("DISPLAY-HINT"))
-        fact |= {"base": (NAMES.get(base, base), merged(ranges), names), "hint": hint}
+        fact |= {"base": (NAMES.get(base, base), merge(ranges), names), "hint": hint}
     for clause in ("OBJECTS", "NOTIFICATIONS"):
         if clause in clauses:
             fact["objects"] = sorted(clauses[clause])
@@ -114,7 +115,7 @@ def of_text(world, module, definition):
 
 
 def of_package(root, name):
-    """What the packages below a root have of a module, or None."""
+    """Returns what the packages below a root contain of a module: a list of modules, or facts by label; or None."""
     for text, folder in zip(TEXTS, PYTHON):
         texts, python = glob.glob(f"{root}/{text.format(name)}"), f"{root}/{folder}/{name}.py"
         if texts and not (folder == PYTHON[1] and name in OTHER):
@@ -129,12 +130,12 @@ def of_package(root, name):
 
 
 def agree(names, others):
-    """The names of numbers that stand on both sides have the same numbers."""
+    """Returns whether the names that both have stand for the same numbers."""
     return all(number == others.get(name, number) for name, number in names.items())
 
 
-def named(root, world, module):
-    """What the packages have of a module, by its labels and types; or None."""
+def package_facts(root, world, module):
+    """Returns the facts that the packages have of a module, by label or type name, or None."""
     theirs = of_package(root, module.name)
     if isinstance(theirs, list):
         other = module_texts.World(theirs + list(world.modules.values()))
@@ -144,24 +145,26 @@ def named(root, world, module):
 
 
 def lacks(root, world, module):
-    """The labels and conventions that the packages have of a module, and that its text neither has nor imports."""
+    """Returns the labels and textual conventions of a module that the packages have, and that its text neither defines
+    nor imports."""
     there = {*module.definitions, *module.imports, *LATER.get(module.name, ())}
-    return [label for label, fact in (named(root, world, module) or {}).items()
+    return [label for label, fact in (package_facts(root, world, module) or {}).items()
             if label not in there and ("numbers" in fact or "base" in fact)]
 
 
 def differences(root, world, module):
-    """How many facts of a module are as the packages have them, and a text on each that isn't; or None."""
-    theirs = named(root, world, module)
+    """Returns the number of facts of a module that agree with the packages, and a text about each that doesn't. Returns
+    None if no package has the module."""
+    theirs = package_facts(root, world, module)
     if theirs is None:
         return None
-    same, told = 0, []
+    same, faults = 0, []
     for label, definition in module.definitions.items():
         if definition.macro in ("type", "macro"):
             continue
         ours, wanted, later = of_text(world, module, definition), theirs.get(label), label in LATER.get(module.name, ())
         if wanted is None:
-            told += [] if later else [f"{module.name}::{label} isn't there"]
+            faults += [] if later else [f"{module.name}::{label}: the package doesn't have it"]
             continue
         for what in ours:
             if what not in wanted or later and what == "syntax":
@@ -169,5 +172,5 @@ def differences(root, world, module):
             if ours[what] == wanted[what] or later and what == "base" and agree(ours[what][2], wanted[what][2]):
                 same += 1
             else:
-                told.append(f"{module.name}::{label}: {what} {ours[what]}, and there {wanted[what]}")
-    return same, told
+                faults.append(f"{module.name}::{label}: {what} is {ours[what]}, in the package {wanted[what]}")
+    return same, faults

@@ -1,5 +1,5 @@
-"""A plain reading of module texts: what each definition says, and what its names mean. It is for tests, which
-compare it with what the program reads; it refuses nothing."""
+"""A simple reader of module files, with which tests compare what the program reads: it returns the clauses of each
+definition and finds what names refer to. It checks nothing."""
 import re
 
 TOKEN = re.compile(r"""
@@ -12,7 +12,7 @@ INTEGERS = {"INTEGER", "Integer32", "Unsigned32", "Gauge32", "Counter32", "TimeT
 
 
 def group_end(tokens, at):
-    """Behind the group that opens here."""
+    """Returns the index after the group that begins at `at`."""
     depth = 0
     while True:
         depth += (tokens[at] in OPEN) - (tokens[at] in CLOSE)
@@ -22,7 +22,8 @@ def group_end(tokens, at):
 
 
 class Type:
-    """What a SYNTAX says: its name, the ranges of its numbers or lengths, and the names of its numbers."""
+    """A type in a SYNTAX clause or a definition: its name, the ranges of its values or lengths, the names of its
+    numbers or bits, and the members of a SEQUENCE. `end` is the index after its last token."""
 
     def __init__(self, tokens, at):
         if tokens[at] == "[":
@@ -68,7 +69,7 @@ class Definition:
 
 
 class Module:
-    """The definitions of one module, by their labels; the labels that it has twice; and its imports."""
+    """A module: its definitions by label, the labels that it defines twice, and for each import the module."""
 
     def __init__(self, name, tokens):
         self.name, self.definitions, self.twice, self.imports = name, {}, [], {}
@@ -86,6 +87,7 @@ class Module:
             at = self.definition(tokens, at)
 
     def definition(self, tokens, at):
+        """Reads the definition at `at`, and returns the index after it."""
         label, sign = tokens[at], tokens.index("::=", at)
         if tokens[at + 1] == "MACRO":
             found, end = Definition(label, "macro", [], []), tokens.index("END", sign) + 1
@@ -109,7 +111,7 @@ class Module:
 
 
 def read(text):
-    """The modules of a text, in order."""
+    """Returns the modules of a text, in order."""
     tokens = [token for token in TOKEN.findall(text) if not token.startswith("--")]
     found, at = [], 0
     while at < len(tokens):
@@ -125,7 +127,7 @@ def read(text):
 
 
 class World:
-    """Several modules, each the first of its name."""
+    """Several modules, by name. If two have one name, the first counts."""
 
     def __init__(self, modules):
         self.modules = {}
@@ -133,7 +135,7 @@ class World:
             self.modules.setdefault(module.name, module)
 
     def find(self, module, label):
-        """The module and the definition that a name in a module means, or None."""
+        """Returns the module and the definition to which a name in a module refers, or None."""
         while label not in module.definitions:
             module = self.modules.get(module.imports.get(label))
             if not module:
@@ -141,7 +143,7 @@ class World:
         return module, module.definitions[label]
 
     def numbers(self, module, definition, depth=0):
-        """The identifier of a definition, or None."""
+        """Returns the identifier of a definition, or None."""
         first, *rest = definition.value or [""]
         if depth > 40 or not all(re.fullmatch(r"\d+|[\w-]+\(\d+\)", part) for part in rest):
             return None
@@ -153,7 +155,8 @@ class World:
         return above and above + rest
 
     def meaning(self, module, kind, hint=None):
-        """The base of a type, and the nearest ranges, names of numbers and hint; or None."""
+        """Returns the base type of a type, and the nearest ranges, names of numbers and hint along its chain; or
+        None."""
         ranges, names = kind.ranges, kind.names
         while kind.name not in BASES:
             found = self.find(module, kind.name)
@@ -166,7 +169,8 @@ class World:
         return kind.name, ranges, names, hint
 
     def index(self, module, row):
-        """The parts of a row's index, each a module, an object and whether it is IMPLIED; or None."""
+        """Returns the parts of a row's index, or None. A part is a module, an object in it, and whether it is
+        IMPLIED."""
         if "AUGMENTS" in row.clauses:
             found = self.find(module, row.clauses["AUGMENTS"][0])
             return found and "AUGMENTS" not in found[1].clauses and self.index(*found)
@@ -174,4 +178,4 @@ class World:
         found = [self.find(module, words[-1]) for words in parts]
         if not parts or not all(found):
             return None
-        return [(*place, words[0] == "IMPLIED") for place, words in zip(found, parts)]
+        return [(*part, words[0] == "IMPLIED") for part, words in zip(found, parts)]

@@ -1,16 +1,16 @@
 #!/usr/bin/env python3
-"""Loads the modules of modules/ with the built program, alone and together, walks tables of examples/ by their
-names, and translates names both ways; and reads the texts by itself (module_texts.py), to find labels that are
-there twice, names without a parent, columns whose index or rows whose columns can't be read, and hints that
-the program doesn't take.
+"""Loads the modules of modules/ with the built program, each by itself and all together, walks tables of examples/ with
+their names, and translates names both ways. It also reads the modules by itself (module_texts.py), and finds labels
+that are defined twice, names without a parent, indexes or columns that can't be read, and hints that the program
+doesn't accept. It tests tools/join-modules and tools/lines-to-table too.
 
 usage: modules.py [--root ROOT] [WORD..]
 
-What must come was written from the standards: tests/data has the lines of the walks, and the names here have
-their numbers from the RFCs. Where packages of Debian with modules stand below ROOT, which is / by default
-(module_facts.py names them), the facts of the texts are compared with theirs, and RFC1213-MIB as published is loaded.
-tools/join-modules and tools/lines-to-table are tried too. All is run, and those tests count whose titles have one of
-the words; without words, all. The last line is 'N passed, M failed, K skipped'.
+The expected results were written from the standards: tests/data has the lines of the walks, and the names in this file
+have their numbers from the RFCs. If packages of Debian with modules (module_facts.py lists them) are installed below
+ROOT, by default /, the facts of the modules are compared with theirs, and the published RFC1213-MIB is loaded.
+Everything is run. If there are words, only those tests count whose titles contain one of them. The last line is 'N
+passed, M failed, K skipped'.
 """
 import argparse
 import glob
@@ -115,14 +115,14 @@ NAMES = {
     "UPS-MIB::upsTrapAlarmEntryRemoved": ".1.3.6.1.2.1.33.2.4",
     "SNMP-TARGET-MIB::snmpTargetAddrTDomain.'ab'": ".1.3.6.1.6.3.12.1.2.1.2.97.98",
 }
-# The standards have these in two modules each, and a number is shown by the first that was loaded.
+# Labels whose identifier another module of the standards defines too. It is shown with the label that was loaded first.
 TWICE = {f"HOST-RESOURCES-TYPES::{label}": f"HOST-RESOURCES-MIB::{label}"
          for label in ("hrStorageTypes", "hrDeviceTypes", "hrFSTypes")} | {"RMON2-MIB::rmon": "RMON-MIB::rmon"}
-# Where a further module names what stands below another's label, it is shown by that.
+# Names that are shown with a label of another module, which names an identifier below the label of the first.
 DEEPER = {"SNMPv2-MIB::sysUpTime.0": "DISMAN-EVENT-MIB::sysUpTimeInstance",
           "SNMPv2-SMI::transmission.7": "EtherLike-MIB::dot3"}
 MACROS = {"MODULE-IDENTITY", "OBJECT-IDENTITY", "OBJECT-TYPE", "NOTIFICATION-TYPE", "TEXTUAL-CONVENTION"}
-# RFC 2579, section 3.1: of numbers, and of strings.
+# The forms of hints (RFC 2579, section 3.1): for integers (True) and for strings.
 HINTS = {True: re.compile(r"[xob]|d(-\d+)?"), False: re.compile(r"(\*?\d+[xdoat]([^\d*]([^\d*])?)?)+")}
 DETAILS = """\
 IF-MIB::ifOperStatus
@@ -135,12 +135,13 @@ ifOperStatus OBJECT-TYPE
 ::= { iso(1) org(3) dod(6) internet(1) mgmt(2) mib-2(1) interfaces(2) ifTable(2) ifEntry(1) 8 }
 """
 UNREAD = "SNMPv2-SMI DEFINITIONS ::= BEGIN\nInteger32 ::=\n    [UNIVERSAL 2] IMPLICIT INTEGER (-2147483648..2147483647)\nEND\n"
-# Modules of which modules/ has a part: what others import.
+# Modules of which modules/ has only a part: what other modules import.
 PARTS = {"RMON2-MIB"}
 FULL = "RMON2-MIB DEFINITIONS ::= BEGIN\nIMPORTS mib-2 FROM SNMPv2-SMI;\nrmon OBJECT IDENTIFIER ::= { mib-2 16 }\n" \
     "probeConfig OBJECT IDENTIFIER ::= { rmon 19 }\nprobeCapabilities OBJECT-TYPE SYNTAX BITS { a(0) } MAX-ACCESS " \
     'read-only\nSTATUS current DESCRIPTION "" ::= { probeConfig 1 }\nEND\n'
-# What makes SMIv1's RFC1213-MIB loadable: its access, and no traps (a TRAP-TYPE on a line of IMPORTS is none).
+# The edits, for sed, that make RFC1213-MIB of SMIv1 loadable: they change its access and remove its traps. (A TRAP-TYPE
+# in a line of IMPORTS isn't a trap.)
 CURE = [r"s/(^|[[:blank:]])ACCESS([[:blank:]])/\1MAX-ACCESS\2/",
         r"/[[:alnum:]][[:blank:]]+TRAP-TYPE[[:blank:]]*$/,/::=[[:blank:]]*[0-9]/d"]
 TRAPS = """TRAPS-MIB DEFINITIONS ::= BEGIN
@@ -204,7 +205,7 @@ vendorCount OBJECT-TYPE
 """
 OTHER = "IF-MIB DEFINITIONS ::= BEGIN\nIMPORTS mib-2 FROM SNMPv2-SMI;\nother OBJECT IDENTIFIER ::= { mib-2 2 }\nEND\n"
 
-# What notifications carry, in the standards' order, which the packages don't keep.
+# The objects of notifications, in the order of the standards, which the packages don't have.
 CARRIED = """
     IF-MIB linkUp ifIndex ifAdminStatus ifOperStatus
     IF-MIB linkDown ifIndex ifAdminStatus ifOperStatus
@@ -246,7 +247,7 @@ DEVICES = ["host", "interfaces", "printer", "switch", "ups"]
 
 
 class Titles(Counts):
-    """Counts of those tests whose titles have one of the words, where there are some."""
+    """Counts of the tests whose titles contain one of the words, or of all tests if there are no words."""
 
     def __init__(self):
         super().__init__()
@@ -263,29 +264,33 @@ counts = Titles()
 
 
 def check(title, got, wanted):
+    """Counts a test that passes if both values are equal."""
     counts.record(title, "" if got == wanted else f"wanted {wanted!r}\n  got    {got!r}")
 
 
 def run(*words):
-    """The status of the program, what it wrote and what it said."""
+    """Runs the program, and returns its status, output and messages."""
     return programs.run_command([programs.PROGRAM, *words], cwd=TOP)
 
 
 def mibs(files):
+    """Returns the arguments that load these files."""
     return [word for file in files for word in ("--mib", file)]
 
 
 def text_of(file):
+    """Returns the content of a file of the checkout."""
     with open(os.path.join(TOP, file), encoding="ascii") as opened:
         return opened.read()
 
 
 def modules_of(file):
+    """Returns the names of the modules in a file."""
     return re.findall(r"^(\S+) DEFINITIONS ::= BEGIN$", text_of(file), re.M)
 
 
-def needed(file, files):
-    """The files with the modules that this one imports from, and those that these do, and the file itself."""
+def files_needed(file, files):
+    """Returns the file itself, and the files with the modules from which it imports, also through others."""
     home = {module: other for other in files for module in modules_of(other)}
     found, ahead = [], [file]
     while ahead:
@@ -296,7 +301,7 @@ def needed(file, files):
 
 
 def by_all(text):
-    """A text with the names that the program shows by all modules."""
+    """Returns a text with the names that the program shows if all modules are loaded."""
     loaded = modules_of(ALL)
     for name, deeper in DEEPER.items():
         if deeper.split("::")[0] in loaded:
@@ -304,33 +309,36 @@ def by_all(text):
     return text
 
 
-def joined():
-    """modules/all.txt and modules/core.txt are what the script makes, which tells where they aren't."""
+def join_modules():
+    """Tests that modules/all.txt and modules/core.txt are what tools/join-modules makes, and that it reports if they
+    aren't."""
     with tempfile.TemporaryDirectory() as top:
         shutil.copytree(os.path.join(TOP, "modules"), f"{top}/modules")
         shutil.copytree(os.path.join(TOP, "tools"), f"{top}/tools")
 
         def join(*words):
             return programs.run_command([f"{top}/tools/join-modules", *words]).status
-        check("modules/all.txt and modules/core.txt are what tools/join-modules makes", join("--check"), 0)
+        check("modules/all.txt and modules/core.txt are current", join("--check"), 0)
         with open(f"{top}/modules/z.txt", "w", encoding="ascii") as file:
             file.write("Z-MIB DEFINITIONS ::= BEGIN END\n")
-        check("tools/join-modules --check tells of a file that is new", join("--check"), 1)
-        check("tools/join-modules joins it", join(), 0)
+        check("tools/join-modules --check notices a new file", join("--check"), 1)
+        check("tools/join-modules joins a new file", join(), 0)
         for made, more in (ALL, "\nZ-MIB DEFINITIONS ::= BEGIN END\n"), (CORE, ""):
             with open(f"{top}/{made}", encoding="ascii") as file:
-                check(f"and {made} is right", file.read(), text_of(made) + more)
-        check("tools/join-modules has no other words", join("--wrong"), 2)
-    check("modules/core.txt is the text of the benchmark", text_of(CORE), text_of("bench/modules.txt"))
-    chosen()
+                check(f"{made} is right after a new file was joined", file.read(), text_of(made) + more)
+        check("tools/join-modules refuses an unknown option", join("--wrong"), 2)
+    check("modules/core.txt is the file of the benchmark", text_of(CORE), text_of("bench/modules.txt"))
+    choose_modules()
 
 
-def chosen():
-    """Files of just the modules that are needed load without a warning, and show what all modules do."""
+def choose_modules():
+    """Tests that a file with only some modules, and those that they need, loads without a warning and shows the same
+    as all modules."""
     def join(*words):
         return tuple(programs.run_command(["tools/join-modules", *words], cwd=TOP))
     with tempfile.TemporaryDirectory() as folder:
-        def kept(name, *words):
+        def save(name, *words):
+            """Writes what join-modules prints to a file, and returns its path."""
             status, text, said = join(*words)
             check(f"tools/join-modules {' '.join(words)}", (status, said), (0, ""))
             with open(f"{folder}/{name}", "w", encoding="ascii") as file:
@@ -341,57 +349,59 @@ def chosen():
         for module in world:
             for is_terse in False, True:
                 with open(f"{folder}/one.txt", "w", encoding="ascii") as file:
-                    file.write(script["written"]([module], world, is_terse)[0])
-                check(f"{module} and what it needs, terse: {is_terse}",
+                    file.write(script["modules_text"]([module], world, is_terse)[0])
+                check(f"{module} and the modules that it needs load without a warning, terse: {is_terse}",
                       run("snmptranslate", "--mib", f"{folder}/one.txt", "-On", ".1.3.6.1"), (0, ".1.3.6.1\n", ""))
-        plain, short = kept("poll.txt", "IF-MIB"), kept("short.txt", "--terse", "IF-MIB")
+        plain, short = save("poll.txt", "IF-MIB"), save("short.txt", "--terse", "IF-MIB")
         wanted = ["SNMPv2-SMI", "SNMPv2-TC", "SNMPv2-CONF", "SNMPv2-MIB", "IANAifType-MIB", "IF-MIB"]
         check("IF-MIB needs five modules", modules_of(plain), wanted)
         whole = text_of(ALL)
-        check("each is as it stands", [part for part in text_of(plain).split("\n\n") if part.strip() not in whole], [])
+        check("each of these is as in modules/all.txt",
+              [part for part in text_of(plain).split("\n\n") if part.strip() not in whole], [])
         lines = run("snmpwalk", "--mib", ALL, TABLE, "ifXTable")
         for file in plain, short:
-            check(f"a walk by {os.path.basename(file)}", run("snmpwalk", "--mib", file, TABLE, "ifXTable"), lines)
+            check(f"a walk with {os.path.basename(file)}", run("snmpwalk", "--mib", file, TABLE, "ifXTable"), lines)
         check("--terse leaves out comments and descriptions",
               re.findall('--.*|(?:DESCRIPTION|CONTACT-INFO|ORGANIZATION)(?!"").*|REFERENCE|REVISION',
                          text_of(short)), [])
-        check("and with them a third", len(text_of(short)) < len(text_of(plain)) * 2 / 3, True)
-        terse = kept("terse.txt", "--terse")
-        check("all modules so", run("snmptranslate", "--mib", terse, "-On", *NAMES),
+        check("--terse makes the file a third shorter", len(text_of(short)) < len(text_of(plain)) * 2 / 3, True)
+        terse = save("terse.txt", "--terse")
+        check("names with all modules, terse", run("snmptranslate", "--mib", terse, "-On", *NAMES),
               (0, "".join(f"{number}\n" for number in NAMES.values()), ""))
         for device in "switch", "printer", "host", "ups":
             words = f"table:examples/{device}.tab", ".1"
-            check(f"the {device} by them", run("snmpwalk", "--mib", terse, *words),
+            check(f"the {device} with all modules, terse", run("snmpwalk", "--mib", terse, *words),
                   run("snmpwalk", "--mib", ALL, *words))
         with open(f"{folder}/vendor.txt", "w", encoding="ascii") as file:
             file.write(VENDOR)
-        path = kept("vendor-terse.txt", "--terse", "--mib", f"{folder}/vendor.txt", "VENDOR-MIB")
+        path = save("vendor-terse.txt", "--terse", "--mib", f"{folder}/vendor.txt", "VENDOR-MIB")
         check("a vendor's module needs IF-MIB", sorted(re.findall(r"^(\S+) DEFINITIONS::=BEGIN", text_of(path), re.M)),
               sorted([*wanted, "VENDOR-MIB"]))
-        check("and its names and units are there", run("snmptranslate", "--mib", path, "-Td", "vendorCount"),
+        check("a vendor's module has its names and units", run("snmptranslate", "--mib", path, "-Td", "vendorCount"),
               (0, VENDOR_DETAILS, ""))
         with open(f"{folder}/gone.txt", "w", encoding="ascii") as file:
             file.write("HERE-MIB DEFINITIONS ::= BEGIN IMPORTS a FROM GONE-MIB mib-2 FROM SNMPv2-SMI; END\n")
         status, text, said = join("--terse", "--mib", f"{folder}/gone.txt", "HERE-MIB")
-        check("a module that isn't there is told", (status, said, "HERE-MIB" in text and "SNMPv2-SMI" in text),
-              (1, "join-modules: HERE-MIB imports from GONE-MIB, which isn't there\n", True))
+        check("a missing module is reported, and the others are written",
+              (status, said, "HERE-MIB" in text and "SNMPv2-SMI" in text),
+              (1, "join-modules: HERE-MIB imports from GONE-MIB, which wasn't found\n", True))
         with open(f"{folder}/marked.txt", "w", encoding="utf-8-sig") as file:
             file.write(VENDOR)
         for letters in [], ["--terse"]:
             check(f"a byte-order mark before a module is left out, {letters}",
-                  kept("marked-out.txt", *letters, "--mib", f"{folder}/marked.txt", "VENDOR-MIB") and
+                  save("marked-out.txt", *letters, "--mib", f"{folder}/marked.txt", "VENDOR-MIB") and
                   run("snmptranslate", "--mib", f"{folder}/marked-out.txt", "-On", "vendorCount"),
                   (0, ".1.3.6.1.4.1.32473.7.1.1\n", ""))
         with open(f"{folder}/lines.txt", "w", encoding="ascii") as file:
             file.write(VENDOR.replace("VENDOR-MIB", "VENDOR_A-MIB").replace("vendorCount", "vendor_count_"))
         for letters in [], ["--terse"]:
-            check(f"a low line in names, {letters}",
-                  kept("lines-out.txt", *letters, "--mib", f"{folder}/lines.txt", "VENDOR_A-MIB") and
+            check(f"an underscore in names, {letters}",
+                  save("lines-out.txt", *letters, "--mib", f"{folder}/lines.txt", "VENDOR_A-MIB") and
                   run("snmptranslate", "--mib", f"{folder}/lines-out.txt", "-On", "VENDOR_A-MIB::vendor_count_"),
                   (0, ".1.3.6.1.4.1.32473.7.1.1\n", ""))
-    check("no module of that name", join("IF-MIB", "NO-MIB"), (1, "", "join-modules: no module NO-MIB\n"))
+    check("an unknown module", join("IF-MIB", "NO-MIB"), (1, "", "join-modules: no module NO-MIB\n"))
     for words in ["--mib", "no.txt"], ["--mib=no.txt"]:
-        check(f"no such file, {words}", join(*words, "IF-MIB"),
+        check(f"a file that doesn't exist, {words}", join(*words, "IF-MIB"),
               (1, "", "join-modules: no.txt: No such file or directory\n"))
     with open("/dev/full", "wb") as full:
         ran = programs.run_command(["tools/join-modules", "IF-MIB"], cwd=TOP, stdout=full)
@@ -400,38 +410,41 @@ def chosen():
 
 
 def texts(world, files):
-    """What the texts say, read by themselves: each label once and with a number, rows, types and hints in order."""
+    """Tests the module texts as module_texts.py reads them: labels, numbers, imports, rows, types, hints, statuses and
+    notifications."""
     names = [name for file in files for name in modules_of(file)]
-    check("no two files have a module of one name", sorted(set(names)), sorted(names))
+    check("no two modules have one name", sorted(set(names)), sorted(names))
     homes = {}
     for module in world.modules.values():
-        placed = {label: world.numbers(module, found) for label, found in module.definitions.items() if found.value}
-        for label, number in placed.items():
+        identifiers = {label: world.numbers(module, found)
+                       for label, found in module.definitions.items() if found.value}
+        for label, number in identifiers.items():
             homes.setdefault(number, []).append(f"{module.name}::{label}")
-        check(f"{module.name} has no label twice", module.twice, [])
-        check(f"{module.name} has a parent for each label", [label for label in placed if not placed[label]], [])
-        check(f"{module.name} has no number twice", len(set(placed.values())), len(placed))
-        check(f"{module.name} imports what is there", [
+        check(f"{module.name} defines no label twice", module.twice, [])
+        check(f"{module.name} defines the parent of each label",
+              [label for label in identifiers if not identifiers[label]], [])
+        check(f"{module.name} defines no number twice", len(set(identifiers.values())), len(identifiers))
+        check(f"{module.name} imports only names that exist", [
             label for label, source in module.imports.items()
             if source != "SNMPv2-CONF" and label not in MACROS and not world.find(module, label)], [])
-        check(f"{module.name} has rows, types, hints and notifications in order", [
+        check(f"{module.name} has no fault in rows, types, hints and notifications", [
             f"{found.label}: {fault}" for found in module.definitions.values()
             for fault in faults(world, module, found)], [])
-        check(f"{module.name} has statuses in order", list(statuses(module)), [])
-    check("notifications carry their objects in order", sorted(
+        check(f"{module.name} has no fault in statuses and groups", list(statuses(module)), [])
+    check("notifications have their objects in the standards' order", sorted(
         f"{module.name} {label} {' '.join(found.clauses['OBJECTS'])}" for module in world.modules.values()
         for label, found in module.definitions.items() if found.macro == "NOTIFICATION-TYPE"
         and "OBJECTS" in found.clauses), sorted(line.strip() for line in CARRIED))
-    check("numbers that stand in two modules",
+    check("the numbers that two modules define are known",
           {name: names[0] for names in homes.values() for name in names[1:]}, TWICE)
 
 
 def faults(world, module, found):
-    """What is wrong with a definition, beside its number."""
+    """Yields what is wrong with a definition, apart from its number."""
     kind, clauses = found.type, found.clauses
-    named = [world.find(module, label) for label in clauses.get("OBJECTS", [])]
-    if not all(place and place[1].type for place in named):
-        yield "names what is no object"
+    objects = [world.find(module, label) for label in clauses.get("OBJECTS", [])]
+    if not all(it and it[1].type for it in objects):
+        yield "names something that isn't an object"
     if found.macro == "OBJECT-TYPE" and {"INDEX", "AUGMENTS"} & set(clauses):
         parts, row = world.index(module, found), module.definitions.get(kind.name)
         if not parts or not all(world.meaning(owner, column.type) for owner, column, _ in parts):
@@ -444,35 +457,35 @@ def faults(world, module, found):
     elif "DISPLAY-HINT" in clauses:
         base, hint = world.meaning(module, kind)[0], clauses["DISPLAY-HINT"]
         if not HINTS[base in module_texts.INTEGERS].fullmatch(hint):
-            yield f"has a hint that is none of its type, {hint}"
+            yield f"has a hint that isn't one for its type: {hint}"
 
 
 def statuses(module):
-    """What is wrong with the statuses of groups and of what they have, and of rows and columns; and what is in no
-    group (RFC 2580, sections 3.1 and 4.1)."""
+    """Yields what is wrong with the statuses of groups and their members, and of rows and columns; and which objects
+    and notifications are in no group (RFC 2580, sections 3.1 and 4.1)."""
     rank = {label: ("current", "deprecated", "obsolete").index(found.clauses["STATUS"].replace("mandatory", "current"))
             for label, found in module.definitions.items() if "STATUS" in found.clauses}
     best = {}
     for label, found in module.definitions.items():
         above = module.definitions.get(found.value[0]) if found.value else None
         if above and above.macro == found.macro == "OBJECT-TYPE" and rank[label] < rank[above.label]:
-            yield f"{label} is below {above.label}, which counts less"
+            yield f"{label} is below {above.label}, whose status is older"
         if found.macro in ("OBJECT-GROUP", "NOTIFICATION-GROUP"):
             for member in found.clauses.get("OBJECTS", []) + found.clauses.get("NOTIFICATIONS", []):
                 best[member] = min(rank[label], best.get(member, 2))
                 if rank[label] < rank[member]:
-                    yield f"{label} has {member}, which counts less"
+                    yield f"{label} contains {member}, whose status is older"
     for label, found in module.definitions.items() if best else ():
         if found.macro != "NOTIFICATION-TYPE" and found.clauses.get("ACCESS") in (None, "not-accessible"):
             continue
         if label not in best and module.name not in UNGROUPED:
             yield f"{label} is in no group"
         elif rank[label] < best.get(label, 0):
-            yield f"{label} is only in groups that count less"
+            yield f"{label} is only in groups whose status is older"
 
 
 def instance(world, parts):
-    """The numbers of a row whose index has these parts, and how they are shown."""
+    """Returns the numbers of an instance whose index has these parts, and the text that shows them."""
     numbers, text = [], ""
     for owner, column, implied in parts:
         base, ranges, _, _ = world.meaning(owner, column.type)
@@ -490,7 +503,8 @@ def instance(world, parts):
 
 
 def indexes(world):
-    """An instance of the first column of each row is shown by its index, and read back."""
+    """Tests that an instance of the first column of each row is shown with its index, and that its name is read
+    back."""
     names, numbers = [], []
     for module in world.modules.values():
         for found in module.definitions.values():
@@ -500,14 +514,15 @@ def indexes(world):
             more, text = instance(world, world.index(module, found))
             names.append(f"{module.name}::{column.label}{text}")
             numbers.append("".join(f".{number}" for number in [*world.numbers(module, column), *more]))
-    check("rows are named by their indexes", run("snmptranslate", "--mib", ALL, *numbers),
+    check("instances are shown with their indexes", run("snmptranslate", "--mib", ALL, *numbers),
           (0, "".join(f"{name}\n" for name in names), ""))
-    check("and read by them", run("snmptranslate", "--mib", ALL, "-On", *names),
+    check("names with indexes are read back", run("snmptranslate", "--mib", ALL, "-On", *names),
           (0, "".join(f"{number}\n" for number in numbers), ""))
 
 
 def hints(world):
-    """The program takes the hint of each textual convention: a string is shown neither in quotes nor as octets."""
+    """Tests that the program accepts the hint of each textual convention: a string is shown neither in quotes nor in
+    hexadecimal."""
     lines, rows, wanted = [], [], []
     for module in world.modules.values():
         for found in module.definitions.values():
@@ -520,58 +535,59 @@ def hints(world):
                          f'DESCRIPTION "" ::= {{ iso 3 6 1 4 1 32473 {number} }} END\n'.replace("h", "H", 1))
             if base in module_texts.INTEGERS:
                 tag = "2" if base in ("INTEGER", "Integer32") else "66"
-                places = int(hint.partition("-")[2] or 0)
-                wanted.append(f"{'INTEGER' if tag == '2' else 'Gauge32'}: {7 / 10 ** places:.{places}f}")
+                digits = int(hint.partition("-")[2] or 0)
+                wanted.append(f"{'INTEGER' if tag == '2' else 'Gauge32'}: {7 / 10 ** digits:.{digits}f}")
                 rows.append(f"1.3.6.1.4.1.32473.{number}.0|{tag}|7")
             else:
                 length = max(2, ranges[0][0] if ranges else 0)
                 wanted.append("STRING: ")
                 rows.append(f"1.3.6.1.4.1.32473.{number}.0|4|{'a' * length}")
     with tempfile.TemporaryDirectory() as folder:
-        for name, kept in ("hints.txt", lines), ("hints.tab", [row + "\n" for row in rows]):
+        for name, content in ("hints.txt", lines), ("hints.tab", [row + "\n" for row in rows]):
             with open(f"{folder}/{name}", "w", encoding="ascii") as file:
-                file.write("".join(kept))
+                file.write("".join(content))
         status, out, said = run("snmpwalk", "--mib", ALL, "--mib", f"{folder}/hints.txt", "-OU",
                                 f"table:{folder}/hints.tab", ".1.3.6.1.4.1.32473")
-    check("a table of each hint is walked", (status, said, out.count("\n")), (0, "", len(wanted)))
+    check("a table with a value for each hint is walked", (status, said, out.count("\n")), (0, "", len(wanted)))
     for line, start in zip(out.splitlines(), wanted):
         name, _, value = line.partition(" = ")
-        check(f"{line} by its hint", (value == start) if start != "STRING: " else
+        check(f"{line} is shown by its hint", (value == start) if start != "STRING: " else
               value.startswith(start) and not value.startswith('STRING: "'), True)
 
 
 def facts(world, root):
-    """The facts of the texts are those that packages of Debian have, where these are there; and what is a part of
-    a module says so at once."""
+    """Tests that the facts of the modules agree with the packages of Debian that are installed, and that a file with
+    only a part of a module says so in its first lines."""
     compared = 0
     for module in world.modules.values():
         found = module_facts.differences(root, world, module)
         if found:
             compared += found[0]
-            check(f"{module.name} is as the package has it", found[1], [])
+            check(f"{module.name} agrees with the package", found[1], [])
             lacks = module_facts.lacks(root, world, module)
-            check(f"{module.name} is whole, or is known to be a part", bool(lacks), module.name in PARTS)
+            check(f"{module.name} is complete, or is known to be a part", bool(lacks), module.name in PARTS)
     starts = {module: text_of(file).splitlines() for file in glob.glob(os.path.join(TOP, "modules", "*-*.txt"))
               for module in modules_of(file)}
-    check("what is a part says so in its first line",
+    check("a part of a module says so in its first line",
           {name for name, lines in starts.items() if lines[0].startswith(f"-- A part of {name} ")}, PARTS)
-    check("and what to do in its second",
+    check("a part of a module says what to do in its second line",
           {name for name, lines in starts.items() if lines[1].endswith("give the full text before this.")},
           PARTS)
-    published(root)
+    load_published(root)
     if not compared:
         counts.left_out("facts of modules", f"neither python3-pysnmp4-mibs nor libsnmp-base is below {root}")
 
 
 def loads(files):
-    """Each file with those it imports from, and all in several orders, with no warning."""
+    """Tests that each file, with those from which it imports, loads without a warning, and so do all in several
+    orders."""
     silent = 0, ".1.3.6.1\n", ""
     for file in files:
         check(f"{file} loads without a warning",
-              run("snmptranslate", *mibs(needed(file, files)), "-On", ".1.3.6.1"), silent)
+              run("snmptranslate", *mibs(files_needed(file, files)), "-On", ".1.3.6.1"), silent)
     for made in MADE:
         check(f"{made} loads without a warning", run("snmptranslate", "--mib", made, "-On", ".1.3.6.1"), silent)
-    check("what other modules import is there",
+    check("names that other modules import exist",
           run("snmptranslate", *mibs([ALL, "tests/data/imports.txt"]), "-Of", "vendor.1"),
           (0, ".iso.org.dod.internet.private.enterprises.vendor.1\n", ""))
     rng = random.Random(1)
@@ -581,17 +597,19 @@ def loads(files):
 
 
 def walks(files):
+    """Tests walks of the example table, with the core modules and with all."""
     plain = text_of("tests/data/interfaces.txt")
-    check("snmpbulkwalk prints the table by the names of the core", run("snmpbulkwalk", "--mib", CORE, TABLE, ".1"),
-          (0, plain, ""))
+    check("snmpbulkwalk prints the table with the names of the core modules",
+          run("snmpbulkwalk", "--mib", CORE, TABLE, ".1"), (0, plain, ""))
     lines = by_all(plain).splitlines(True)
     whole = 0, "".join(lines), ""
-    check("and by those of all", run("snmpbulkwalk", "--mib", ALL, TABLE, ".1"), whole)
-    check("so does snmpwalk by the files in another order",
+    check("snmpbulkwalk prints the table with the names of all modules", run("snmpbulkwalk", "--mib", ALL, TABLE, ".1"),
+          whole)
+    check("snmpwalk prints the same with the files in another order",
           run("snmpwalk", *mibs(files[::-1]), TABLE, ".1"), whole)
     first = lines.index("IF-MIB::ifIndex.1 = INTEGER: 1\n")
-    check("ifTable alone: 22 columns of three interfaces", run("snmpbulkwalk", "--mib", ALL, TABLE, "ifTable"),
-          (0, "".join(lines[first:first + 66]), ""))
+    check("a walk of ifTable prints 22 columns of three interfaces",
+          run("snmpbulkwalk", "--mib", ALL, TABLE, "ifTable"), (0, "".join(lines[first:first + 66]), ""))
     for letters, name, text in (
             ("qv", "ifOperStatus", "up\nup\nlowerLayerDown\n"),
             ("qs", "ifType", "ifType.1 softwareLoopback\nifType.2 ethernetCsmacd\nifType.3 ethernetCsmacd\n"),
@@ -603,23 +621,23 @@ def walks(files):
 
 
 def devices():
-    """What devices return, by names: each table of examples/ whose lines are in tests/data, and a table of what
-    routers and agents of SNMPv3 have. A switch has ports as bits, and neighbours whose rows are marked with a
-    time."""
+    """Tests walks of what devices return: of each table of examples/ whose lines are in tests/data, and of a table with
+    objects of routers and of SNMPv3 agents. The switch has ports as bits, and neighbours whose rows have a time in
+    their index."""
     lines = by_all(text_of("tests/data/router.txt"))
     for walker in "snmpwalk", "snmpbulkwalk":
-        check(f"{walker} prints the router by names",
+        check(f"{walker} prints the router with names",
               run(walker, "--mib", ALL, "table:tests/data/router.tab", ".1"), (0, lines, ""))
     captures()
     examples, data = ({os.path.splitext(os.path.basename(path))[0] for path in glob.glob(os.path.join(TOP, pattern))}
                       for pattern in ("examples/*.tab", "tests/data/*.txt"))
-    check("the devices of examples/ that have their lines in tests/data", sorted(examples & data), DEVICES)
+    check("the devices of examples/ with lines in tests/data are known", sorted(examples & data), DEVICES)
     for name in DEVICES:
         if name == "interfaces":
             continue
         lines = by_all(text_of(f"tests/data/{name}.txt"))
         for walker in "snmpwalk", "snmpbulkwalk":
-            check(f"{walker} prints the {name} by names",
+            check(f"{walker} prints the {name} with names",
                   run(walker, "--mib", ALL, f"table:examples/{name}.tab", ".1"), (0, lines, ""))
     for device, letters, root, text in (
             ("switch", "qs", "lldpRemSysName",
@@ -641,10 +659,11 @@ def devices():
 
 
 def translations(files):
+    """Tests translations of names to numbers and back."""
     numbers = "".join(f"{number}\n" for number in NAMES.values())
     names = by_all("".join(f"{name}\n" for name in NAMES))
-    check("names as numbers", run("snmptranslate", "--mib", ALL, "-On", *NAMES), (0, numbers, ""))
-    check("numbers as names", run("snmptranslate", "--mib", ALL, *NAMES.values()), (0, names, ""))
+    check("names are translated to numbers", run("snmptranslate", "--mib", ALL, "-On", *NAMES), (0, numbers, ""))
+    check("numbers are translated to names", run("snmptranslate", "--mib", ALL, *NAMES.values()), (0, names, ""))
     check("the details of ifOperStatus", run("snmptranslate", "--mib", ALL, "-Td", "ifOperStatus"), (0, DETAILS, ""))
     kinds = r"OBJECT IDENTIFIER|OBJECT-TYPE|[A-Z]+-IDENTITY|NOTIFICATION-TYPE|[A-Z]+-GROUP|MODULE-COMPLIANCE"
     for file in files:
@@ -654,14 +673,15 @@ def translations(files):
             module = name or module
             labels += [f"{module}::{label}"] if label else []
         numbers = run("snmptranslate", "--mib", ALL, "-On", *labels)[1].split()
-        check(f"each label of {file} has numbers", len(numbers), len(labels))
+        check(f"each label of {file} has an identifier", len(numbers), len(labels))
         if labels:
-            check(f"each number of {file} has its label", run("snmptranslate", "--mib", ALL, *numbers),
+            check(f"each identifier of {file} has its label", run("snmptranslate", "--mib", ALL, *numbers),
                   (0, "".join(f"{TWICE.get(label, label)}\n" for label in labels), ""))
 
 
 def beside():
-    """A module that is there already is left out with a warning, and what this grammar hasn't is refused."""
+    """Tests that a second module with a name is left out with a warning, and that a text outside the grammar is
+    refused."""
     with tempfile.TemporaryDirectory() as folder:
         for name, text in ("other.txt", OTHER), ("unread.txt", UNREAD):
             with open(f"{folder}/{name}", "w", encoding="ascii") as file:
@@ -670,11 +690,11 @@ def beside():
         check("another IF-MIB after it is left out",
               run("snmptranslate", *mibs([ALL, f"{folder}/other.txt"]), "1.3.6.1.2.1.2"),
               (0, "IF-MIB::interfaces\n", twice))
-        check("another IF-MIB before it stands in its place",
+        check("another IF-MIB before it replaces it",
               run("snmptranslate", *mibs(["modules/base.txt", f"{folder}/other.txt", "modules/if-mib.txt",
                                           "modules/ianaiftype-mib.txt"]), "1.3.6.1.2.1.2"),
               (0, "IF-MIB::other\n", twice))
-        check("base.txt twice", run("snmptranslate", *mibs(["modules/base.txt"] * 2), "-On", "mib-2"),
+        check("base.txt loaded twice", run("snmptranslate", *mibs(["modules/base.txt"] * 2), "-On", "mib-2"),
               (0, ".1.3.6.1.2.1\n", "".join(f"snmp: {module} is loaded twice\n"
                                             for module in modules_of("modules/base.txt"))))
         check("a module text with [UNIVERSAL 2] is refused",
@@ -684,7 +704,8 @@ def beside():
 
 
 def old_imports():
-    """Modules that import of SMIv1's have their names and hints. A text that is given before ours counts."""
+    """Tests modules that import from modules of SMIv1: their names and hints are found. A text of RFC1213-MIB that is
+    loaded before ours is used instead."""
     with tempfile.TemporaryDirectory() as folder:
         for name, text in (("old.tab", OLD_ROWS), ("full.txt", FULL), ("traps.txt", TRAPS),
                            ("rfc1213.txt", "RFC1213-MIB DEFINITIONS ::= BEGIN\nIMPORTS mgmt FROM RFC1155-SMI;\n"
@@ -694,36 +715,37 @@ def old_imports():
         for order in [ALL, "tests/data/old.txt"], ["tests/data/old.txt", ALL]:
             check("old imports have names and hints",
                   run("snmpwalk", *mibs(order), f"table:{folder}/old.tab", ".1.3.6.1.4.1.32473"), (0, OLD_LINES, ""))
-        check("RFC1213-MIB before ours stands in its place",
+        check("an RFC1213-MIB before ours replaces it",
               run("snmptranslate", *mibs([f"{folder}/rfc1213.txt", ALL]), "RFC1213-MIB::mib-2.3", ".1.3.6.1.2.1.3.1"),
               (0, "RFC1213-MIB::at\nRFC1213-MIB::at.1\n", "snmp: RFC1213-MIB is loaded twice\n"))
         twice = "snmp: RMON2-MIB is loaded twice\n"
         name, number = "RMON2-MIB::probeCapabilities.0", ".1.3.6.1.2.1.16.19.1.0\n"
-        check("a full text before our part of it has its names",
+        check("a full module before our part of it defines its names",
               run("snmptranslate", *mibs([f"{folder}/full.txt", "modules/base.txt", "modules/rmon2-mib.txt"]),
                   "-On", name), (0, number, twice))
-        check("and behind it none", run("snmptranslate", *mibs([ALL, f"{folder}/full.txt"]), "-On", name),
+        check("a full module after our part of it defines no names",
+              run("snmptranslate", *mibs([ALL, f"{folder}/full.txt"]), "-On", name),
               (1, "", f"{twice}Unknown name: {name}\n"))
         cured = cure(f"{folder}/traps.txt", folder)
-        check("a module without its traps",
+        check("a module of SMIv1 without its traps",
               run("snmptranslate", *mibs([cured, ALL]), "-On", "trapsState.0", "trapsEnd"),
               (0, ".1.3.6.1.4.1.32473.8.1.0\n.1.3.6.1.4.1.32473.8.2\n", ""))
 
 
 def cure(path, folder):
-    """Makes a text of SMIv1 loadable, in this folder."""
+    """Writes a copy of a text of SMIv1 that can be loaded, and returns its path."""
     with open(f"{folder}/cured.txt", "wb") as file:
         check(f"sed -E over {os.path.basename(path)}",
               programs.run_command(["sed", "-E", "-e", CURE[0], "-e", CURE[1], path], stdout=file), (0, "", ""))
     return f"{folder}/cured.txt"
 
 
-def published(root):
-    """RFC1213-MIB, and STANDARD-MIB, which is a part of it with traps, as a package of Debian has them in SMIv1."""
+def load_published(root):
+    """Tests RFC1213-MIB, and STANDARD-MIB, a part of it with traps, as a package of Debian has them in SMIv1."""
     paths = sorted(glob.glob(f"{root}/usr/lib/erlang/lib/snmp-*/mibs/*-MIB.mib"))
     paths = {name: path for path in paths for name in ("RFC1213-MIB", "STANDARD-MIB") if path.endswith(f"/{name}.mib")}
     if not paths:
-        counts.left_out("RFC1213-MIB as published", "erlang-snmp isn't there")
+        counts.left_out("RFC1213-MIB as published", f"erlang-snmp isn't installed below {root}")
     for name, path in paths.items():
         with tempfile.TemporaryDirectory() as folder:
             cured = cure(path, folder)
@@ -734,8 +756,8 @@ def published(root):
 
 
 def captures():
-    """tools/lines-to-table reads lines that end with CR LF or begin with a byte-order mark, and tells of those without
-    types in one line."""
+    """Tests that tools/lines-to-table reads lines that end with CR LF and files that begin with a byte-order mark, and
+    that it reports lines without types in one line."""
     def turn(text, encoding="utf-8"):
         with tempfile.TemporaryFile() as file:
             file.write(text.encode(encoding))
@@ -745,11 +767,11 @@ def captures():
     table = turn(lines)
     check("a capture from .1 has LLDP", (table[0], "\n1.0.8802." in f"\n{table[1]}", table[2]), (0, True, ""))
     check("a capture with CR LF", turn(lines.replace("\n", "\r\n")), table)
-    check("a CR in a string is kept where lines end with LF, and the one of the line's end isn't",
+    check("a CR in a string stays if lines end with LF, and the CR of a line's end is removed",
           turn('.1.3.6.1 = STRING: "a\r\nb"\n.1.3.6.2 = STRING: "a\r\r\nb"\r\n'
                ".1.3.6.3 = Hex-STRING: 00 01 \r\n02\r\n\r\nVariables found: 3\r\n"),
           (0, "1.3.6.1|4x|610D0A62\n1.3.6.2|4x|610D0A62\n1.3.6.3|4x|000102\n", ""))
-    check("a capture with CR LF that is cut", turn(".1.3.6.1 = INTEGER: 12\r\n.1.3.6.2 = INTEGER: 1\r"),
+    check("a capture with CR LF that is cut off", turn(".1.3.6.1 = INTEGER: 12\r\n.1.3.6.2 = INTEGER: 1\r"),
           (1, "1.3.6.1|2|12\n", "input:2: cut off: .1.3.6.2 = INTEGER: 1\n"))
     for letters in "nq", "nv", "nqv":
         untyped = run("snmpbulkwalk", f"-O{letters}", TABLE, ".1")[1]
@@ -762,8 +784,8 @@ def captures():
     for encoding in "utf-8-sig", "utf-16", "utf-16-be":
         mark = "\ufeff" if encoding == "utf-16-be" else ""
         check(f"a capture with a byte-order mark, {encoding}", turn(mark + lines, encoding), table)
-    check("a mark that isn't the first is no mark", turn(".1.3.6.1 = INTEGER: 1\n\ufeff.1.3.6.2 = INTEGER: 2\n")[:2],
-          (1, "1.3.6.1|2|1\n"))
+    check("a byte-order mark after the first line is part of its line",
+          turn(".1.3.6.1 = INTEGER: 1\n\ufeff.1.3.6.2 = INTEGER: 2\n")[:2], (1, "1.3.6.1|2|1\n"))
     check("one line without a type", turn(".1.3.6.1 = 5\n"),
           (1, "", "input:1: not a type that a table can have: .1.3.6.1 = 5\n"))
 
@@ -780,10 +802,11 @@ def main(words):
     files = sorted(f"modules/{os.path.basename(path)}" for path in glob.glob(os.path.join(TOP, "modules", "*.txt")))
     files = [file for file in files if file not in MADE]
     world = module_texts.World(module for file in files for module in module_texts.read(text_of(file)))
-    for part, *given in ((joined,), (texts, world, files), (indexes, world), (hints, world), (facts, world, words.root),
-                         (loads, files), (walks, files), (devices,), (translations, files), (beside,)):
-        # A part that breaks off is a failure, whatever the words are.
-        wrong = try_test(lambda part=part, given=given: part(*given))
+    for part, *rest in ((join_modules,), (texts, world, files), (indexes, world), (hints, world),
+                        (facts, world, words.root), (loads, files), (walks, files), (devices,), (translations, files),
+                        (beside,)):
+        # A part that raises an exception is a failure, whatever the words are.
+        wrong = try_test(lambda part=part, rest=rest: part(*rest))
         if wrong:
             Counts.record(counts, part.__name__, wrong)
     unknown = [word for word in counts.words if word not in counts.found_words]

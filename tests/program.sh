@@ -1,9 +1,9 @@
 #!/usr/bin/env bash
-# Runs the built program on a table of words, and compares what it wrote to its output and to its error
-# output, and its status, with what must come.
+# Runs the built program with many command lines, and compares its status, output and error output with the expected
+# ones.
 #
-#   tests/program.sh [WORD..]     runs the tests whose titles, most of which are the words of a command line,
-#                                 contain one of the words; without words, all
+#   tests/program.sh [WORD..]     runs the tests whose titles contain one of the words; without words, all. Most titles
+#                                 are command lines
 #
 # The last line is 'N passed, M failed, K skipped'.
 # shellcheck disable=SC2086  # words are split on purpose
@@ -12,8 +12,8 @@ are_current snmp
 cd "$top/tests/data" || exit 1
 program=$top/crates/snmp/out/snmp
 
-# Texts are whole but for their last newline, which must come where the text isn't empty. Where a text
-# ends in ..., it need only begin as it does before that.
+# matches WANTED GOT: whether the texts are equal, except that GOT, unless it is empty, ends with one newline more. If
+# WANTED ends with ..., GOT only has to begin with what is before that.
 matches() {
     case $1 in
         *...) [ "${2:0:$((${#1} - 3))}" = "${1%...}" ] && [ ${#2} -ge $((${#1} - 3)) ] ;;
@@ -22,7 +22,7 @@ matches() {
     esac
 }
 
-# holds TITLE TEXT FILE: the file has this text.
+# holds TITLE TEXT FILE: a test that the file contains this text, as matches compares it.
 holds() {
     local has
     chosen "$1" || return 0
@@ -30,8 +30,8 @@ holds() {
     if matches "$2" "${has%.}"; then count "$1" ''; else count "$1" "$(printf '%q' "${has%.}")"; fi
 }
 
-# expect STATUS OUTPUT MESSAGES WORD..; with `target` or `errors` before it, output or messages go there, and
-# with `limit` the program may take so many kibibytes of memory, and with `stack` of stack.
+# expect STATUS OUTPUT MESSAGES ARGUMENT..: a test of the program with these arguments. The variables `target` and
+# `errors` are paths for the output and the messages; `limit` and `stack` limit the memory and the stack, in KiB.
 expect() {
     local status=$1 output=$2 messages=$3 title="snmp ${*:4}" ended wrote said
     shift 3
@@ -53,10 +53,11 @@ expect() {
             $ended "$status" "${wrote%.}" "${said%.}")"
     fi
 }
+# prints OUTPUT ARGUMENT..: a test of a run without messages. refuses MESSAGES ARGUMENT..: of one without output.
 prints() { expect 0 "$1" '' "${@:2}"; }
 refuses() { expect 1 '' "$1" "${@:2}"; }
 
-# helps 'WORD..' TEXT..: the help that the words ask for has a line that begins with each text.
+# helps 'ARGUMENT..' TEXT..: a test that the help that these arguments ask for has a line that begins with each text.
 helps() {
     local words=$1 text missing=
     shift
@@ -65,10 +66,10 @@ helps() {
     count "the help of snmp $words" "${missing:+it lacks$missing}"
 }
 
-# table LINE..: the file t.tab has these lines.
+# table LINE..: writes these lines to the file t.tab.
 table() { printf '%s\n' "$@" >"$got/t.tab"; }
 
-# module FILE TEXT: the file has a module M of this text.
+# module FILE TEXT: writes a module M with this text to the file.
 module() { printf 'M DEFINITIONS ::= BEGIN\n%s\nEND\n' "$2" >"$got/$1"; }
 
 e=.1.3.6.1.4.1.32473
@@ -90,7 +91,7 @@ TINY-MIB::tinyKeyUse.'wes' = Gauge32: 5 jobs"
 examples=../../examples
 walkers='snmpwalk snmpbulkwalk'
 
-# walks of a table
+# walks of a table file
 for walker in $walkers; do
     prints "$three" $walker -On table:three.tab $e.1
     for after in "--after $e.1.1.0" "--after=$e.1.1.0"; do
@@ -132,7 +133,7 @@ prints 'INTEGER: 3' snmpwalk -O v table:three.tab $named
 prints '3' snmpwalk -O qv table:three.tab $named
 prints "iso.0 = $missing" snmpwalk -O S table:/dev/null .1
 
-# the modes of a walk: nothing below the root; the root alone; the root and what is below it
+# the modes of a walk: with nothing below the root; with only the root; with the root and rows below it
 for walker in $walkers; do
     prints "iso.0 = $missing" $walker table:$examples/empty.tab .1
     prints ".1.0 = $missing" $walker -On table:/dev/null .1
@@ -229,7 +230,7 @@ shows qv '5 jobs' "tinyKeyUse.'wes'"
 shows f '.iso.3.6.internet.private.enterprises.tiny.tinyState.0 = INTEGER: up(1)' tinyState.0
 shows nSs 'tinyState.0 = INTEGER: up(1)' tinyState.0
 shows sn "$e.1.0 = INTEGER: up(1)" tinyState.0
-# A file whose names stand on those of another, before it and behind it.
+# A file whose names are defined below those of another file, which is loaded before it, and then after it.
 printf 'MORE-MIB DEFINITIONS ::= BEGIN\nIMPORTS tiny FROM TINY-MIB;\nmore OBJECT IDENTIFIER ::= { tiny 9 }\nEND\n' \
     >"$got/more.txt"
 table "$e.9.1|2|7"
@@ -333,10 +334,10 @@ prints 'iso
 iso OBJECT IDENTIFIER
 ::= { 1 }' snmptranslate -Tdd iso
 
-# indexes and syntaxes of objects, by modules
+# indexes and syntaxes of objects in modules
 row='MAX-ACCESS not-accessible STATUS current DESCRIPTION ""'
 column='MAX-ACCESS read-only STATUS current DESCRIPTION ""'
-# A SIZE that is a number, a range from it to itself, and a literal.
+# A SIZE that is a number; one that is a range whose ends are equal; one that is a literal.
 module m.txt "row OBJECT-TYPE SYNTAX Row $row INDEX { fixed, ranged, literal } ::= { iso 1 }
 fixed OBJECT-TYPE SYNTAX OCTET STRING (SIZE (2)) $column ::= { row 1 }
 ranged OBJECT-TYPE SYNTAX OCTET STRING (SIZE (2..2)) $column ::= { row 2 }
@@ -345,14 +346,15 @@ prints "M::fixed.'ab'.\"cd\".'ef'
 M::fixed.97.98.99.100.101.102" \
     snmptranslate --mib "$got/m.txt" .1.1.1.97.98.2.99.100.101.102 .1.1.1.97.98.99.100.101.102
 prints '.1.1.1.97.98.2.99.100.101.102' snmptranslate --mib "$got/m.txt" -On "M::fixed.'ab'.\"cd\".'ef'"
-# indexed PART SYNTAX NUMBERS=TEXT.. NUMBERS..: in an index of a string and this part, whose object has this syntax, the
-# numbers behind the string are shown as the text; those without a text are no such index, and all is shown in numbers.
-indexed() {
+# shows_index PART SYNTAX NUMBERS=TEXT.. NUMBERS..: a test of an index that consists of a string and PART, an object
+# with this syntax. The numbers after the string are shown as TEXT. Without a TEXT they aren't such an index, and the
+# whole index is shown as numbers.
+shows_index() {
     local word names='' texts=''
     module m.txt "Mac ::= OCTET STRING (SIZE (6))
-entry OBJECT-TYPE SYNTAX Entry $row INDEX { front, $1 } ::= { iso 1 }
+entry OBJECT-TYPE SYNTAX Entry $row INDEX { key, $1 } ::= { iso 1 }
 column OBJECT-TYPE SYNTAX $2 $column ::= { entry 1 }
-front OBJECT-TYPE SYNTAX OCTET STRING $column ::= { entry 2 }"
+key OBJECT-TYPE SYNTAX OCTET STRING $column ::= { entry 2 }"
     for word in "${@:3}"; do
         names+=" .1.1.1.2.97.98.${word%%=*}"
         case $word in
@@ -363,32 +365,32 @@ front OBJECT-TYPE SYNTAX OCTET STRING $column ::= { entry 2 }"
     prints "${texts%?}" snmptranslate --mib "$got/m.txt" $names
 }
 for syntax in INTEGER 'INTEGER { up(1) }' Counter32 Gauge32 Unsigned32 TimeTicks; do
-    indexed column "$syntax" 5=5 5.6 1.99
+    shows_index column "$syntax" 5=5 5.6 1.99
 done
-indexed 'IMPLIED column' 'Integer32 (0..9)' 5=5 5.6
-for syntax in Counter64 Missing; do indexed column "$syntax" 5 1.99; done
-indexed column IpAddress 192.0.2.1=192.0.2.1 192.0.2 192.0.2.1.1 192.0.2.256
-indexed column 'OBJECT IDENTIFIER' 2.1.256=2.1.256 5.3 1.1.3
-indexed 'IMPLIED column' 'OBJECT IDENTIFIER' 5.256=5.256
+shows_index 'IMPLIED column' 'Integer32 (0..9)' 5=5 5.6
+for syntax in Counter64 Missing; do shows_index column "$syntax" 5 1.99; done
+shows_index column IpAddress 192.0.2.1=192.0.2.1 192.0.2 192.0.2.1.1 192.0.2.256
+shows_index column 'OBJECT IDENTIFIER' 2.1.256=2.1.256 5.3 1.1.3
+shows_index 'IMPLIED column' 'OBJECT IDENTIFIER' 5.256=5.256
 for syntax in '' ' (SIZE (6..6))' ' (SIZE (0..32))' ' (SIZE (6 | 8))'; do
-    indexed column "OCTET STRING$syntax" '6.99.100.101.102.103.104="cdefgh"' 99.100.101.102.103.104 6.99.100
+    shows_index column "OCTET STRING$syntax" '6.99.100.101.102.103.104="cdefgh"' 99.100.101.102.103.104 6.99.100
 done
 for syntax in '' ' (SIZE (6..6))' ' (SIZE (1..32))'; do
-    indexed 'IMPLIED column' "OCTET STRING$syntax" "99.100='cd'" "99.100.101.102.103.104='cdefgh'"
+    shows_index 'IMPLIED column' "OCTET STRING$syntax" "99.100='cd'" "99.100.101.102.103.104='cdefgh'"
 done
 for syntax in 'OCTET STRING (SIZE (6))' "OCTET STRING (SIZE ('06'H))" Mac; do
-    indexed column "$syntax" "99.100.101.102.103.104='cdefgh'" 99.100 6.99.100.101.102.103.104
+    shows_index column "$syntax" "99.100.101.102.103.104='cdefgh'" 99.100 6.99.100.101.102.103.104
 done
-indexed 'IMPLIED column' 'OCTET STRING (SIZE (6))' "99.100.101.102.103.104='cdefgh'" 99.100 6.99.100.101.102.103.104
-# No string has as many octets as a SIZE below zero says.
-for part in column 'IMPLIED column'; do indexed "$part" 'OCTET STRING (SIZE (-5))' 5.97.98.99.100.101 97.98; done
-indexed column 'Mac (SIZE (0..6))' '6.99.100.101.102.103.104="cdefgh"' '2.99.100="cd"' 99.100.101.102.103.104
-for syntax in Opaque 'BITS { a(0) }'; do indexed column "$syntax" 2.99.100=2.99.100 99.100 1.256; done
-indexed column 'Opaque (SIZE (4))' 99.100.101.102=99.100.101.102 99.100.101 4.99.100.101.102 99.100.101.256
-indexed 'IMPLIED column' 'BITS { a(0) }' 99.100=99.100 99.256
+shows_index 'IMPLIED column' 'OCTET STRING (SIZE (6))' "99.100.101.102.103.104='cdefgh'" 99.100 6.99.100.101.102.103.104
+# A SIZE below zero fits no string.
+for part in column 'IMPLIED column'; do shows_index "$part" 'OCTET STRING (SIZE (-5))' 5.97.98.99.100.101 97.98; done
+shows_index column 'Mac (SIZE (0..6))' '6.99.100.101.102.103.104="cdefgh"' '2.99.100="cd"' 99.100.101.102.103.104
+for syntax in Opaque 'BITS { a(0) }'; do shows_index column "$syntax" 2.99.100=2.99.100 99.100 1.256; done
+shows_index column 'Opaque (SIZE (4))' 99.100.101.102=99.100.101.102 99.100.101 4.99.100.101.102 99.100.101.256
+shows_index 'IMPLIED column' 'BITS { a(0) }' 99.100=99.100 99.256
 
-# Rows that augment others, also of another module, whose index has the names of that one; what stands below a row and
-# is no column; indexes that lead to nothing; and rows of one identifier, of which the first stands for it.
+# Rows that augment others, also of another module, in which the names of the index are then looked up; nodes below a
+# row that aren't columns; indexes whose objects don't exist; and rows with one identifier, where the first counts.
 cat >"$got/m.txt" <<MODULE
 M DEFINITIONS ::= BEGIN IMPORTS key FROM N farRow FROM P absentRow FROM N;
 rowA OBJECT-TYPE SYNTAX R $row INDEX { key, local, IMPLIED nameA } ::= { iso 1 }
@@ -448,8 +450,9 @@ snmp: M::ringed stands on a cycle' snmptranslate --mib "$got/m.txt" .1.1.{1,3,2.
     .1.{2,3}.1.7.$six_of.120.121 .1.4.1.97.98.7 .1.4.1.$six_of.7 .1.12.2.97.98.7 .1.5.1.2.97.98 .1.6.1.2.97.98.7 \
     .1.7.1.2.97.98 .1.8.1.2.97.98.7 .1.9.1.$six_of .1.{9,10,11}.1.2.97.98
 
-# typed SYNTAX ROW LINE: of an object of this syntax, which is its own index, a row of a table has this line.
-typed() {
+# shows_type SYNTAX ROW LINE: a test of an object with this syntax, which is also its own index: the row of a table file
+# is printed as this line.
+shows_type() {
     cat >"$got/m.txt" <<MODULE
 M DEFINITIONS ::= BEGIN IMPORTS Far FROM N Gone FROM GONE Absent FROM N Ring FROM N;
 Plain ::= INTEGER
@@ -482,25 +485,25 @@ MODULE
     expect 0 "M::o.$3" 'snmp: M imports from GONE, which is not loaded
 snmp: M imports Absent from N, which has no Absent' snmpwalk --mib "$got/m.txt" "table:$got/t.tab" o
 }
-# What is nearest to the object, through two imports to the end of the chain: a hint and a SIZE, names, and a type of
-# the module itself that another module has too.
-typed Far "$six_of|4|abc" "'abcdef' = STRING: abc"
-for syntax in Near On; do typed $syntax "$six_of|4|abc" "'abcdef' = STRING: 61:62:63"; done
-typed NearSize '97.98.99.100|4|abc' "'abcd' = STRING: abc"
-typed Up '5|2|1' '5 = INTEGER: up(1)'
-typed 'Up { own(1) }' '5|2|1' '5 = INTEGER: own(1)'
+# Along a chain of types, also through two imports, the hint, the SIZE and the names nearest to the object count. A type
+# is looked up in the object's own module first.
+shows_type Far "$six_of|4|abc" "'abcdef' = STRING: abc"
+for syntax in Near On; do shows_type $syntax "$six_of|4|abc" "'abcdef' = STRING: 61:62:63"; done
+shows_type NearSize '97.98.99.100|4|abc' "'abcd' = STRING: abc"
+shows_type Up '5|2|1' '5 = INTEGER: up(1)'
+shows_type 'Up { own(1) }' '5|2|1' '5 = INTEGER: own(1)'
 for syntax in Other 'Other (1..2)'; do
-    typed "$syntax" '5|2|1' '5 = INTEGER: left(1)'
-    typed "$syntax" '5|2|7' '5 = INTEGER: 0.07 m'
+    shows_type "$syntax" '5|2|1' '5 = INTEGER: left(1)'
+    shows_type "$syntax" '5|2|7' '5 = INTEGER: 0.07 m'
 done
-typed Flags '1.65|4x|80' '1.65 = BITS: 80 a(0) '
-typed 'Flags { c(0) }' '1.65|4x|80' '1.65 = BITS: 80 c(0) '
-typed Plain '5|2|5' '5 = INTEGER: 5 m'
-# Rings of definitions and of imports, names without a definition, and those of definitions that are no types of values
-# give no syntax.
+shows_type Flags '1.65|4x|80' '1.65 = BITS: 80 a(0) '
+shows_type 'Flags { c(0) }' '1.65|4x|80' '1.65 = BITS: 80 c(0) '
+shows_type Plain '5|2|5' '5 = INTEGER: 5 m'
+# An object has no syntax if its type is in a ring of definitions or of imports, has no definition, or isn't a type of
+# values.
 for syntax in A B Self Ring Gone Absent Lost Missing 'SEQUENCE OF Row' Row OnRow Rows Choice; do
-    typed "$syntax" '5|2|5' '5 = INTEGER: 5'
-    typed "$syntax" '2.97.98|4x|80' '2.97.98 = Hex-STRING: 80 '
+    shows_type "$syntax" '5|2|5' '5 = INTEGER: 5'
+    shows_type "$syntax" '2.97.98|4x|80' '2.97.98 = Hex-STRING: 80 '
 done
 
 # help
@@ -516,7 +519,7 @@ for walker in $walkers; do
 done
 helps 'snmpd -h' '--mib <FILE>' '--table <FILE>' '-c <COMMUNITY>' '--listen <HOST:PORT>' '--max-size <OCTETS>' '--turns <N>'
 
-# words that make no command
+# arguments that the program refuses
 refuses "error: 'snmp' requires a subcommand but one was not provided..."
 refuses "error: unrecognized subcommand 'walk'..." walk
 refuses "error: unrecognized subcommand 'help'..." help
@@ -538,7 +541,7 @@ refuses 'error: the following required arguments were not provided:
   --table <FILE>...' snmpd --turns 0
 refuses 'error: invalid UTF-8 was detected in one or more arguments' snmptranslate $'\xFF'
 
-# words of Net-SNMP: those that are taken joined to their values, and what is used in place of the others
+# options of Net-SNMP: some are accepted with their values joined, and messages say what to use instead of the others
 prints "$three" snmpbulkwalk -v2c -cpublic -r1 -t2 -On -Cr50 table:three.tab $e.1
 prints "$three" snmpwalk table:three.tab $e.1 -v2c -cpublic -r1 -t2 -On
 prints "$first" snmpget -v2c -cpublic -r1 -t2 -On table:three.tab $e.1.1.0
@@ -555,9 +558,10 @@ refuses "error: unrecognized subcommand 'snmpset'
 
   tip: agents are read here and never written..." snmpset
 
-# numbers at their ends and past them
+# numbers at the ends of their ranges and beyond
 hold_port
-place=127.0.0.1:$port
+address=127.0.0.1:$port
+# accepts OPTION..: a test that a walk with these options prints its line.
 accepts() { prints "$first" snmpwalk "$@" -On table:three.tab $e.1.1.0; }
 for words in '-r 0' '-r 1000' '-t 1' '-t 3600' '--max-size 65507' '-v 2c' '-r 0001'; do
     accepts $words
@@ -569,8 +573,8 @@ refuses "error: invalid value '0' for '--max-size <OCTETS>'..." snmpd --table th
 refuses "error: invalid value '65508' for '--max-size <OCTETS>'..." snmpd --table three.tab --max-size 65508
 refuses "error: invalid value '18446744073709551616' for '--turns <N>'..." \
     snmpd --table three.tab --turns 18446744073709551616
-prints "listening on $place
-0 replies, 0 dropped" snmpd --table three.tab --listen "$place" --turns 0 --max-size 65507
+prints "listening on $address
+0 replies, 0 dropped" snmpd --table three.tab --listen "$address" --turns 0 --max-size 65507
 for repetitions in 1 0001 2147483647; do
     prints "$three" snmpbulkwalk -On -Cr$repetitions table:three.tab $e.1
 done
@@ -584,8 +588,8 @@ refuses 'Community too long.' snmpwalk -c 0"$c255" table:three.tab
 refuses 'Community too long.' snmpwalk -c "é${c255#0}" table:three.tab
 refuses 'Community too long.' snmpget -c 0"$c255" table:three.tab .1.3
 refuses 'Community too long.' snmpd -c 0"$c255" --table three.tab --turns 0
-prints "listening on $place
-0 replies, 0 dropped" snmpd -c "$c255" --table three.tab --listen "$place" --turns 0
+prints "listening on $address
+0 replies, 0 dropped" snmpd -c "$c255" --table three.tab --listen "$address" --turns 0
 
 # letters
 refuses 'Unknown letter: z' snmpwalk -Oz table:three.tab .1
@@ -618,9 +622,9 @@ refuses 'The link failed.' snmpwalk a..b .1.3
 refuses 'The link failed.' snmpd --table three.tab --listen a..b:1 --turns 0
 refuses 'The link failed.' snmpd --table three.tab --listen 192.0.2.1:16161 --turns 0
 
-# Where several words are refused, it is for the first of these: the version, -O, -C, the community, AGENT,
-# module files in order, NAME, --after, the table file or the link, a root that can't be sent, an --after that
-# isn't below it, an --after that can't be sent.
+# If several arguments are wrong, the message is about the first of these: the version, -O, -C, the community, AGENT,
+# the module files in order, NAME, --after, the table file or the link, a root that can't be sent, an --after that isn't
+# below the root, an --after that can't be sent.
 for walker in $walkers; do
     bad=(--mib no.txt --mib program.txt --after b udp: a)
     refuses 'Unknown version: 1' $walker -v 1 -Oz -Cy -c 0"$c255" "${bad[@]}"
@@ -675,19 +679,19 @@ refuses 'no.tab: cannot be read' snmpd --listen a..b:1 --table no.tab
 table 'object 1' 'x'
 refuses "$got/t.tab:2: bad line" snmpd --listen a..b:1 --table "$got/t.tab"
 
-# the warnings of loaded modules, before what is refused behind them
-warned() { expect 1 '' "$warnings"$'\n'"$1" "${@:2}"; }
-warned 'Unknown name: nowhere' snmpwalk --mib=tiny.txt -On table:no.tab nowhere
-warned 'Unknown name: loopA' snmpwalk --mib=tiny.txt --after=loopA table:no.tab tiny
-warned 'no.tab: cannot be read' snmpwalk --mib=tiny.txt -On table:no.tab tiny
-warned 'program.txt:1: bad line' snmpwalk --mib=tiny.txt -On table:program.txt tiny
-warned 'Name cannot be sent: .3' snmpwalk --mib=tiny.txt -On table:tiny.tab .3
-warned 'The link failed.' snmpwalk --mib=tiny.txt -On a..b tiny
-warned 'Unknown name: loopA' snmpget --mib=tiny.txt -Oqv table:no.tab tinyState.0 loopA
-warned 'no.tab: cannot be read' snmpget --mib=tiny.txt -Oqv table:no.tab tinyState.0 .3
-warned 'Name cannot be sent: .3' snmpget --mib=tiny.txt -Oqv table:tiny.tab tinyState.0 .3
-warned 'Unknown name: nosuch' snmptranslate --mib tiny.txt -On -Td nosuch
-warned 'no.tab: cannot be read' snmpd --mib tiny.txt --listen a..b:1 --table no.tab
+# refuses_after_warnings MESSAGE ARGUMENT..: a test that the warnings of tiny.txt come before the message
+refuses_after_warnings() { expect 1 '' "$warnings"$'\n'"$1" "${@:2}"; }
+refuses_after_warnings 'Unknown name: nowhere' snmpwalk --mib=tiny.txt -On table:no.tab nowhere
+refuses_after_warnings 'Unknown name: loopA' snmpwalk --mib=tiny.txt --after=loopA table:no.tab tiny
+refuses_after_warnings 'no.tab: cannot be read' snmpwalk --mib=tiny.txt -On table:no.tab tiny
+refuses_after_warnings 'program.txt:1: bad line' snmpwalk --mib=tiny.txt -On table:program.txt tiny
+refuses_after_warnings 'Name cannot be sent: .3' snmpwalk --mib=tiny.txt -On table:tiny.tab .3
+refuses_after_warnings 'The link failed.' snmpwalk --mib=tiny.txt -On a..b tiny
+refuses_after_warnings 'Unknown name: loopA' snmpget --mib=tiny.txt -Oqv table:no.tab tinyState.0 loopA
+refuses_after_warnings 'no.tab: cannot be read' snmpget --mib=tiny.txt -Oqv table:no.tab tinyState.0 .3
+refuses_after_warnings 'Name cannot be sent: .3' snmpget --mib=tiny.txt -Oqv table:tiny.tab tinyState.0 .3
+refuses_after_warnings 'Unknown name: nosuch' snmptranslate --mib tiny.txt -On -Td nosuch
+refuses_after_warnings 'no.tab: cannot be read' snmpd --mib tiny.txt --listen a..b:1 --table no.tab
 
 # names
 refuses 'Unknown name: mib-2' snmpwalk -On table:three.tab mib-2
@@ -721,6 +725,7 @@ Unknown name: tinyer" snmptranslate --mib tiny.txt -Td tinyer
 expect 1 'iso.3' 'Unknown name: x' snmptranslate .1.3 x .1.3.6
 hundreds=$(seq -f '.1.3.%g' 300)
 prints "$hundreds" snmptranslate -On $hundreds
+# breaks_off MESSAGE NAME: a test that a translation stops at this name, after the line of another.
 breaks_off() { expect 1 'iso.3' "$warnings"$'\n'"$1$2" snmptranslate --mib tiny.txt iso.3 "$2"; }
 breaks_off 'Unknown name: ' ''
 breaks_off 'Unknown name: ' NO-MIB::iso
@@ -741,10 +746,11 @@ refuses 'three.tab/: cannot be read' snmpwalk -On table:three.tab/ .1
 refuses '.: cannot be read' snmpwalk -On table:. .1
 refuses '/dev/zero: cannot be read' snmpwalk -On table:/dev/zero .1
 refuses 'program.txt:1: bad line' snmpwalk -On table:program.txt .1
+# fault MESSAGE LINE..: a test that a table file with these lines after a good one is refused at the first of them.
 fault() {
     table "$e.0.0|2|1" "${@:2}"
     refuses "$got/t.tab:2: $1" snmpwalk -On "table:$got/t.tab" .1
-    refuses "$got/t.tab:2: $1" snmpd --table "$got/t.tab" --listen "$place" --turns 0
+    refuses "$got/t.tab:2: $1" snmpd --table "$got/t.tab" --listen "$address" --turns 0
 }
 fault 'bad line' "$e.1.0|5|"
 fault 'bad line' 'objects'
@@ -766,7 +772,7 @@ printf '1.3.6.1.2.0|4|a|b\r\n\r\n#\r\n1.3.6.1.1.0|2|-5' >"$got/t.tab"
 prints '.1.3.6.1.1.0 = INTEGER: -5
 .1.3.6.1.2.0 = STRING: "a|b"' snmpwalk -On "table:$got/t.tab" .1.3
 
-# table files whose names are read by the loaded modules
+# table files with names that the loaded modules define
 two='TINY-MIB::tinyState.0 = INTEGER: up(1)
 TINY-MIB::tinyMac."a|b" = STRING: 0:16:3e:5a:78:8e
 TINY-MIB::tiny.9.0 = OID: TINY-MIB::tinyMac'
@@ -774,9 +780,9 @@ expect 0 "$two" "$warnings" snmpwalk --mib tiny.txt table:two.tab tiny
 expect 0 "$two" "$warnings" snmpbulkwalk --mib tiny.txt table:two.tab tiny
 expect 0 "$two" "$warnings" snmpget --mib tiny.txt table:two.tab tinyState.0 'tinyMac."a|b"' tiny.9.0
 refuses 'two.tab:2: bad name' snmpwalk -On table:two.tab $e
-refuses 'two.tab:2: bad name' snmpd --table two.tab --listen "$place" --turns 0
-expect 0 "listening on $place
-0 replies, 0 dropped" "$warnings" snmpd --mib tiny.txt --table two.tab --listen "$place" --turns 0
+refuses 'two.tab:2: bad name' snmpd --table two.tab --listen "$address" --turns 0
+expect 0 "listening on $address
+0 replies, 0 dropped" "$warnings" snmpd --mib tiny.txt --table two.tab --listen "$address" --turns 0
 tail -n +2 two.tab >"$got/t.tab"
 refuses "$got/t.tab:1: bad name" snmpwalk -On "table:$got/t.tab" $e
 expect 1 '' "$warnings
@@ -788,11 +794,12 @@ expect 0 "TINY-MIB::tinyKeyUse.'a|b' = Gauge32: 5 jobs
 TINY-MIB::tinyKeyUse.'c' = Gauge32: 6 jobs" "$warnings" snmpwalk --mib tiny.txt "table:$got/t.tab" tiny
 table '#snmptab 2' 'iso.3.6|2|5'
 expect 0 '.1.3.6 = INTEGER: 5' '' snmpget -On "table:$got/t.tab" .1.3.6
+# spoils MESSAGE LINE..: a test that a table file with these lines is refused.
 spoils() {
     table "${@:2}"
-    warned "$got/t.tab:$1" snmpwalk --mib tiny.txt "table:$got/t.tab" tiny
-    warned "$got/t.tab:$1" snmpget --mib tiny.txt "table:$got/t.tab" tinyState.0
-    warned "$got/t.tab:$1" snmpd --mib tiny.txt --table "$got/t.tab" --listen "$place" --turns 0
+    refuses_after_warnings "$got/t.tab:$1" snmpwalk --mib tiny.txt "table:$got/t.tab" tiny
+    refuses_after_warnings "$got/t.tab:$1" snmpget --mib tiny.txt "table:$got/t.tab" tinyState.0
+    refuses_after_warnings "$got/t.tab:$1" snmpd --mib tiny.txt --table "$got/t.tab" --listen "$address" --turns 0
 }
 spoils '2: bad name' '#snmptab 2 ' 'tinyState.0|2|1'
 spoils '3: bad name' '' '#snmptab 2' 'tinyState.0|2|1'
@@ -808,6 +815,7 @@ spoils '3: double name' '#snmptab 2' 'tinyMac."a"|4|1' "$e.2.1.2.1.97|4|2"
 
 # module files
 refuses 'no.txt: cannot be read' snmpwalk --mib tiny.txt --mib no.txt table:tiny.tab tiny
+# faulty MESSAGE TEXT: a test that a module file with this text is refused, also after another file.
 faulty() {
     module m.txt "$2"
     refuses "$got/m.txt:$1" snmptranslate --mib "$got/m.txt" iso
@@ -831,8 +839,8 @@ printf 'ACROSS-MIB DEFINITIONS ::= BEGIN\nIMPORTS well FROM WELL-MIB;\nacross OB
     >"$got/across.txt"
 printf 'WELL-MIB DEFINITIONS ::= BEGIN\nwell OBJECT IDENTIFIER ::= { iso 7 }\nEND\n' >"$got/well.txt"
 expect 0 '.1.7.2' '' snmptranslate --mib "$got/across.txt" --mib "$got/well.txt" -On ACROSS-MIB::across
-# A name in a module means its own definition, else its first import of the name. Without a module, a name is a root's,
-# else the first that was loaded.
+# A name in a module refers to a definition of that module, or if there is none, to the first import of the name. A name
+# without a module is a root, or if there is none, the first definition that was loaded.
 cat >"$got/m.txt" <<'MODULE'
 A DEFINITIONS ::= BEGIN IMPORTS x FROM B x FROM C;
 x OBJECT IDENTIFIER ::= { iso 5 }
@@ -850,7 +858,7 @@ prints '.1.5.1
 .1.5
 .1' snmptranslate --mib "$got/m.txt" -On A::a A::x B::x C::x D::d x iso
 refuses 'Unknown name: D::x' snmptranslate --mib "$got/m.txt" D::x
-# Imports in a ring, and of a module from itself, which imports what it is asked for.
+# Imports in a ring; and a module that imports from itself.
 cat >"$got/m.txt" <<'MODULE'
 A DEFINITIONS ::= BEGIN IMPORTS x FROM B;
 y OBJECT IDENTIFIER ::= { x 1 }
@@ -865,7 +873,7 @@ for name in A::y S::z y z; do
 snmp: S::z stands on a cycle
 Unknown name: $name" snmptranslate --mib "$got/m.txt" $name
 done
-# Roots are missed, and a name as often as it stands there; macros and base types aren't.
+# A warning for each import of a name that the module doesn't define, also of a root, but not of macros and base types.
 cat >"$got/m.txt" <<'MODULE'
 A DEFINITIONS ::= BEGIN IMPORTS gone, iso, gone, MODULE-IDENTITY, Gauge32 FROM B
 b FROM NONE c FROM NONE; END
@@ -876,7 +884,7 @@ snmp: A imports iso from B, which has no iso
 snmp: A imports gone from B, which has no gone
 snmp: A imports from NONE, which is not loaded
 snmp: A imports from NONE, which is not loaded' snmptranslate --mib "$got/m.txt" iso
-# Chains of names up to 128 numbers, each name behind the one that it stands on, and before it.
+# Chains of names up to 128 numbers, in which each name is defined after the one that it refers to, and then before it.
 deepest=$(printf '.1%.0s' {1..128})
 below() { for n; do printf 'x%s OBJECT IDENTIFIER ::= { x%s 1 }\n' "$n" $((n - 1)); done; }
 module m.txt "x1 OBJECT IDENTIFIER ::= { iso 1 }
@@ -894,7 +902,7 @@ expect 0 ".1
 .1.1.1.1
 $deepest" "$(printf 'snmp: M::x%s is too long\n' {200..128})" \
     snmptranslate --mib "$got/m.txt" -On M::x0 M::x3 M::x127
-# Types that are each other's give an object no syntax, and no warning.
+# An object whose type is in a ring has no syntax, and there is no warning.
 module m.txt 'A ::= B B ::= A
     a OBJECT-TYPE SYNTAX A UNITS "m" MAX-ACCESS read-only STATUS current DESCRIPTION "" ::= { iso 9 }'
 table '.1.9.0|2|5'
@@ -907,7 +915,7 @@ snmp: TINY-MIB is loaded twice" snmptranslate --mib tiny.txt --mib tiny.txt iso
 truncate -s 200M "$got/huge"
 limit=100000 refuses 'Out of memory.' snmpwalk "table:$got/huge" .1
 limit=100000 refuses 'Out of memory.' snmptranslate --mib "$got/huge" iso
-limit=100000 refuses 'Out of memory.' snmpd --table "$got/huge" --listen "$place" --turns 0
+limit=100000 refuses 'Out of memory.' snmpd --table "$got/huge" --listen "$address" --turns 0
 
 # a stack of 256 KiB
 stack=256 expect 0 "$three" '' snmpwalk -On table:three.tab $e.1
@@ -915,7 +923,7 @@ stack=256 expect 0 "$three" '' snmpbulkwalk -On -Cr50 table:three.tab $e.1
 stack=256 expect 0 "$tiny" "$warnings" snmpwalk --mib tiny.txt table:tiny.tab tiny
 stack=256 expect 0 "$e.1.10.0 = INTEGER: 3" '' snmpget -On table:three.tab $e.1.10.0
 stack=256 expect 0 '.1.3' '' snmptranslate -On .1.3
-# Rows in no order are sorted by calls within calls, twice as many at most as the rows can be halved.
+# Rows in no order are sorted recursively. The depth is at most twice the number of times that the rows can be halved.
 for ((i = 0; i < 20000; i++)); do
     echo "$e.1.$((i * 7919 % 20000)).0|2|$i"
 done >"$got/t.tab"
@@ -923,8 +931,9 @@ stack=256 expect 0 "$e.1.7919.0 = INTEGER: 1" '' snmpget -On "table:$got/t.tab" 
 
 # outputs: the warnings come before the lines
 one='TINY-MIB::tinyState.0 = INTEGER: up(1)'
-listening="listening on $place
+listening="listening on $address
 0 replies, 0 dropped"
+# warns_first OUTPUT ARGUMENT..: a test that the warnings of tiny.txt are written before the output.
 warns_first() {
     chosen "the warnings of $2 and its lines" || return 0
     "$program" "${@:2}" >"$got/both" 2>&1 </dev/null
@@ -934,13 +943,14 @@ for walker in $walkers; do warns_first "$tiny" $walker --mib tiny.txt table:tiny
 warns_first "$one" snmpget --mib tiny.txt table:tiny.tab tinyState.0
 warns_first "$e.1.0
 Unknown name: nosuch" snmptranslate --mib tiny.txt -On tinyState.0 nosuch
-warns_first "$listening" snmpd --mib tiny.txt --table two.tab --listen "$place" --turns 0
-# Until its warnings are taken, as by a pipe that has room, the program prints nothing and opens no socket.
+warns_first "$listening" snmpd --mib tiny.txt --table two.tab --listen "$address" --turns 0
+# Until its warnings are written, for which a full pipe lets it wait, the program prints nothing and opens no socket.
 mkfifo "$got/pipe"
 exec 9<>"$got/pipe"
+# drain: reads all that is in the pipe, and appends it to the file of messages, without the zeros that filled the pipe.
 drain() { dd if="$got/pipe" iflag=nonblock bs=65536 2>/dev/null | tr -d '\0' >>"$got/err"; }
-# is_waiting PID: whether a program waits for its error output to take more: it is in a write to it; where this can't be
-# seen, it sleeps at three looks in a row.
+# is_waiting PID: whether the program waits in a write to its error output. If its system call can't be seen, whether it
+# sleeps at each of three looks.
 is_waiting() {
     local look
     [[ $(readlink "/proc/$1/exe") == */out/snmp ]] || return 1
@@ -950,6 +960,8 @@ is_waiting() {
         sleep 0.05
     done
 }
+# waits OUTPUT ARGUMENT..: tests that the program waits while the pipe for its messages is full, and has printed nothing
+# and opened no socket by then; and that its lines and warnings are right afterwards.
 waits() {
     local early='' look title="the warnings and lines of $2, by ${*:3}, after a wait"
     chosen "$title" || return 0
@@ -961,23 +973,24 @@ waits() {
         kill -0 $! 2>/dev/null || break
         sleep 0.02
     done
-    is_waiting $! || early=' ended, or never waited,'
-    [ ! -s "$got/out" ] || early+=' printed'
-    case $(readlink /proc/$!/fd/* | grep -vxF "$(readlink /proc/$$/fd/*)") in *socket:*) early+=' a socket' ;; esac
+    is_waiting $! || early=' it ended, or never waited;'
+    [ ! -s "$got/out" ] || early+=' it printed;'
+    case $(readlink /proc/$!/fd/* | grep -vxF "$(readlink /proc/$$/fd/*)") in *socket:*) early+=' it had a socket;' ;; esac
     drain
     timeout 60 tail --pid=$! -f /dev/null || kill -9 $!
     wait $!
     drain
-    count "$title: nothing before it" "${early:+before its warnings were taken, it had$early}"
+    count "$title: nothing before its warnings" "${early:+before its warnings were written:$early}"
     holds "$title: its lines" "$1" "$got/out"
     holds "$title: its warnings" "$warnings" "$got/err"
 }
 waits "$tiny" snmpwalk --mib tiny.txt table:tiny.tab tiny
 waits "$one" snmpget --mib tiny.txt table:tiny.tab tinyState.0
 waits "$e.1.0" snmptranslate --mib tiny.txt -On tinyState.0
-waits "$listening" snmpd --mib tiny.txt --table two.tab --listen "$place" --turns 0
-# An error output that fails, as one that is full or closed, changes nothing else.
-unheard() {
+waits "$listening" snmpd --mib tiny.txt --table two.tab --listen "$address" --turns 0
+# An error output that fails, because it is full or closed, changes neither output nor status.
+# without_errors STATUS OUTPUT ARGUMENT..: tests this for a command line.
+without_errors() {
     local ended title="snmp ${*:3}, without an error output"
     errors=/dev/full expect "$1" "$2" '' "${@:3}"
     chosen "$title" || return 0
@@ -986,42 +999,42 @@ unheard() {
     count "$title" "$([ $ended = "$1" ] || echo "status $ended")"
     holds "$title: its lines" "$2" "$got/out"
 }
-for walker in $walkers; do unheard 0 "$tiny" $walker --mib tiny.txt table:tiny.tab tiny; done
-unheard 0 "$one" snmpget --mib tiny.txt table:tiny.tab tinyState.0
-unheard 0 "$e.1.0" snmptranslate --mib tiny.txt -On tinyState.0
-unheard 0 "$listening" snmpd --mib tiny.txt --table two.tab --listen "$place" --turns 0
-unheard 1 '' snmpwalk -On table:no.tab .1
-unheard 1 '' snmpd --mib tiny.txt --table no.tab
-unheard 2 '' snmpget --mib tiny.txt --max-size 26 table:tiny.tab tinyState.0
+for walker in $walkers; do without_errors 0 "$tiny" $walker --mib tiny.txt table:tiny.tab tiny; done
+without_errors 0 "$one" snmpget --mib tiny.txt table:tiny.tab tinyState.0
+without_errors 0 "$e.1.0" snmptranslate --mib tiny.txt -On tinyState.0
+without_errors 0 "$listening" snmpd --mib tiny.txt --table two.tab --listen "$address" --turns 0
+without_errors 1 '' snmpwalk -On table:no.tab .1
+without_errors 1 '' snmpd --mib tiny.txt --table no.tab
+without_errors 2 '' snmpget --mib tiny.txt --max-size 26 table:tiny.tab tinyState.0
 for words in "snmpwalk -On table:three.tab $e.1" "snmpbulkwalk -On table:three.tab $e.1" \
     "snmpget -On table:three.tab $e.1.1.0" "snmptranslate -On iso" "snmptranslate -Td iso" \
-    "snmpwalk -Cp -CI table:/dev/null $e.1" "snmpd --table three.tab --listen $place --turns 0" --help --version; do
+    "snmpwalk -Cp -CI table:/dev/null $e.1" "snmpd --table three.tab --listen $address --turns 0" --help --version; do
     target=/dev/full refuses 'The output failed.' $words
 done
 
 seq -f "$e.1.%.0f|2|1" 20000 >"$got/t.tab"
 { "$program" snmpwalk -On "table:$got/t.tab" $e 2>"$got/err"; echo $? >"$got/status"; } | head -n 1 >"$got/out"
-holds 'the line that a closed pipe took' "$e.1.1 = INTEGER: 1" "$got/out"
+holds 'the line that was read before the pipe was closed' "$e.1.1 = INTEGER: 1" "$got/out"
 holds 'the message about a closed pipe' 'The output failed.' "$got/err"
 holds 'the status after a closed pipe' 1 "$got/status"
 
-# over UDP, two walks at once
-"$program" snmpd --table three.tab --listen "$place" --turns 600 >"$got/server" &
+# over UDP, two walks at the same time
+"$program" snmpd --table three.tab --listen "$address" --turns 600 >"$got/server" &
 for _ in {1..300}; do [ -s "$got/server" ] && break; sleep 0.1; done
-timeout 60 "$program" snmpwalk -On "$place" $e.1 >"$got/other" 2>&1 &
+timeout 60 "$program" snmpwalk -On "$address" $e.1 >"$got/other" 2>&1 &
 other=$!
-prints "$three" snmpwalk -On "$place" $e.1
+prints "$three" snmpwalk -On "$address" $e.1
 wait $other
-holds 'a walk beside another' "$three" "$got/other"
+holds 'a walk at the same time as another' "$three" "$got/other"
 prints "$three
-Variables found: 3" snmpbulkwalk -On -Cp -Cr2 "$place" $e.1
+Variables found: 3" snmpbulkwalk -On -Cp -Cr2 "$address" $e.1
 prints "$third
-$e.1.3.0 = $missing" snmpget -On "udp:$place" $e.1.10.0 $e.1.3.0
-for walker in $walkers; do prints "$three" $walker -On "udp:$place" $e.1; done
-for command in $walkers snmpget; do waits "$third" $command --mib tiny.txt -On "$place" $e.1.10.0; done
+$e.1.3.0 = $missing" snmpget -On "udp:$address" $e.1.10.0 $e.1.3.0
+for walker in $walkers; do prints "$three" $walker -On "udp:$address" $e.1; done
+for command in $walkers snmpget; do waits "$third" $command --mib tiny.txt -On "$address" $e.1.10.0; done
 for command in $walkers snmpget; do
-    refuses "Timeout: No Response from $place." $command -r 0 -c other "$place" $e.1.10.0
-    refuses 'Name cannot be sent: .3' $command "$place" .3
+    refuses "Timeout: No Response from $address." $command -r 0 -c other "$address" $e.1.10.0
+    refuses 'Name cannot be sent: .3' $command "$address" .3
 done
-refuses 'Request too long.' snmpget "$place" "${many[@]}"
+refuses 'Request too long.' snmpget "$address" "${many[@]}"
 end
