@@ -94,7 +94,7 @@ class Attack:
         return f"after {self.mutated} datagrams\n    {asked.hex()}\n  got\n    {got.hex()}\n  not\n    {wanted.hex()}"
 
     def end(self):
-        """Sends good requests until the server has used up its turns, some of which may have passed without a datagram.
+        """Sends good requests until the server has used up its turns; some turns may have passed without a datagram.
         Returns what is wrong with the counts that the server then prints. They count each datagram, except the last if
         it arrived too late."""
         late = False
@@ -185,7 +185,7 @@ class Part:
         there.send(try_test(test))
 
     def result(self):
-        """Waits for what the test finds wrong, and returns it as a text. The process may still be running then."""
+        """Waits for what the test finds wrong, and returns it as one string. The process may still be running then."""
         try:
             wrong = self.back.recv()
         except EOFError:

@@ -4,9 +4,9 @@ outputs that take only part of a write, endless files, and descriptors, memory a
 
 usage: edge.py [WORD..]
 
-Runs the tests whose titles contain one of the words, or all tests if there are no words. The comment above a test
-lists, after 'Catches:', wrong programs that the proofs would accept and the test rejects. A test that can't run on this
-machine is skipped, and the reason is printed. The last line is 'N passed, M failed, K skipped'.
+Runs the tests whose titles contain one of the words; without words, all tests. The comment above a test lists, after
+'Catches:', wrong programs that the proofs would accept and the test rejects. A test that can't run on this machine is
+skipped, and the reason is printed. The last line is 'N passed, M failed, K skipped'.
 """
 import contextlib
 import errno
@@ -136,8 +136,8 @@ def all_sent():
 
 
 def own_address():
-    """Returns the address from which this machine would send a datagram to another network, or an empty text if it has
-    none. No datagram is sent."""
+    """Returns the address that this machine would use to send a datagram to another network, or an empty string if it
+    has none. No datagram is sent."""
     with socket.socket(socket.AF_INET, socket.SOCK_DGRAM) as probe:
         try:
             probe.connect(("198.51.100.1", 9))
@@ -188,9 +188,9 @@ HOSTS_OF_BOTH = {"::1 both\n127.0.0.2 both\n": 0, "127.0.0.2 both\n::1 both\n": 
                  "::1 both\n": 1, "127.0.0.2 other\n": 1}
 
 
-# No program listens at 127.0.0.3 and 127.0.0.4. Catches: a program that takes the first address of any family, to which
-# its socket can't send; one that takes an IPv4 address only if it is the first address; one that takes the last IPv4
-# address, or any other than the first.
+# No program listens at 127.0.0.3 and 127.0.0.4. Catches: a program that takes the first address of any family, also one
+# that its socket can't send to; one that takes an IPv4 address only if it is the first address; one that takes the last
+# IPv4 address, or any other than the first.
 @test("the first IPv4 address of a host is used", lacks_mounts())
 def both_families():
     wrong = []
@@ -362,14 +362,15 @@ def interrupted_thrice():
 
 # -- outputs
 
-# Six rows of 60,000 octets each. Each row has its own letter, which shows from which row a piece of the output is.
+# Six rows of 60,000 octets each. Each row has its own letter, so that a piece of the output shows its row.
 LONG = {R + (i,): chr(ord("a") + i) * 60000 for i in range(6)}
 LONG_TEXT = lines_of(LONG)
 BIG = "--max-size=65507"
 
 
 def not_prefix(got, whole):
-    """Returns a text that says at which octet `got` differs from `whole`, or an empty one if it is a prefix of it."""
+    """Returns an empty string if `got` is a prefix of `whole`, and otherwise a message with the first octet that
+    differs."""
     if whole.startswith(got):
         return ""
     return f"not a prefix of the text: it differs from octet {len(os.path.commonprefix([got, whole]))} on"
@@ -933,8 +934,8 @@ def module_of(names):
 
 
 # The instructions are counted, and not the time: with each key they are about the same, except that a few names share a
-# bucket by chance. Catches: a program that doesn't ask the system for a key, or in which any of the calls through which
-# the key reaches the maps of names drops it.
+# bucket by chance. Catches: a program that doesn't ask the system for a key, or that drops the key in any of the calls
+# between there and the maps of names.
 @test("names chosen to collide under the fixed hash key load in at most twice the instructions of others",
       lacks_counts() or lacks_compiler())
 def chosen_names():
@@ -985,8 +986,8 @@ def no_descriptors():
                       over_free_port(listens))
 
 
-# Runs in a network of its own, in which the system has only two ports to choose from, and binds both. Walks twice:
-# first without a free port, then with one.
+# Runs in a network of its own whose sockets can only get one of two ports, and binds both. Walks twice: first without a
+# free port, then with one.
 NO_PORTS = """
 import fcntl, socket, struct, subprocess, sys
 with open("/proc/sys/net/ipv4/ip_local_port_range", "w") as limits:
@@ -1021,8 +1022,8 @@ def no_ports():
 # -- request ids that are used up
 
 def addresses_of(pid, number):
-    """Returns the addresses, multiples of four, at which the memory of a process holds this number in four octets.
-    Areas of 16 MiB and more are left out; a stack is smaller."""
+    """Returns the addresses of the memory of a process that hold this number in four octets. Only multiples of four are
+    returned, and areas of 16 MiB and more are left out; a stack is smaller."""
     wanted, found = struct.pack("<I", number), set()
     with open(f"/proc/{pid}/maps", encoding="ascii") as maps, open(f"/proc/{pid}/mem", "rb", buffering=0) as memory:
         for line in maps:

@@ -5,7 +5,7 @@ of crates/NAME/must-fail; it tries the others if a crate has changed since its e
 usage: edits.py [--seconds N] [CRATE..]
        edits.py --stale
 
-Tries the edits of these crates, or of all, in a copy of the repository in which they replace those of must-fail. The
+Tries the edits of these crates, or of all, in a copy of the repository where they replace the edits of must-fail. The
 copy uses what `rt check` has stored for a crate, so check the crate first. An edit takes a processor 10 to 60 seconds,
 longest in large crates. If all edits of a crate were refused, its line in tests/edits/tried.txt has a hash: of the
 sources, definitions, proofs and edits of the crate and the definitions of all crates that it uses, all without
@@ -50,7 +50,7 @@ def at(path):
 
 
 def edits_in(folder):
-    """Returns the names of the edits in a folder, none if there is no such folder."""
+    """Returns the names of the edits in a folder, none if the folder doesn't exist."""
     names = os.listdir(at(folder)) if os.path.isdir(at(folder)) else []
     return {name.removesuffix(".edit") for name in names if name.endswith(".edit")}
 
@@ -115,8 +115,8 @@ def toolchain():
 
 def hash_of(crate):
     """Returns the hash of what decides whether the edits of a crate are refused. Of the crates that it uses, these are
-    the definitions, in which its contracts are written. Their contracts aren't hashed: if one becomes weaker, the
-    proofs of this crate can't use what it no longer says; if one becomes stronger, what it says is true."""
+    the definitions, because its contracts are written with them. Their contracts aren't hashed: if one becomes weaker,
+    the proofs of this crate can't use what it no longer says; if one becomes stronger, what it says is true."""
     folders = [f"crates/{crate}/{part}" for part in ("src", "specs", "proofs")] + [os.path.join(EDITS, crate)]
     folders += [f"crates/{below}/specs" for below in crates_below(crate)]
     hashed = hashlib.sha256(toolchain().encode())
@@ -147,7 +147,7 @@ def write_tried(hashes):
 
 
 def wrong_of(crate, of, hashes):
-    """Returns what is wrong with a crate, its edits or its line, or an empty text."""
+    """Returns what is wrong with a crate, its edits or its line, or an empty string."""
     ours = f"crates/{crate}/must-fail"
     for folder in ours, f"{EDITS}/{crate}":
         if os.path.isdir(at(folder)) and not edits_in(folder):
@@ -175,7 +175,7 @@ def say_stale(of):
 
 def copy_crates(room):
     """Copies the crates and the files that they need into a folder, by hard links, with the stored results of earlier
-    checks. In each crate the edits of tests/edits replace those of must-fail."""
+    checks. In each crate the edits of tests/edits replace the ones of must-fail."""
     for name in "crates.txt", "HANDLES":
         shutil.copy(at(name), room)
     subprocess.run(["cp", "-al", at("crates"), room], check=True)

@@ -8,8 +8,8 @@ The commands are the blocks of the page that are marked as `sh`. They run in ord
 whose title is its heading. If there are words, only the tests count whose titles contain one of them, but the blocks
 before these run too. The last line is 'N passed, M failed, K skipped'.
 
-Catches these wrong programs, which the proofs would accept: one that fails with status 0, without its message or with
-that of another fault; one that leaves out or cuts lines, with all resources or without descriptors or memory.
+Catches these wrong programs, which the proofs would accept: one that fails with status 0, without a message or with the
+wrong one; one that leaves out or cuts lines, with all resources or without descriptors or memory.
 """
 import collections
 import contextlib
@@ -44,7 +44,7 @@ LONG = 600
 
 
 def interfaces(device):
-    """Returns the rows of a table of 24 interfaces. Each name has a tag, a value, and the text that a walk prints."""
+    """Returns the rows of a table of 24 interfaces. Each name has a tag, a value, and the value as a walk prints it."""
     rows = {}
     for port in range(1, 25):
         label, address = f"port {port} of {device}", bytes([2, 0, device, 0, 0, port])
@@ -131,7 +131,7 @@ def blocks():
 
 
 class Folder:
-    """The folder in which the commands of the page run, and the agents that they ask."""
+    """The folder where the commands of the page run, and the agents that they ask."""
 
     def __init__(self, path, fleet):
         self.path, self.fleet, self.said = path, fleet, ""
@@ -268,7 +268,7 @@ def lines_as_they_come(folder, block):
 
 
 def messages(folder):
-    """Returns the messages of the runs, without those of xargs and parallel."""
+    """Returns the messages of the runs, without what xargs and parallel add."""
     lines = folder.text("messages.txt").splitlines()
     return sorted(line for line in lines if not line.startswith(("parallel: Warning", "xargs: ")))
 

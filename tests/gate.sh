@@ -1,12 +1,12 @@
 #!/usr/bin/env bash
 # Tests what the other tests rely on: the gate, the check that a program was built from the current sources, and the
-# build by ./snmp. Works in temporary folders, with a stand-in for the toolchain.
+# build by ./snmp. Works in temporary folders, with a mock of the toolchain.
 #
 #   tests/gate.sh [WORD..]      runs the tests whose titles contain one of the words; without words, all
 # shellcheck disable=SC2016,SC2086  # the scripts that this writes expand variables later
 . "$(dirname "${BASH_SOURCE[0]}")/lib/tests.sh"
 
-# -- a checkout of four crates, and a stand-in for rt
+# -- a checkout of four crates, and a mock of rt
 
 # tree: makes a new checkout in $tree. Its programs are `snmp`, which uses `mid`, and `other`. Both `mid` and `other`
 # use `low`.
@@ -30,7 +30,7 @@ tree() {
     cp "$top/tests/is-current" "$tree/tests"
     local part parts='gate.sh program.sh install.sh operator.sh sessions.py random_walks.py network.py attack.py heap.py
         modules.py edge.py users.py fleet.py'
-    # The gate, but of the scripts of tests/ only these. gate.sh itself is one, written as a stand-in.
+    # The gate, but of the scripts of tests/ only these. All are mocks, gate.sh itself too.
     awk -v parts=" $(echo $parts) " '
         /^part tests\// { name = $2; sub("tests/", "", name); if (!index(parts, " " name " ")) next }
         { print }' "$top/.ci/run" >"$tree/.ci/run"
@@ -44,8 +44,8 @@ tree() {
     : >"$got/calls"
 }
 
-# The stand-in for rt notes its calls in $CALLS, and runs $RT_DOES first. The programs that it builds contain their
-# sources as comments.
+# The mock of rt notes its calls in $CALLS, and runs $RT_DOES first. The programs that it builds contain their sources
+# as comments.
 cat >"$got/rt" <<'RT'
 #!/usr/bin/env bash
 here=${PWD##*/}
@@ -102,11 +102,11 @@ build_tree
 current 'a program built by ./snmp --build' 0 ''
 current 'a program that is checked again' 0 ''
 touch "$tree/crates/low/src/lib.rt"
-current 'a source of which only the date changed' 0 ''
+current 'a source with only another date' 0 ''
 sleep 1.1
 touch "$tree/crates/low/src/lib.rt" -d 2000-01-01
-current 'a source of which only the date changed, to an older one' 0 ''
-current 'a source with an older date, checked again' 0 ''
+current 'a source with only an older date' 0 ''
+current 'a source with only an older date, checked again' 0 ''
 echo 'another' >>"$tree/crates/low/src/part/deep.rt"
 current 'a source of a library that was edited' 1 "$stale"
 build_tree
@@ -303,8 +303,8 @@ tree
 printf '%s\n' '#!/bin/sh' 'echo "12 crates are unchanged since their edits were tried"; exit 1' >"$tree/tests/edits.py"
 same 'edits that are missing' '1 FAILED: tests/edits.py: edits are missing 0 passed, 1 failed, 0 skipped' \
     "$(lines=2 gate)"
-# untried COUNT COMMAND: writes a stand-in for edits.py. With --stale it names two crates that have changed, and says
-# that there are COUNT. Without, it runs COMMAND.
+# untried COUNT COMMAND: writes a mock of edits.py. With --stale it names two crates that have changed, and says that
+# there are COUNT. Without, it runs COMMAND.
 untried() {
     printf '%s\n' '#!/bin/sh' 'echo "$*" >>"$CALLS"' '[ "$1" != --stale ] || {' \
         'echo "mid: it has no line (tests/edits.py mid)"' 'echo "low: it has changed (tests/edits.py low)"' \
@@ -461,7 +461,7 @@ done
 # -- the edits that were tried
 
 # edits_tree: makes a new checkout whose libraries `low` and `mid` each have an edit named `one`, and tries these edits.
-# The stand-in for rt reports that both were refused.
+# The mock of rt reports that both were refused.
 export SAYS=$got/says
 edits_tree() {
     tree

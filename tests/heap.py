@@ -10,8 +10,8 @@ status 1 (or the status of an agent's error). If no request was refused, the ans
 of its own reason. The same holds if the refused request can't end the call: it was for rows that are gathered, or is
 made again. For calls that don't allocate, and for snmpd as it serves, the requests are counted.
 
-Runs the tests whose titles contain one of the words, or all tests if there are no words. The last line is 'N passed, M
-failed, K skipped'.
+Runs the tests whose titles contain one of the words; without words, all tests. The last line is 'N passed, M failed, K
+skipped'.
 
 Catches these wrong programs, which the proofs would accept: one that writes half a line when memory runs out; that
 prints some lines and ends with status 0 or without a message; that leaves out a line; that doesn't free a block; that
@@ -87,7 +87,7 @@ ASKED = message(GET, 1, [(name, NULL) for name in NAMES])
 
 
 def reply_text(rows):
-    """Returns the reply to ASKED from these rows, as a text."""
+    """Returns the reply to ASKED from these rows, decoded as a string."""
     return reply_from(rows, read(ASKED)).decode(errors="replace")
 
 
@@ -278,7 +278,7 @@ def refused_in(words, output, messages, status, files):
     whole = programs.run_command(line, cwd=heap.folder.name)
     wrong = differs(whole, (status, whole.output if output is None else output, said))
     warnings = WARNINGS if messages.startswith(WARNINGS) else ""
-    # If the message of an agent's error can't be made, the status is still that of the error.
+    # If the message of an agent's error can't be made, the status still says that there was one.
     return wrong or judge(line, lambda *answer: answer == whole, lambda _, ended, wrote, said: (
         ended in (1, status or 1) and whole.output.startswith(wrote) and wrote[-1:] in ("", "\n")
         and said in (NO_MEMORY, warnings + NO_MEMORY)))

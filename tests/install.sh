@@ -1,6 +1,6 @@
 #!/usr/bin/env bash
-# Tests the install, the uninstall and the packages, with a stand-in for the program. Only the tests of packages need
-# the built program, and are skipped without it.
+# Tests the install, the uninstall and the packages, with a mock of the program. Only the tests of packages need the
+# built program, and are skipped without it.
 #
 #   tests/install.sh [WORD..]      runs the tests whose titles contain one of the words; without words, all
 #
@@ -15,7 +15,7 @@ tree() {
     rm -rf "${got:?}/tree" "${got:?}/usr" "${got:?}/names" "${got:?}/stage"
     mkdir -p "$got/tree/crates/snmp/out" "$got/tree/modules"
     cp -r tools completions docs examples README.md CHANGELOG.md "$got/tree"
-    printf '#!/bin/sh\necho "stand-in $*"\n' >"$got/tree/crates/snmp/out/snmp"
+    printf '#!/bin/sh\necho "mock $*"\n' >"$got/tree/crates/snmp/out/snmp"
     chmod 755 "$got/tree/crates/snmp/out/snmp"
     echo 'base' >"$got/tree/modules/base.txt"
 }
@@ -37,14 +37,14 @@ same 'an install lists its files' "$files" "$(install_with usr | sed "s:^$got/::
 same 'the files of an install' "$files" "$(there)"
 same 'the list of an install has their hashes' "$(grep -cv '^usr/share/snmp/installed$' <<<"$files")" \
     "$(sha256sum -c "$got/usr/share/snmp/installed" 2>&1 | grep -c ': OK$')"
-same 'an installed program runs' 'stand-in x' "$(cd / && "$got/usr/bin/snmp" x)"
+same 'an installed program runs' 'mock x' "$(cd / && "$got/usr/bin/snmp" x)"
 same 'an installed lines-to-table runs' '1.3.6|2|1' "$(echo '.1.3.6 = INTEGER: 1' | "$got/usr/bin/lines-to-table")"
 for file in tools/lines-to-table:bin/lines-to-table docs/snmp.1:share/man/man1/snmp.1 \
     docs/speed.svg:share/doc/snmp/speed.svg examples/printer.tab:share/snmp/examples/printer.tab \
     completions/snmp.bash:share/bash-completion/completions/snmp completions/_snmp:share/zsh/site-functions/_snmp; do
     count "an install copies ${file%%:*} unchanged" "$(cmp "${file%%:*}" "$got/usr/${file#*:}" 2>&1)"
 done
-# Each link of an installed page points to an installed file, and the words are those of the repository's page.
+# Each link of an installed page points to an installed file, and the page has the same words as in the repository.
 while IFS=: read -r page link; do
     count "the link of $page to $link works" "$([ -z "${link%%#*}" ] || [ -e "$got/usr/share/doc/snmp/${link%%#*}" ] || echo "not found")"
 done < <(cd "$got/usr/share/doc/snmp" && grep -oE '\]\([^)]*\)' -- *.md | sed -E 's,\]\(([^)]*)\),\1,' | grep -v ':https\?:' | sort -u)
@@ -67,14 +67,14 @@ install_with usr >"$got/out"
 install_with usr --with-names names >"$got/out"
 same 'an install after an install, with names' "$(printf '%s\n' "$files" "$pages" "$scripts" | sort)" "$(there)"
 for name in $names; do
-    same "the script $name runs the command" "stand-in $name --help" "$("$got/names/$name" --help)"
+    same "the script $name runs the command" "mock $name --help" "$("$got/names/$name" --help)"
     same "the page of $name" '.so man1/snmp.1' "$(cat "$got/usr/share/man/man1/$name.1")"
 done
 install_with usr --with-names names >"$got/out"
 same 'an install with names after one with names' 0 $?
 mkdir "$got/it's"
 install_with "it's here" --with-names "it's" >"$got/out"
-same 'a folder with a quote in its name' 'stand-in snmpwalk x' "$("$got/it's/snmpwalk" x)"
+same 'a folder with a quote in its name' 'mock snmpwalk x' "$("$got/it's/snmpwalk" x)"
 rm -rf "${got:?}/it's" "${got:?}/it's here"
 tree
 printf '#!/bin/sh\nexec '\''/old/bin/snmp'\'' snmpwalk "$@"\n' >"$got/old-script"
@@ -106,7 +106,7 @@ mkdir -p "$got/usr/bin"
 ln -s /bin/true "$got/usr/bin/snmp"
 expect_refusal 'a link at the path of a file' "$got/usr/bin/snmp: $foreign" usr
 install_with usr --force >"$got/out"
-same '--force replaces a link, and not the file that it points to' 'stand-in x regular' \
+same '--force replaces a link, and not the file that it points to' 'mock x regular' \
     "$("$got/usr/bin/snmp" x) $(stat -c %F "$got/usr/bin/snmp" | cut -d ' ' -f 1)"
 tree
 mkdir "$got/names"
@@ -114,7 +114,7 @@ echo another >"$got/names/snmpwalk"
 expect_refusal "an snmpwalk that no install wrote is left" "$got/names/snmpwalk: $foreign" usr --with-names names
 ln -sf /bin/true "$got/names/snmpwalk"
 install_with usr --with-names names --force >"$got/out"
-same '--force replaces a link by a script' 'stand-in snmpwalk x' "$("$got/names/snmpwalk" x)"
+same '--force replaces a link by a script' 'mock snmpwalk x' "$("$got/names/snmpwalk" x)"
 tree
 install_with usr >"$got/out"
 echo changed >>"$got/usr/share/snmp/examples/three.tab"
@@ -145,14 +145,14 @@ same '--with-names without a folder' 'snmp: --with-names needs a folder' "$(inst
 same 'an unknown option' 'snmp: there is no option --prefix' "$(install_with --prefix a)"
 # The fifth move of an install fails, with no earlier install and with one.
 mkdir "$got/bin"
-cat >"$got/bin/mv" <<'STAND_IN'
+cat >"$got/bin/mv" <<'MOCK'
 #!/bin/sh
 # Fails to move the fifth new file.
 case $* in *-fT*) ;; *) exec /bin/mv "$@" ;; esac
 echo >>"$ROOM/moves"
 [ "$(wc -l <"$ROOM/moves")" != 5 ] || { echo "mv: cannot move: No space left on device" >&2; exit 1; }
 exec /bin/mv "$@"
-STAND_IN
+MOCK
 chmod 755 "$got/bin/mv"
 for before in none one; do
     tree

@@ -1,8 +1,8 @@
-"""Compares the facts of modules with those in packages of Debian: libsnmp-base has Net-SNMP's own modules as texts, and
-keepalived has VRRP-MIB; python3-pysnmp4-mibs has those of the RFCs as Python. Of SNMP's own modules, erlang-snmp has
-texts and python3-pysnmp4 has Python. The first package that has a module counts. Numbers, syntaxes, named numbers,
-access, indexes and hints are compared. Only the texts have statuses; they have units too, and python3-pysnmp4-mibs has
-those of scalars."""
+"""Compares the facts of modules with packages of Debian. libsnmp-base has Net-SNMP's own modules as module files, and
+keepalived has VRRP-MIB; python3-pysnmp4-mibs has the modules of the RFCs as Python. Of SNMP's own modules, erlang-snmp
+has module files and python3-pysnmp4 has Python. The first package that has a module counts. Numbers, syntaxes, named
+numbers, access, indexes and hints are compared. Statuses are only in module files; so are units, but
+python3-pysnmp4-mibs has the units of scalars too."""
 import glob
 import os
 import re
@@ -11,7 +11,7 @@ import module_texts
 
 PYTHON = "usr/lib/python3/dist-packages/pysnmp_mibs", "usr/lib/python3/dist-packages/pysnmp/smi/mibs"
 TEXTS = "usr/share/snmp/mibs/{}.txt", "usr/lib/erlang/lib/snmp-*/mibs/{}.mib"
-# Modules of which erlang-snmp has another revision, or other hints.
+# Modules that erlang-snmp has in another revision, or with other hints.
 OTHER = {"SNMP-COMMUNITY-MIB", "SNMP-FRAMEWORK-MIB", "SNMP-TARGET-MIB", "SNMPv2-TM"}
 NAMES = {"Integer": "Integer32", "INTEGER": "Integer32", "OctetString": "OCTET STRING",
          "ObjectIdentifier": "OBJECT IDENTIFIER", "Bits": "BITS", "Counter": "Counter32", "Gauge": "Gauge32"}
@@ -93,7 +93,7 @@ def syntax_of(kind):
 
 
 def of_text(world, module, definition):
-    """Returns the facts of a definition in a module text."""
+    """Returns the facts of a definition in a module file."""
     fact, clauses = {}, definition.clauses
     if definition.value:
         fact["numbers"] = world.numbers(module, definition)
@@ -145,16 +145,16 @@ def package_facts(root, world, module):
 
 
 def lacks(root, world, module):
-    """Returns the labels and textual conventions of a module that the packages have, and that its text neither defines
-    nor imports."""
+    """Returns the labels and textual conventions of a module that the packages have, and that it neither defines nor
+    imports."""
     there = {*module.definitions, *module.imports, *LATER.get(module.name, ())}
     return [label for label, fact in (package_facts(root, world, module) or {}).items()
             if label not in there and ("numbers" in fact or "base" in fact)]
 
 
 def differences(root, world, module):
-    """Returns the number of facts of a module that agree with the packages, and a text about each that doesn't. Returns
-    None if no package has the module."""
+    """Returns the number of facts of a module that agree with the packages, and a message about each that doesn't.
+    Returns None if no package has the module."""
     theirs = package_facts(root, world, module)
     if theirs is None:
         return None

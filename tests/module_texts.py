@@ -111,7 +111,7 @@ class Module:
 
 
 def read(text):
-    """Returns the modules of a text, in order."""
+    """Returns the modules in the content of a module file, in order."""
     tokens = [token for token in TOKEN.findall(text) if not token.startswith("--")]
     found, at = [], 0
     while at < len(tokens):
@@ -135,7 +135,7 @@ class World:
             self.modules.setdefault(module.name, module)
 
     def find(self, module, label):
-        """Returns the module and the definition to which a name in a module refers, or None."""
+        """Returns the definition that a name in a module refers to, after its module, or None."""
         while label not in module.definitions:
             module = self.modules.get(module.imports.get(label))
             if not module:

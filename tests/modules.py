@@ -135,7 +135,7 @@ ifOperStatus OBJECT-TYPE
 ::= { iso(1) org(3) dod(6) internet(1) mgmt(2) mib-2(1) interfaces(2) ifTable(2) ifEntry(1) 8 }
 """
 UNREAD = "SNMPv2-SMI DEFINITIONS ::= BEGIN\nInteger32 ::=\n    [UNIVERSAL 2] IMPLICIT INTEGER (-2147483648..2147483647)\nEND\n"
-# Modules of which modules/ has only a part: what other modules import.
+# Modules that modules/ has only in part: what other modules import.
 PARTS = {"RMON2-MIB"}
 FULL = "RMON2-MIB DEFINITIONS ::= BEGIN\nIMPORTS mib-2 FROM SNMPv2-SMI;\nrmon OBJECT IDENTIFIER ::= { mib-2 16 }\n" \
     "probeConfig OBJECT IDENTIFIER ::= { rmon 19 }\nprobeCapabilities OBJECT-TYPE SYNTAX BITS { a(0) } MAX-ACCESS " \
@@ -247,7 +247,7 @@ DEVICES = ["host", "interfaces", "printer", "switch", "ups"]
 
 
 class Titles(Counts):
-    """Counts of the tests whose titles contain one of the words, or of all tests if there are no words."""
+    """Counts of the tests whose titles contain one of the words; without words, of all tests."""
 
     def __init__(self):
         super().__init__()
@@ -290,7 +290,7 @@ def modules_of(file):
 
 
 def files_needed(file, files):
-    """Returns the file itself, and the files with the modules from which it imports, also through others."""
+    """Returns the file itself, and the files whose modules it imports from, also through others."""
     home = {module: other for other in files for module in modules_of(other)}
     found, ahead = [], [file]
     while ahead:
@@ -301,7 +301,7 @@ def files_needed(file, files):
 
 
 def by_all(text):
-    """Returns a text with the names that the program shows if all modules are loaded."""
+    """Replaces names in the expected lines by the names that the program shows if all modules are loaded."""
     loaded = modules_of(ALL)
     for name, deeper in DEEPER.items():
         if deeper.split("::")[0] in loaded:
@@ -410,7 +410,7 @@ def choose_modules():
 
 
 def texts(world, files):
-    """Tests the module texts as module_texts.py reads them: labels, numbers, imports, rows, types, hints, statuses and
+    """Tests the modules as module_texts.py reads them: labels, numbers, imports, rows, types, hints, statuses and
     notifications."""
     names = [name for file in files for name in modules_of(file)]
     check("no two modules have one name", sorted(set(names)), sorted(names))
@@ -485,7 +485,7 @@ def statuses(module):
 
 
 def instance(world, parts):
-    """Returns the numbers of an instance whose index has these parts, and the text that shows them."""
+    """Returns the numbers of an instance whose index has these parts, and how the program shows them."""
     numbers, text = [], ""
     for owner, column, implied in parts:
         base, ranges, _, _ = world.meaning(owner, column.type)
@@ -579,8 +579,8 @@ def facts(world, root):
 
 
 def loads(files):
-    """Tests that each file, with those from which it imports, loads without a warning, and so do all in several
-    orders."""
+    """Tests that each file loads without a warning, together with the files that it imports from, and so do all files
+    in several orders."""
     silent = 0, ".1.3.6.1\n", ""
     for file in files:
         check(f"{file} loads without a warning",
@@ -680,7 +680,7 @@ def translations(files):
 
 
 def beside():
-    """Tests that a second module with a name is left out with a warning, and that a text outside the grammar is
+    """Tests that a second module with a name is left out with a warning, and that a module file outside the grammar is
     refused."""
     with tempfile.TemporaryDirectory() as folder:
         for name, text in ("other.txt", OTHER), ("unread.txt", UNREAD):
@@ -704,8 +704,8 @@ def beside():
 
 
 def old_imports():
-    """Tests modules that import from modules of SMIv1: their names and hints are found. A text of RFC1213-MIB that is
-    loaded before ours is used instead."""
+    """Tests modules that import from modules of SMIv1: their names and hints are found. An RFC1213-MIB that is loaded
+    before ours is used instead."""
     with tempfile.TemporaryDirectory() as folder:
         for name, text in (("old.tab", OLD_ROWS), ("full.txt", FULL), ("traps.txt", TRAPS),
                            ("rfc1213.txt", "RFC1213-MIB DEFINITIONS ::= BEGIN\nIMPORTS mgmt FROM RFC1155-SMI;\n"
@@ -733,7 +733,7 @@ def old_imports():
 
 
 def cure(path, folder):
-    """Writes a copy of a text of SMIv1 that can be loaded, and returns its path."""
+    """Writes a copy of a module file of SMIv1 that can be loaded, and returns its path."""
     with open(f"{folder}/cured.txt", "wb") as file:
         check(f"sed -E over {os.path.basename(path)}",
               programs.run_command(["sed", "-E", "-e", CURE[0], "-e", CURE[1], path], stdout=file), (0, "", ""))

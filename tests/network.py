@@ -4,8 +4,8 @@ against requests that this script sends.
 
 usage: network.py [WORD..]
 
-Runs the tests whose titles contain one of the words, or all tests if there are no words. The script shares no code with
-the program: it encodes and decodes messages by RFC 1901, RFC 3416 and X.690. The last line is 'N passed, M failed, K
+Runs the tests whose titles contain one of the words; without words, all tests. The script shares no code with the
+program: it encodes and decodes messages by RFC 1901, RFC 3416 and X.690. The last line is 'N passed, M failed, K
 skipped'.
 """
 import contextlib

@@ -5,7 +5,7 @@
 #   tests/operator.sh [WORD..]    runs the tests whose titles contain one of the words; without words, all
 #
 # The last line is 'N passed, M failed, K skipped'.
-# shellcheck disable=SC2016,SC2086  # words are split on purpose, and the backquotes are those of Markdown
+# shellcheck disable=SC2016,SC2086  # words are split on purpose, and the backquotes are Markdown's
 . "$(dirname "${BASH_SOURCE[0]}")/lib/tests.sh"
 are_current snmp
 cd "$top" || exit 1
@@ -405,5 +405,5 @@ done
 # -- the version
 
 version=$("$program" --version)
-same 'the version is that of the changelog' "$version" "snmp $(sed -n 's/^## \([0-9][0-9.]*\).*/\1/p' CHANGELOG.md | head -n 1)"
+same 'the version is the one of the changelog' "$version" "snmp $(sed -n 's/^## \([0-9][0-9.]*\).*/\1/p' CHANGELOG.md | head -n 1)"
 end

@@ -12,8 +12,8 @@ are_current snmp
 cd "$top/tests/data" || exit 1
 program=$top/crates/snmp/out/snmp
 
-# matches WANTED GOT: whether the texts are equal, except that GOT, unless it is empty, ends with one newline more. If
-# WANTED ends with ..., GOT only has to begin with what is before that.
+# matches WANTED GOT: whether both are equal, except that GOT, unless it is empty, ends with one newline more. If WANTED
+# ends with ..., GOT only has to begin with what is before that.
 matches() {
     case $1 in
         *...) [ "${2:0:$((${#1} - 3))}" = "${1%...}" ] && [ ${#2} -ge $((${#1} - 3)) ] ;;
@@ -22,7 +22,7 @@ matches() {
     esac
 }
 
-# holds TITLE TEXT FILE: a test that the file contains this text, as matches compares it.
+# holds TITLE WANTED FILE: a test that the content of the file is WANTED, as matches compares them.
 holds() {
     local has
     chosen "$1" || return 0
@@ -57,7 +57,7 @@ expect() {
 prints() { expect 0 "$1" '' "${@:2}"; }
 refuses() { expect 1 '' "$1" "${@:2}"; }
 
-# helps 'ARGUMENT..' TEXT..: a test that the help that these arguments ask for has a line that begins with each text.
+# helps 'ARGUMENT..' BEGINNING..: a test that the help that these arguments ask for has a line with each BEGINNING.
 helps() {
     local words=$1 text missing=
     shift
@@ -69,7 +69,7 @@ helps() {
 # table LINE..: writes these lines to the file t.tab.
 table() { printf '%s\n' "$@" >"$got/t.tab"; }
 
-# module FILE TEXT: writes a module M with this text to the file.
+# module FILE BODY: writes a module M with this body to the file.
 module() { printf 'M DEFINITIONS ::= BEGIN\n%s\nEND\n' "$2" >"$got/$1"; }
 
 e=.1.3.6.1.4.1.32473
@@ -230,7 +230,7 @@ shows qv '5 jobs' "tinyKeyUse.'wes'"
 shows f '.iso.3.6.internet.private.enterprises.tiny.tinyState.0 = INTEGER: up(1)' tinyState.0
 shows nSs 'tinyState.0 = INTEGER: up(1)' tinyState.0
 shows sn "$e.1.0 = INTEGER: up(1)" tinyState.0
-# A file whose names are defined below those of another file, which is loaded before it, and then after it.
+# A file whose names are below names of another file, which is loaded before it, and then after it.
 printf 'MORE-MIB DEFINITIONS ::= BEGIN\nIMPORTS tiny FROM TINY-MIB;\nmore OBJECT IDENTIFIER ::= { tiny 9 }\nEND\n' \
     >"$got/more.txt"
 table "$e.9.1|2|7"
@@ -389,8 +389,8 @@ for syntax in Opaque 'BITS { a(0) }'; do shows_index column "$syntax" 2.99.100=2
 shows_index column 'Opaque (SIZE (4))' 99.100.101.102=99.100.101.102 99.100.101 4.99.100.101.102 99.100.101.256
 shows_index 'IMPLIED column' 'BITS { a(0) }' 99.100=99.100 99.256
 
-# Rows that augment others, also of another module, in which the names of the index are then looked up; nodes below a
-# row that aren't columns; indexes whose objects don't exist; and rows with one identifier, where the first counts.
+# Rows that augment others, also of another module, where the names of the index are then looked up; nodes below a row
+# that aren't columns; indexes whose objects don't exist; and rows with the same identifier: the first counts.
 cat >"$got/m.txt" <<MODULE
 M DEFINITIONS ::= BEGIN IMPORTS key FROM N farRow FROM P absentRow FROM N;
 rowA OBJECT-TYPE SYNTAX R $row INDEX { key, local, IMPLIED nameA } ::= { iso 1 }
@@ -815,7 +815,7 @@ spoils '3: double name' '#snmptab 2' 'tinyMac."a"|4|1' "$e.2.1.2.1.97|4|2"
 
 # module files
 refuses 'no.txt: cannot be read' snmpwalk --mib tiny.txt --mib no.txt table:tiny.tab tiny
-# faulty MESSAGE TEXT: a test that a module file with this text is refused, also after another file.
+# faulty MESSAGE BODY: a test that a module with this body is refused, also after another file.
 faulty() {
     module m.txt "$2"
     refuses "$got/m.txt:$1" snmptranslate --mib "$got/m.txt" iso
@@ -884,7 +884,7 @@ snmp: A imports iso from B, which has no iso
 snmp: A imports gone from B, which has no gone
 snmp: A imports from NONE, which is not loaded
 snmp: A imports from NONE, which is not loaded' snmptranslate --mib "$got/m.txt" iso
-# Chains of names up to 128 numbers, in which each name is defined after the one that it refers to, and then before it.
+# Chains of names up to 128 numbers. Each name is defined after the one that it refers to, and then before it.
 deepest=$(printf '.1%.0s' {1..128})
 below() { for n; do printf 'x%s OBJECT IDENTIFIER ::= { x%s 1 }\n' "$n" $((n - 1)); done; }
 module m.txt "x1 OBJECT IDENTIFIER ::= { iso 1 }
@@ -902,7 +902,7 @@ expect 0 ".1
 .1.1.1.1
 $deepest" "$(printf 'snmp: M::x%s is too long\n' {200..128})" \
     snmptranslate --mib "$got/m.txt" -On M::x0 M::x3 M::x127
-# An object whose type is in a ring has no syntax, and there is no warning.
+# An object whose type is in a ring has no syntax, and the program prints no warning.
 module m.txt 'A ::= B B ::= A
     a OBJECT-TYPE SYNTAX A UNITS "m" MAX-ACCESS read-only STATUS current DESCRIPTION "" ::= { iso 9 }'
 table '.1.9.0|2|5'

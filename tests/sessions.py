@@ -62,7 +62,7 @@ def commands_of(block):
 
 
 def trim(text):
-    """Returns the lines of a text without blanks at their ends."""
+    """Returns the lines of `text` without blanks at their ends."""
     return [line.rstrip(" ") for line in text.split("\n")]
 
 
@@ -87,7 +87,7 @@ def start(command, shown, path, folder, environment):
 
 
 def run(block, prefix, port):
-    """Runs a session, in which `port` replaces 1161 and `prefix` replaces /usr/local. Returns what is wrong."""
+    """Runs a session with `port` instead of 1161 and `prefix` instead of /usr/local. Returns what is wrong."""
     status, going = 0, []
     block = block.replace("127.0.0.1:1161", f"127.0.0.1:{port}").replace("/usr/local", prefix)
     environment = dict(os.environ, PATH=f"{prefix}/bin:{os.environ['PATH']}")

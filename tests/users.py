@@ -5,8 +5,8 @@ shell substitutes.
 
 usage: users.py [WORD..]
 
-Runs the tests whose titles contain one of the words, or all tests if there are no words. A test that can't run on this
-machine is skipped, and the reason is printed. The last line is 'N passed, M failed, K skipped'.
+Runs the tests whose titles contain one of the words; without words, all tests. A test that can't run on this machine is
+skipped, and the reason is printed. The last line is 'N passed, M failed, K skipped'.
 """
 import os
 import pty
@@ -32,7 +32,7 @@ test = tests.test
 COMMANDS = "snmp", "snmptranslate", "snmpget", "snmpwalk", "snmpbulkwalk", "snmpd"
 
 
-# -- ./snmp in a clone, with a stand-in for the program and no toolchain
+# -- ./snmp in a clone, with a mock of the program and no toolchain
 
 # The PATH of these tests: it has the system's commands, but not rt.
 SYSTEM = "/usr/bin:/bin"
@@ -40,7 +40,7 @@ LACKS_NOTHING = lacks("bash", "readlink") or ("rt is among the system's commands
                                               if shutil.which("rt", path=SYSTEM) else "")
 NO_TOOLCHAIN = "snmp: the program {}, and the command rt, which builds it, isn't on PATH: README.md, Install\n"
 UNBUILT, STALE = (NO_TOOLCHAIN.format(what) for what in ("isn't built", "wasn't built from the current sources"))
-STAND_IN = '#!/bin/sh\nprintf "%s|" "$PWD" "$@"\nexit 3\n'
+MOCK = '#!/bin/sh\nprintf "%s|" "$PWD" "$@"\nexit 3\n'
 
 
 class Clone:
@@ -72,17 +72,17 @@ class Clone:
             file.write(text)
 
     def build(self):
-        """Writes the stand-in to the path of the program, with the note that it was built from the sources."""
+        """Writes the mock to the path of the program, with the note that it was built from the sources."""
         program = os.path.join(self.top, "crates/snmp/out/snmp")
         os.makedirs(os.path.dirname(program), exist_ok=True)
-        self.write("crates/snmp/out/snmp", STAND_IN)
+        self.write("crates/snmp/out/snmp", MOCK)
         os.chmod(program, 0o755)
         asks = os.path.join(self.top, "tests/is-current")
         sources = run_command([asks, "--sources", program]).output.strip()
         return run_command([asks, "--built", program, sources])
 
     def ways(self):
-        """Returns the ways in which a user can run ./snmp: the current folder and the command of each."""
+        """Returns the ways to run ./snmp: the current folder and the command of each."""
         there = self.elsewhere
         return ((self.top, "./snmp"), (there, os.path.join("..", "a clöne", "snmp")), (there, "./link"),
                 (there, "snmp"), ("/", os.path.join(there, "link")))
@@ -221,7 +221,7 @@ def replies_from_elsewhere():
     return wrongs(*wrong)
 
 
-# The system replies from the address from which it would send to the walker, 127.0.0.1 (docs/HOWTO.md).
+# The system replies from the address that it uses to send to the walker, 127.0.0.1 (docs/HOWTO.md).
 @test("if snmpd listens on all addresses, and the system replies from another than the one asked, snmpget times out")
 def all_addresses():
     with Server(host="0.0.0.0") as server:
@@ -288,7 +288,7 @@ class Terminal:
         return self
 
     def until(self, end):
-        """Reads until the terminal has shown this text."""
+        """Reads until the terminal has shown `end`."""
         while end not in self.shown:
             self.more()
 
@@ -384,7 +384,7 @@ END
 
 
 def lacks_latin():
-    """Returns what is missing for making a Latin-1 locale, or an empty text."""
+    """Returns what is missing for making a Latin-1 locale, or an empty string."""
     return lacks("localedef") or ("" if os.path.exists("/usr/share/i18n/charmaps/ISO-8859-1.gz") else
                                   "no character map of Latin-1 here")
 

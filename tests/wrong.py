@@ -5,14 +5,14 @@ isn't a part of the gate, where each change of the program would have to wait fo
 usage: wrong.py [NAME..]
        wrong.py --stale
 
-The ways are those of wrong.c, a library that the program loads before the C library (LD_PRELOAD). Without names, all
+The ways are defined in wrong.c, a library that the program loads before the C library (LD_PRELOAD). Without names, all
 are tried. Prints for each way and test the beginning of what the test found wrong. It is also a failure if no test has
 the title listed for a way, or if no way is listed for a test of edge.py. The last line is 'N passed, M failed, K
 skipped'.
 
-After a run in which all ways were tried and caught, tests/wrong.txt contains the hash of the tests and of the ways, but
-not of the program, which differs after each change. With --stale, which the gate uses, nothing is tried: a line says
-whether that hash is out of date.
+If all ways were tried and caught, tests/wrong.txt contains the hash of the tests and of the ways, but not of the
+program, which differs after each change. With --stale, which the gate uses, nothing is tried: a line says if that hash
+is out of date.
 """
 import contextlib
 import glob
@@ -114,8 +114,8 @@ UNDER_ATTACK = {
     attack.attack_walkers: ["ANY_ID", "ANY_SENDER", "HALF_A_LINE", "LINES_COME_TWICE", "OUTSIDE_OF_THE_ROOT",
                             "ANOTHER_VALUE", "NOTHING_IS_SAID", "ANOTHER_MESSAGE", "STATUS_0", "NEVER_ENDS"],
 }
-# The ways that fleet.py catches; those of network.py, with words from titles; and those of scripts in shell, each with
-# the script and a word from the titles of the tests to run.
+# The ways that fleet.py catches; the same for network.py, with words from titles; and for scripts in shell, with the
+# script and a word from the titles of the tests to run.
 IN_A_FLEET = ["NOTHING_IS_SAID", "STATUS_0", "HALF_A_LINE", "LINES_ARE_LEFT_OUT", "LINK_IS_MEMORY"]
 IN_A_NETWORK = {
     "RECEIVES_484_OCTETS": ["requests of 2,000", "of 2000 octets", "of 5000 octets"],
@@ -149,7 +149,7 @@ def wrong_program(name):
     """Writes a script that runs the built program with such a library, and returns its path."""
     path = f"{own}/{name}-snmp"
     with open(path, "w", encoding="ascii") as file:
-        # LD_PRELOAD may already name another library, such as that of heap.c.
+        # LD_PRELOAD may already name another library, such as heap.c.
         file.write(f'#!/bin/sh\nLD_PRELOAD="{library(name)}${{LD_PRELOAD:+:$LD_PRELOAD}}" '
                    f'exec "{os.path.realpath(programs.BUILT)}" "$@"\n')
     os.chmod(path, 0o755)
@@ -193,7 +193,7 @@ def use_in_shell(name):
 
 def by_shell(script, word):
     """Runs the tests of a script whose titles contain this word, in that copy. Returns what they print if one fails,
-    and otherwise an empty text."""
+    and otherwise an empty string."""
     ran = programs.run_command([f"{own}/checkout/tests/{script}", word], 1800)
     if ran.status not in (0, 1):
         raise RuntimeError(f"{script} {word}: status {ran.status}\n{ran.messages}")
@@ -243,7 +243,7 @@ tasks = []
 
 
 def run_task(number):
-    """Makes the program wrong, runs the test, and returns as a text what the test finds wrong."""
+    """Makes the program wrong, runs the test, and returns as one string what the test finds wrong."""
     name, how, _, test = tasks[number]
     with contextlib.redirect_stdout(io.StringIO()) as printed:
         wrong = runner.try_test(lambda: how(name) or test())
@@ -276,7 +276,7 @@ def hash_of_tests():
 
 
 def say_stale():
-    """Prints a line if the tests and ways aren't those of the last complete run."""
+    """Prints a line if the tests or the ways have changed since the last complete run."""
     recorded = ""
     if os.path.exists(RECORD):
         with open(RECORD, encoding="ascii") as file:

@@ -1,5 +1,5 @@
-"""Checks which commands this machine has, and what they can do here. A function `lacks..` returns what is missing as a
-text, which is empty if nothing is.
+"""Checks which commands this machine has, and what they can do here. A function `lacks..` returns a message that says
+what is missing, or an empty string.
 """
 import functools
 import shutil

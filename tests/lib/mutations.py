@@ -115,7 +115,7 @@ def names_and_lines(sent):
 
 
 def split(output):
-    """Yields the name of each binding in an output with numeric names, and its text, which may have several lines."""
+    """Yields the name of each binding in an output with numeric names, and its lines as one string."""
     texts = []
     for piece in output.splitlines(True):
         if piece.startswith(".") or not texts:
@@ -158,9 +158,9 @@ def faults_of(words, ran, sent):
 
 
 def ends_of_get(asked, datagrams):
-    """Yields each way in which a Get may end that was sent these datagrams in this order, as status, output and
-    messages. It may end at each datagram that this script reads as a reply, because the Get, which checks more, may
-    refuse one and wait for the next. It may end without a reply only if this script reads none."""
+    """Yields each way a Get may end that was sent these datagrams in this order, as status, output and messages. It may
+    end at each datagram that this script reads as a reply, because the Get, which checks more, may refuse one and wait
+    for the next. It may end without a reply only if this script reads none."""
     wanted = [name for name, _ in asked.bindings]
     for datagram in datagrams:
         it = read_or_none(datagram)

@@ -41,7 +41,7 @@ def waiting_octets(pipe):
 
 def wait_for(pipe, what, event=select.POLLIN):
     """Waits until a pipe can be read, or until another event occurs, such as that it can be written. Raises
-    TimeoutError with the text `what` if that takes too long."""
+    TimeoutError with the message `what` if that takes too long."""
     poll = select.poll()
     poll.register(pipe, event)
     if not poll.poll(PATIENCE * 1000):
@@ -56,7 +56,7 @@ def some(pipe, most):
 
 
 def read_exactly(pipe, size, most=1 << 20):
-    """Reads exactly `size` octets, at most `most` at a time, and returns them as text. Raises EOFError if the pipe ends
+    """Reads exactly `size` octets, at most `most` at a time, and returns them decoded. Raises EOFError if the pipe ends
     before."""
     octets = b""
     while len(octets) < size:
@@ -68,7 +68,7 @@ def read_exactly(pipe, size, most=1 << 20):
 
 
 def rest(pipe, most=1 << 20):
-    """Reads up to the end of a pipe, at most `most` octets at a time, and returns the text."""
+    """Reads up to the end of a pipe, at most `most` octets at a time, and returns the octets decoded."""
     pieces = [some(pipe, most)]
     while pieces[-1]:
         pieces.append(some(pipe, most))

@@ -1,5 +1,5 @@
-"""Finds UDP ports that no program uses. All are below 32768, where by default the range begins from which the system
-chooses a port for a socket that asks for none.
+"""Finds UDP ports that no program uses. All are below 32768: by default the system chooses higher ports for sockets
+that ask for none.
 """
 import contextlib
 import itertools

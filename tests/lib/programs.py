@@ -78,7 +78,7 @@ Ended = collections.namedtuple("Ended", "status output messages")
 
 
 def decode(octets):
-    """Returns octets as text, in which others than UTF-8 are surrogates. None is read as no octets."""
+    """Decodes octets from UTF-8. Octets that aren't UTF-8 become surrogates, and None is read as no octets."""
     return (octets or b"").decode(errors="surrogateescape")
 
 
@@ -108,8 +108,9 @@ def run_command(words, seconds=PATIENCE, **where):
 
 
 def patient(words):
-    """Returns the arguments, with `-t 4` added to those of a walk or a Get without a `-t`. So the program waits four
-    seconds for a reply before it sends a request again, and on a busy machine sends none again needlessly."""
+    """Returns the arguments. If they are for a walk or a Get and have no `-t`, adds `-t 4`: the program then waits four
+    seconds for a reply before it sends a request again, so that it sends none again only because the machine is
+    busy."""
     said = words[0] in ("snmpd", "snmptranslate") or any(word.startswith("-t") for word in words)
     return [*words] if said or not words[0].startswith("snmp") else [words[0], "-t", "4", *words[1:]]
 

@@ -8,8 +8,8 @@ import time
 from lib.messages import RESPONSE, integer, message
 from lib.rows import R, lines_of, table_text
 
-# A datagram to pass on: the time when it is due, the socket at which the original arrived, the datagram, which may
-# differ from the original, and the original.
+# A datagram to pass on: the time when it is due, the socket where the original arrived, the datagram, which may differ
+# from the original, and the original.
 Pending = collections.namedtuple("Pending", "due end datagram original")
 
 

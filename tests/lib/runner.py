@@ -12,7 +12,7 @@ from lib import programs
 
 
 def differs(got, wanted):
-    """Returns a text that shows both values, or an empty one if they are equal."""
+    """Returns a message that shows both values, or an empty string if they are equal."""
     return "" if got == wanted else f"{got!r}\n  not {wanted!r}"
 
 
@@ -22,12 +22,12 @@ def hex_lines(datagrams):
 
 
 def sent_not(got, wanted):
-    """Returns a text that shows the datagrams sent and those expected, or an empty one if they are equal."""
+    """Returns a message that shows the datagrams sent and the expected ones, or an empty string if they are equal."""
     return "" if list(got) == list(wanted) else f"sent\n    {hex_lines(got)}\n  not\n    {hex_lines(wanted)}"
 
 
 def wrongs(*found):
-    """Returns those of the texts that aren't empty, as lines of one text."""
+    """Joins the messages that aren't empty, each on its own line."""
     return "\n  ".join(filter(None, found))
 
 
@@ -55,8 +55,8 @@ class Counts:
 
 
 def chosen_by(words, script, titles):
-    """Returns a function that returns whether a title contains one of the words, or whether there are no words. If no
-    title contains one of the words, ends the script with status 2."""
+    """Returns a function that returns whether a title contains one of the words. Without words, it always returns true.
+    If a word is in no title, ends the script with status 2."""
     for word in words:
         if not any(word in title for title in titles):
             print(f"{script}: no test here has {word!r} in its title", file=sys.stderr)
@@ -79,8 +79,8 @@ def end_at_signals():
 
 
 class Tests(list):
-    """The tests of a script. An item is a title and a function, which returns what is wrong or an empty text. `untried`
-    lists the titles of tests that can't run on this machine, with the reasons."""
+    """The tests of a script. An item is a title and a function, which returns what is wrong or an empty string.
+    `untried` lists the titles of tests that can't run on this machine, with the reasons."""
 
     def __init__(self, script):
         super().__init__()

@@ -37,7 +37,7 @@ count() {
     fi
 }
 
-# same TITLE WANTED GOT: a test that passes if the two texts are equal, and otherwise shows their difference.
+# same TITLE WANTED GOT: a test that passes if both strings are equal, and otherwise shows their difference.
 same() {
     if [ "$2" = "$3" ]; then count "$1" ''; else count "$1" "$(diff <(echo "$2") <(echo "$3"))"; fi
 }
@@ -74,8 +74,8 @@ are_current() {
     for name; do "$top/tests/is-current" "$top/crates/$name/out/$name" || exit 1; done
 }
 
-# end: prints the last line and ends the script, with status 0 if no test failed and one passed or was skipped. If no
-# title contains one of the arguments, ends it with status 2.
+# end: prints the last line and ends the script, with status 0 if no test failed and one passed or was skipped. If an
+# argument is in no title, ends it with status 2.
 end() {
     local word
     for word in "${titles[@]}"; do

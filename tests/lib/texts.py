@@ -11,7 +11,7 @@ def dotted(name):
 
 
 def ticks(n):
-    """Returns the text of a number of hundredths of a second."""
+    """Returns what is printed for TimeTicks, hundredths of a second."""
     seconds, hundredths = divmod(n, 100)
     minutes, seconds = divmod(seconds, 60)
     hours, minutes = divmod(minutes, 60)
@@ -27,7 +27,7 @@ def hexadecimal(octets):
 
 
 def string(octets):
-    """Returns the text of a string: in quotes if each octet is printable ASCII, otherwise in hexadecimal."""
+    """Returns what is printed for a string: in quotes if each octet is printable ASCII, otherwise in hexadecimal."""
     if not octets:
         return '""'
     if all(32 <= octet <= 126 for octet in octets):
@@ -46,7 +46,7 @@ def number(content, octets, signed=False):
 
 
 def value_text(value):
-    """Returns the text of an encoded value or exception, or None if the standard has no such value."""
+    """Returns what is printed for an encoded value or exception, or None if the standard has no such value."""
     (tag, content), = elements(value)
     try:
         if tag == 0x02:
