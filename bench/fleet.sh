@@ -3,7 +3,7 @@
 # interfaces. The polls are a Get of five names, and walks and bulk walks of a column and of the whole table. Prints the
 # seconds, the clients' processor seconds, and their instructions for each poll. If Net-SNMP's tools are installed
 # (Debian's package snmp), they are measured too, in turns with ours in each round. The seconds are medians of the
-# rounds. Then it polls agents of which one in ten doesn't reply.
+# rounds. Then it polls agents again; one in ten doesn't reply.
 #
 #   bench/fleet.sh [AGENTS [AT-ONCE [ROUNDS [GETS]]]]        200, 16, 5 and 1,000 by default
 #

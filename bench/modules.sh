@@ -1,5 +1,5 @@
 #!/usr/bin/env bash
-# Counts the instructions of reading module texts: for each octet of a text of 1 MB with every production; and for many
+# Counts the instructions of reading module files: for each octet of a file of 1 MB with every production; and for many
 # definitions, deep braces and a long string at size n and 2n, which shows that the cost is linear.
 source "$(dirname "${BASH_SOURCE[0]}")/common.sh"
 driver modules.c

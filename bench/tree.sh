@@ -1,7 +1,7 @@
 #!/usr/bin/env bash
-# Counts the instructions of reading and loading modules: a text of 1 MB with every production, and modules/core.txt;
-# many definitions, and chains of parents and of types, at size n and 2n. Also counts those of one look-up and one line
-# in a tree of 20,000 nodes. If Net-SNMP's library is installed, most lines have its count too.
+# Counts the instructions of reading and loading modules: a file of 1 MB with every production, and modules/core.txt;
+# many definitions, and chains of parents and of types, at size n and 2n. Also counts one look-up and one line in a tree
+# of 20,000 nodes. If Net-SNMP's library is installed, most lines have its count too.
 source "$(dirname "${BASH_SOURCE[0]}")/common.sh"
 driver tree.c
 

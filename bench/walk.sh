@@ -2,7 +2,7 @@
 # Counts the instructions of a walk over a link in memory for each row, by GetNext and by GetBulk of 1, 10 and 50. They
 # include the request, the agent and the reply, but no printing. The count is the difference between walks over 4,000
 # and 2,000 rows, so that it doesn't include what a walk does once and the reading of the table. Net-SNMP's library has
-# no link in memory. If it is installed, the count is that of writing and reading a request and its Response, without a
+# no link in memory. If it is installed, only writing and reading a request and its Response is counted, without a
 # search for the row and without the work of its walk. For GetNext, the agent's part is counted too.
 source "$(dirname "${BASH_SOURCE[0]}")/common.sh"
 driver walk.c
