@@ -1,4 +1,4 @@
--- One more binding after those gathered.
+-- Bindings that are gathered one by one, and the length of their encodings (`IsGathered`).
 use Rattle.std.proofs.Common.{◌≡◌, ◌+◌, ◌≤◌, ℕ, List, [], ◌∷◌, ◌++◌, length, All, ap, sym, ◌∙◌, refl, arith, rules}
 use Rattle.std.proofs.lemmas.List.{append_assoc, length-append, map_push}
 use Rattle.std.proofs.lemmas.List.Elements.{All-push}

@@ -81,7 +81,8 @@ fn write_again(
     append_pieces(&parts, &bindings[0], room)
 }
 
-/// Writes the binding of a message and then its head, and appends the message.
+/// Appends to `room` the message of `parts` with `binding` as its only binding. The binding is
+/// written first, and then the head before it.
 fn append_pieces(parts: &Parts<'_>, binding: &Binding<'_>, room: &mut Room<'_>) -> Result<(), Fault>
     requires community { length parts.now.community.now ≤ 65535 }
     requires binding { IsEncodable (var_bind binding.now) }

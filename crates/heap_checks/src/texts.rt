@@ -29,7 +29,7 @@ fn append_result(
     }
 }
 
-/// Checks `write_hint`, of octets, or of -1234567 if the hint is one of integers.
+/// Checks `write_hint` for `octets`, or for the number -1234567 if the hint is one of integers.
 pub fn hint(alloc: Global, hint: &[u8], octets: &[u8], room: &mut Room<'_>) -> Result<(), Fault> {
     let Ok(mut text) = Vec::from_slice(alloc, BEFORE) else {
         return Err(Fault::Refused);
@@ -45,8 +45,8 @@ pub fn hint(alloc: Global, hint: &[u8], octets: &[u8], room: &mut Room<'_>) -> R
     append_result(ended, text.as_slice(), room)
 }
 
-/// Checks `LineWriter::line`, with the modules of a text, of each binding of a message. A line for
-/// which memory is refused is written once more, by the same writer.
+/// Checks `LineWriter::line` for each binding of the message `datagram`, with the tree of the
+/// module text `modules`. If memory is refused for a line, the same writer writes it once more.
 pub fn lines(
     alloc: Global,
     modules: &[u8],
@@ -79,8 +79,9 @@ pub fn lines(
     Ok(())
 }
 
-/// Checks `name_text`, `value_text`, `line` or `detail`, with the modules of a text, of the
-/// instance with this name, whose value has six octets.
+/// Checks `detail`, or as `check` says, `name_text`, `value_text` or `line`, with the tree of the
+/// module text `modules`. The call is for the instance with the name `name`, whose value has six
+/// octets.
 pub fn check_text(
     alloc: Global,
     check: &str,

@@ -4,22 +4,22 @@ use Rattle.std.proofs.Common.{arith, length, ◌≡◌, List, Option, refl, ap}
 use Rattle.smi_names.specs.{chains.Resolution.ComesTo, meaning.Meaning.QualifiedName, meaning.Meaning.origin, declared.nodes.warning.Warning.Warning}
 use Rattle.smi_names.specs.declared.chains.shared.Resolution.{Resolution}
 use Rattle.smi_text.specs.{declared.trees.tree.Module.Module, declared.trees.tree.Def.Def, declared.trees.tree.Part.Part}
-use Rattle.smi_names.specs.nodes.Nodes.{Node, GivesNodesBy, Gathers, none, more, Brings, Loads, none_yet, then_module}
+use Rattle.smi_names.specs.nodes.Nodes.{Node, GivesNodesBy, Gathers, none, more, Contributes, Loads, none_yet, then_module}
 
 module _ (ms : List Module) (one : (a : QualifiedName) (r s : Resolution) → ComesTo (origin ms) a r → ComesTo (origin ms) a s → r ≡ s) where
-  given_by : (m : Module) (d : Def) (value : Option (List Part)) (ns es : List Node) (ws vs : List Warning) → GivesNodesBy ms m d value ns ws
+  returned_by : (m : Module) (d : Def) (value : Option (List Part)) (ns es : List Node) (ws vs : List Warning) → GivesNodesBy ms m d value ns ws
       → GivesNodesBy ms m d value es vs → (ns ≡ es) × (ws ≡ vs)
-  given_by m d value ns es ws vs a b = grind (arith, common_steps)
+  returned_by m d value ns es ws vs a b = grind (arith, common_steps)
 
   gathered : {m : Module} {ds : List Def} {ns : List Node} {ws : List Warning} → Gathers ms m ds ns ws
       → {es : List Def} {ks : List Node} {vs : List Warning} → Gathers ms m es ks vs → ds ≡ es → (ns ≡ ks) × (ws ≡ vs)
   gathered none none same = (refl, refl)
   gathered none (more es e ks more_ks vs more_vs h g) same = absurd (omega (arith, length_push es e, ap length same))
   gathered (more ds d ns more_ns ws more_ws h g) none same = absurd (omega (arith, length_push ds d, ap length same))
-  gathered {m} (more ds d ns more_ns ws more_ws h g) (more es e ks more_ks vs more_vs k f) same = grind (arith, common_steps, gathered h k, given_by)
+  gathered {m} (more ds d ns more_ns ws more_ws h g) (more es e ks more_ks vs more_vs k f) same = grind (arith, common_steps, gathered h k, returned_by)
 
-  brought : {before : List Module} {m : Module} {ns : List Node} {ws : List Warning} → Brings ms before m ns ws
-      → {ks : List Node} {vs : List Warning} → Brings ms before m ks vs → (ns ≡ ks) × (ws ≡ vs)
+  brought : {before : List Module} {m : Module} {ns : List Node} {ws : List Warning} → Contributes ms before m ns ws
+      → {ks : List Node} {vs : List Warning} → Contributes ms before m ks vs → (ns ≡ ks) × (ws ≡ vs)
   brought h g = grind (arith, common_steps, gathered)
 
   loaded_by : {before : List Module} {ns : List Node} {ws : List Warning} → Loads ms before ns ws

@@ -1,6 +1,6 @@
 -- A thing resolves in one way: its chain has no end, or ends at numbers or at nothing, and never two of these.
 use Rattle.std.proofs.{lemmas.Grind.common_steps, Common.◌≡◌, Common.ℕ, Common.◌<◌, Common.◌≤◌, Common.List, Common.length, Common.ap, Common.arith}
-use Rattle.smi_names.specs.chains.Chain.{Origin, next_of, HasEnd, ends, leads_on, HasIdentifier, by_itself, after_another, EndsNowhere, here, further}
+use Rattle.smi_names.specs.chains.Chain.{Origin, next_of, HasEnd, ends, refers_on, HasIdentifier, by_itself, after_another, EndsNowhere, here, further}
 use Rattle.smi_names.specs.{chains.Resolution.ComesTo, declared.chains.shared.Resolution.Resolution}
 
 -- a thing has at most one identifier
@@ -14,11 +14,11 @@ one_meaning origin {a} {o} (after_another {b = b} {ns = ns} {o = o'} e m) p (aft
 module _ {A : Type 0} (origin : A → Origin A) where
   has_end : {a : A} {o : List ℕ} → HasIdentifier origin a o → HasEnd (λ b. next_of (origin b)) a
   has_end (by_itself e) = ends (ap next_of e)
-  has_end (after_another e m) = leads_on (ap next_of e) (has_end m)
+  has_end (after_another e m) = refers_on (ap next_of e) (has_end m)
 
   ends_there : {a : A} → EndsNowhere origin a → HasEnd (λ b. next_of (origin b)) a
   ends_there (here e) = ends (ap next_of e)
-  ends_there (further e h) = leads_on (ap next_of e) (ends_there h)
+  ends_there (further e h) = refers_on (ap next_of e) (ends_there h)
 
   not_both : {a : A} {o : List ℕ} → HasIdentifier origin a o → EndsNowhere origin a → ⊥
   not_both (by_itself e) (here f) = cc

@@ -7,6 +7,6 @@
 mod order;
 mod shared;
 
-pub use order::ordered;
+pub use order::topological_order;
 pub use shared::Resolution;
-pub(crate) use shared::{CYCLE, Shared, UNRESOLVED, appended, led, reasons};
+pub(crate) use shared::{CYCLE, Shared, UNRESOLVED, push_extended, reasons, resolve_through};

@@ -18,19 +18,21 @@
 
 mod chains;
 mod hash;
+mod indices;
 mod laws;
 mod meaning;
 mod name;
 mod nodes;
-mod places;
 
 pub use chains::Resolution;
 pub use hash::NameHash;
-pub use meaning::{Decider, Entries, Entry, Leads, Meaning, Names, TypeBase, root_arc, root_label};
+pub use indices::insert_if_absent;
+pub use meaning::{
+    Decider, Entries, Entry, Meaning, Names, References, TypeBase, root_arc, root_label,
+};
 pub use name::{NameBuf, NameRef};
 pub use nodes::{Gathered, Source, Warning, gather_nodes};
-pub use places::insert_if_absent;
 
 // Only for proofs and tests.
-pub use chains::ordered;
+pub use chains::topological_order;
 pub use laws::{one_identifier, one_loading, one_resolution};

@@ -12,7 +12,7 @@ mod names;
 mod parents;
 mod scope;
 
-pub use along::{Leads, Meaning};
+pub use along::{Meaning, References};
 pub use base::TypeBase;
 pub use entries::Entries;
 pub use entry::{Decider, Entry};

@@ -88,7 +88,7 @@ impl NameBuf {
     pub fn new(alloc: Global, octets: &[u8]) -> Result<NameBuf, AllocError>
         ensures { IfOk result (λ name. name ≡ octets.now) }
     {
-        let octets = Text::copied(alloc, octets)?;
+        let octets = Text::from_slice(alloc, octets)?;
         Ok(NameBuf { octets })
     }
 

@@ -13,7 +13,7 @@ use Rattle.smi_show.specs.declared.name.error.NameError.TheVariants.{BadIndex, B
 use Rattle.smi_show.proofs.Parted.{are_parts, has_module, has_no_module, no_module, one_module, only_parts}
 use Rattle.smi_show.proofs.MeantWords.{WordIs, index_fails, label_word, number_fails, states_word, word_is}
 use Rattle.smi_tree.specs.{Naming.oid_of_child, Tree.Contents}
-use Rattle.smi_show.proofs.NumericMeaning.{scoped}
+use Rattle.smi_show.proofs.NumericNames.{scoped}
 
 abbrev Outcome : Type 0
 Outcome = Result (List ℕ) NameError
@@ -71,10 +71,10 @@ parts_only : (tree : Contents) (look_up : LookUp) (so_far : List ℕ) (parts : L
     → PartsMean tree look_up so_far parts result → result ≡ parts_meaning tree look_up so_far parts
 parts_only tree look_up so_far [] result h = h
 parts_only tree look_up so_far (part ∷ more) result h =
-    let given = λ (first : Outcome). and_then first (λ o. parts_meaning tree (oid_of_child tree o) o more) in
+    let returned = λ (first : Outcome). and_then first (λ o. parts_meaning tree (oid_of_child tree o) o more) in
     elim h [
-      | inl goes ↦ parts_only tree (oid_of_child tree goes.0) goes.0 more result goes.2 ∙ ap given (part_only look_up so_far part (Ok goes.0) goes.1)
-      | inr fails ↦ fails.2 ∙ ap given (part_only look_up so_far part (Err fails.0) fails.1)
+      | inl goes ↦ parts_only tree (oid_of_child tree goes.0) goes.0 more result goes.2 ∙ ap returned (part_only look_up so_far part (Ok goes.0) goes.1)
+      | inr fails ↦ fails.2 ∙ ap returned (part_only look_up so_far part (Err fails.0) fails.1)
     ]
 
 -- ---- a text

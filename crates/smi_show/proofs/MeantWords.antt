@@ -10,8 +10,8 @@ use Rattle.smi_show.specs.name.Meant.{IsBadIndex, IsBadNumber, IsLabel, StatesPi
 use Rattle.smi_show.specs.name.Word.{Word, a_piece, a_label, numeral_of, quoted_in, number_word, counted_word, plain_word, word_of}
 use Rattle.smi_show.specs.declared.name.error.NameError.{NameError}
 use Rattle.smi_show.specs.declared.name.error.NameError.TheVariants.{BadIndex, BadNumber, TooLong, Unknown}
-use Rattle.smi_show.proofs.{NumeralLemmas.no_numeral, NumeralLemmas.numeral_is, ReadingLemmas.chosen}
-use Rattle.smi_show.proofs.WordLemmas.{digit_first, digits_word, quoted_back, some_text}
+use Rattle.smi_show.proofs.{Numerals.no_numeral, Numerals.numeral_is, IndexValues.chosen}
+use Rattle.smi_show.proofs.Words.{digit_first, digits_word, quoted_back, some_text}
 
 -- ---- what is read of a part
 
@@ -36,7 +36,7 @@ number_fails (octet ∷ more) h =
 pub quoted_of : (quote : ℕ) (rest octets : List ℕ) → quoted_in quote rest ≡ Some octets → (rest ≡ octets ++ quote ∷ []) × (list_all is_quotable octets ≡ true)
 quoted_of quote rest octets h = grind (arith, common_steps, chosen, and_parts, ltb-true, take_more, eqb-true, take-length)
 
--- ---- each part is one of these
+-- ---- each part is a piece, a label or a fault
 
 abbrev pub WordIs : List ℕ → Result Word NameError → Type 0
 WordIs part (Ok (a_piece piece)) = StatesPiece part piece

@@ -20,7 +20,7 @@ nothing : (octet : ℕ) (before after : List ℕ) → [] ≡ before ++ octet ∷
 nothing octet [] after e = cc
 nothing octet (o ∷ before) after e = cc
 
--- one more octet of the text
+-- if a property holds wherever `stop` occurs outside quotes in `text`, then it holds with one octet more before the text, if it holds for `stop` at this octet
 later : (stop : List ℕ) (quote : Option ℕ) (octet : ℕ) (text : List ℕ) (P Q : List ℕ → Type 0)
     → ((after : List ℕ) → octet ∷ text ≡ stop ++ after → quote ≡ None → Q []) → ((before : List ℕ) → P before → Q (octet ∷ before))
     → Wherever stop (open_after quote octet) text P → Wherever stop quote (octet ∷ text) Q
@@ -44,7 +44,7 @@ nowhere_later : (quote : Option ℕ) (octet : ℕ) (text : List ℕ) → at_dot 
 nowhere_later quote octet text other = later (46 ∷ []) quote octet text (λ before. ⊥) (λ before. ⊥)
     (λ after e q. both_ways (at_dot quote (octet ∷ text)) other (is_dot quote (octet ∷ text) after q e)) (λ before no. no)
 
--- one more octet of the first part
+-- if a text has parts, then with one octet before it that isn't a dot outside quotes it has the same parts, the first one with this octet before it
 parts_more : (quote : Option ℕ) (octet : ℕ) (text : List ℕ) (parts : List (List ℕ)) → at_dot quote (octet ∷ text) ≡ false
     → PartsFrom (open_after quote octet) text parts → PartsFrom quote (octet ∷ text) (with_prefix (octet ∷ []) parts)
 parts_more quote octet text [] other h = absurd h
@@ -89,7 +89,7 @@ same_parts text (part ∷ next ∷ more) (other ∷ second ∷ others) (rest, cu
 pub only_parts : (text : List ℕ) (parts : List (List ℕ)) → AreParts text parts → parts ≡ name_parts text
 only_parts text parts h = same_parts text parts (name_parts text) h (are_parts text)
 
--- the part before the first dot, then those after it; without a dot, one part
+-- if a text is cut at its first dot outside quotes, its parts are the part before the dot and the parts of the rest
 parts_by : (text part rest : List ℕ) (parts : List (List ℕ)) → IsCut 46 text part rest → AreParts rest parts → AreParts text (part ∷ parts)
 parts_by text part rest [] cut h = absurd h
 parts_by text part rest (next ∷ more) cut h = (rest, cut, h)
@@ -123,7 +123,7 @@ module_here : (quote : Option ℕ) (octet : ℕ) (more : List ℕ) → at_colons
 module_here None octet more e = (colons (octet ∷ more) e, refl, λ before after f q. omega arith)
 module_here (Some q) octet more e = let no : ⊥ = cc in absurd no
 
--- one more octet before a module that is found later
+-- if no `::` outside quotes begins at an octet, then what is found from it on is what is found after it, with the octet before the module
 module_more : (quote : Option ℕ) (octet : ℕ) (more : List ℕ) (read : Option (List ℕ × List ℕ)) → at_colons quote (octet ∷ more) ≡ false
     → FoundFrom (open_after quote octet) more read → FoundFrom quote (octet ∷ more) (before_module (octet ∷ []) read)
 module_more quote octet more read other = at read
@@ -152,37 +152,37 @@ pub has_no_module : (text : List ℕ) → module_after None text ≡ None → Ha
 has_no_module text is before after e closed = grind (arith, common_steps, found_from, none_open)
 
 -- two prefixes of one text that are equally long are the same
-same_fronts : (a b x y : List ℕ) → length a ≡ length b → a ++ x ≡ b ++ y → (a ≡ b) × (x ≡ y)
-same_fronts a b x y same e = (
+same_prefixes : (a b x y : List ℕ) → length a ≡ length b → a ++ x ≡ b ++ y → (a ≡ b) × (x ≡ y)
+same_prefixes a b x y same e = (
   sym (take_at a x (length b) same) ∙ ap (take (length b)) e ∙ take_at b y (length b) refl,
   sym (drop_at a x (length b) same) ∙ ap (drop (length b)) e ∙ drop_at b y (length b) refl,
 )
 
 pub one_module : (text home rest : List ℕ) → IsModuleCut text home rest → module_after None text ≡ Some (home, rest)
-one_module text home rest h = grind (arith, common_steps, found_from, none_open, is_closed, same_fronts)
+one_module text home rest h = grind (arith, common_steps, found_from, none_open, is_closed, same_prefixes)
 
 pub no_module : (text : List ℕ) → HasNoModule text → module_after None text ≡ None
 no_module text none = grind (arith, common_steps, found_from, is_closed)
 
--- without a colon outside quotes
+-- a text without a colon outside quotes has no module
 pub no_colon_outside : (text : List ℕ) → HasNoneOutside 58 text → None ≡ module_after None text
 no_colon_outside text none = sym (no_module text (λ before after e closed. none before (58 ∷ after) e closed))
 
--- `front` is at most as long as `before`, or begins with `before` and `c`
-abbrev IsBeforeOrIn : ℕ → (front before : List ℕ) → Type 0
-IsBeforeOrIn c front before = (length front ≤ length before) ⊎ ((more : List ℕ) × (front ≡ before ++ c ∷ more))
+-- `prefix` is at most as long as `before`, or begins with `before` and `c`
+abbrev IsBeforeOrIn : ℕ → (prefix before : List ℕ) → Type 0
+IsBeforeOrIn c prefix before = (length prefix ≤ length before) ⊎ ((more : List ℕ) × (prefix ≡ before ++ c ∷ more))
 
-one_longer : (c o p : ℕ) (front before : List ℕ) → o ≡ p → IsBeforeOrIn c front before → IsBeforeOrIn c (o ∷ front) (p ∷ before)
-one_longer c o p front before is (inl low) = inl (omega (arith, low))
-one_longer c o p front before is (inr (more, e)) = inr (more, λ i. is i ∷ e i)
+one_longer : (c o p : ℕ) (prefix before : List ℕ) → o ≡ p → IsBeforeOrIn c prefix before → IsBeforeOrIn c (o ∷ prefix) (p ∷ before)
+one_longer c o p prefix before is (inl low) = inl (omega (arith, low))
+one_longer c o p prefix before is (inr (more, e)) = inr (more, λ i. is i ∷ e i)
 
-before_or_in : (c : ℕ) (front before rest after : List ℕ) → front ++ rest ≡ before ++ c ∷ after → IsBeforeOrIn c front before
+before_or_in : (c : ℕ) (prefix before rest after : List ℕ) → prefix ++ rest ≡ before ++ c ∷ after → IsBeforeOrIn c prefix before
 before_or_in c [] before rest after e = inl (omega arith)
-before_or_in c (o ∷ front) [] rest after e = inr (front, let is : o ≡ c = cc in λ i. is i ∷ front)
-before_or_in c (o ∷ front) (p ∷ before) rest after e =
+before_or_in c (o ∷ prefix) [] rest after e = inr (prefix, let is : o ≡ c = cc in λ i. is i ∷ prefix)
+before_or_in c (o ∷ prefix) (p ∷ before) rest after e =
     let is : o ≡ p = cc in
-    let more : front ++ rest ≡ before ++ c ∷ after = cc in
-    one_longer c o p front before is (before_or_in c front before rest after more)
+    let more : prefix ++ rest ≡ before ++ c ∷ after = cc in
+    one_longer c o p prefix before is (before_or_in c prefix before rest after more)
 
 module_first : (home before : List ℕ) → HasNoneOutside 58 home → IsClosed before
     → IsBeforeOrIn 58 home before → length home ≤ length before

@@ -6,8 +6,8 @@ use Rattle.smi_tree.specs.declared.columns.index_part.IndexPart.TheVariants.{Tex
 use Rattle.smi_show.specs.index.Index.{ReadValues}
 use Rattle.smi_tree.specs.declared.columns.index_part.IndexPart.{IndexPart}
 use Rattle.smi_show.specs.index.Pieces.{Piece, plain_number, as_numbers, index_pieces, is_plain, is_text, is_text_among, value_numbers}
-use Rattle.smi_show.specs.private.index.Reading.{has_text, instance_pieces, values_of}
-use Rattle.smi_show.proofs.{ReadingLemmas.all_found, PieceLemmas.read_whole}
+use Rattle.smi_show.specs.private.index.IndexValues.{has_text, instance_pieces, values_of}
+use Rattle.smi_show.proofs.{IndexValues.all_found, Pieces.read_whole}
 
 values_alone : (parts : List IndexPart) (numbers : List ℕ) (values : List (List ℕ)) → ReadValues parts numbers values
     → is_text_among parts values ≡ false → as_numbers numbers ≡ index_pieces parts values

@@ -7,19 +7,19 @@ use Rattle.std.proofs.lemmas.List.Elements.{All-head, All-tail, All-drop}
 use Rattle.snmp_oid.specs.{Identifier.IsIdentifier, Numeric.IsNumericName, Numeric.numeric_text}
 use Rattle.smi_text.specs.trees.Word.{is_word}
 use Rattle.smi_show.specs.index.Pieces.{Piece, piece_numbers, IsPiece, shown_piece, shown_pieces}
-use Rattle.smi_show.specs.{private.index.Reading.instance_pieces, declared.name.error.NameError.NameError, name.Cutting.name_parts}
+use Rattle.smi_show.specs.{private.index.IndexValues.instance_pieces, declared.name.error.NameError.NameError, name.Cutting.name_parts}
 use Rattle.smi_show.specs.{name.Cutting.module_after}
 use Rattle.smi_tree.specs.Tree.{Contents}
-use Rattle.smi_tree.specs.Naming.{Standing, IsSound, LabelLeadsTo, nearest_node, oid_of_child}
+use Rattle.smi_tree.specs.Naming.{NodeView, IsSound, LabelRefersTo, nearest_node, oid_of_child}
 use Rattle.smi_show.specs.{name.Word.Word, name.Meant.Scope, name.Meant.in_module, name.Meant.anywhere, name.Meant.found_in, name.Name.qualified}
-use Rattle.smi_show.specs.{name.Name.ReadsBack, private.name.Shown.standing_text, private.name.Shown.name_text}
+use Rattle.smi_show.specs.{name.Name.ReadsBack, private.name.Shown.nearest_text, private.name.Shown.name_text}
 use Rattle.smi_value.specs.{declared.letters.NameForm.NameForm, declared.letters.NameForm.TheVariants.ModuleLabel}
 use Rattle.smi_show.specs.name.Meaning.{and_then, meaning_in, further_meaning, meaning, part_meaning, plain_meaning, scoped_meaning, word_meaning}
-use Rattle.smi_show.proofs.{NumericMeaning.fits, NumericMeaning.numeric_meaning, NumericMeaning.scoped, NumericMeaning.shorter, PieceLemmas.IsNumber}
-use Rattle.smi_show.proofs.{PieceLemmas.each, PieceLemmas.whole, PlainLemmas.plain_word, PlainLemmas.plain_word_begins, ShownLemmas.joined_module}
-use Rattle.smi_show.proofs.{ShownLemmas.joined_parts, ShownLemmas.plain_is_whole, ShownLemmas.scopes, WordLemmas.piece_word, WordLemmas.label_word}
+use Rattle.smi_show.proofs.{NumericNames.fits, NumericNames.numeric_meaning, NumericNames.scoped, NumericNames.shorter, Pieces.IsNumber}
+use Rattle.smi_show.proofs.{Pieces.each, Pieces.whole, PlainOctets.plain_word, PlainOctets.plain_word_begins, ShownWords.joined_module}
+use Rattle.smi_show.proofs.{ShownWords.joined_parts, ShownWords.plain_is_whole, ShownWords.scopes, Words.piece_word, Words.label_word}
 
--- pieces after the identifier so far
+-- reading pieces after parts that mean `so_far` appends the numbers of the pieces to it, if the identifier doesn't become too long
 further_pieces : (tree : Contents) (so_far : List ℕ) (pieces : List Piece) → All IsPiece pieces → length (so_far ++ flat_map piece_numbers pieces) ≤ 128
     → further_meaning tree so_far (map shown_piece pieces) ≡ Ok (so_far ++ flat_map piece_numbers pieces)
 further_pieces tree so_far [] all low = ap (λ (t : List ℕ). Ok t) (sym (append-nil so_far))
@@ -35,11 +35,11 @@ further_pieces tree so_far (piece ∷ pieces) all low =
     ∙ further_pieces tree next pieces (All-tail IsPiece piece pieces all) low_here
     ∙ ap (λ (t : List ℕ). Ok t) grouped
 
--- a label and pieces after it
-label_and_pieces : (tree : Contents) (scope : Scope) (label front : List ℕ) (pieces : List Piece) → is_word label ≡ true
-    → found_in tree scope label ≡ Some front → All IsPiece pieces → length (front ++ flat_map piece_numbers pieces) ≤ 128
-    → meaning_in tree scope (name_parts (label ++ shown_pieces pieces)) ≡ Ok (front ++ flat_map piece_numbers pieces)
-label_and_pieces tree scope label front pieces word found all low =
+-- a label that refers to `prefix`, with pieces after it, means `prefix` followed by the numbers of the pieces, if that isn't too long
+label_and_pieces : (tree : Contents) (scope : Scope) (label prefix : List ℕ) (pieces : List Piece) → is_word label ≡ true
+    → found_in tree scope label ≡ Some prefix → All IsPiece pieces → length (prefix ++ flat_map piece_numbers pieces) ≤ 128
+    → meaning_in tree scope (name_parts (label ++ shown_pieces pieces)) ≡ Ok (prefix ++ flat_map piece_numbers pieces)
+label_and_pieces tree scope label prefix pieces word found all low =
     grind (arith, common_steps, label_word, joined_parts, plain_is_whole, plain_word, further_pieces)
 
 -- a text that begins with a word is neither empty nor `.`
@@ -57,17 +57,18 @@ plain_label : (tree : Contents) (label rest : List ℕ) → is_word label ≡ tr
 plain_label tree [] rest h = let wrong : ⊥ = cc in absurd wrong
 plain_label tree (octet ∷ more) rest h = rw ((plain_word_begins octet more h).dot) refl
 
--- `MODULE::label`, or only the label of a root, and pieces after it
-qualified_back : (tree : Contents) (home : Option (List ℕ)) (label front : List ℕ) (pieces : List Piece) → is_word label ≡ true
-    → LabelLeadsTo tree home label front → All IsPiece pieces → length (front ++ flat_map piece_numbers pieces) ≤ 128
-    → meaning tree (qualified home label ++ shown_pieces pieces) ≡ Ok (front ++ flat_map piece_numbers pieces)
-qualified_back tree None label front pieces word found all low =
+-- `MODULE::label`, or only the label of a root, with pieces after it, means the label's identifier followed by the numbers of the pieces, if that isn't too
+-- long
+qualified_back : (tree : Contents) (home : Option (List ℕ)) (label prefix : List ℕ) (pieces : List Piece) → is_word label ≡ true
+    → LabelRefersTo tree home label prefix → All IsPiece pieces → length (prefix ++ flat_map piece_numbers pieces) ≤ 128
+    → meaning tree (qualified home label ++ shown_pieces pieces) ≡ Ok (prefix ++ flat_map piece_numbers pieces)
+qualified_back tree None label prefix pieces word found all low =
     let rest = shown_pieces pieces in
     scoped tree (label ++ rest) (begins_some label rest word) (begins_more label rest word)
     ∙ ap (scoped_meaning tree (label ++ rest)) (joined_module label pieces (plain_is_whole label (plain_word label word)) all)
     ∙ plain_label tree label rest word
-    ∙ label_and_pieces tree anywhere label front pieces word found all low
-qualified_back tree (Some home) label front pieces word (home_word, loaded, found) all low =
+    ∙ label_and_pieces tree anywhere label prefix pieces word found all low
+qualified_back tree (Some home) label prefix pieces word (home_word, loaded, found) all low =
     let rest = label ++ shown_pieces pieces in
     let text = home ++ 58 ∷ 58 ∷ rest in
     let grouped : ((home ++ 58 ∷ 58 ∷ []) ++ label) ++ shown_pieces pieces ≡ text
@@ -78,20 +79,20 @@ qualified_back tree (Some home) label front pieces word (home_word, loaded, foun
     ∙ scoped tree text (begins_some home (58 ∷ 58 ∷ rest) home_word) (begins_more home (58 ∷ 58 ∷ rest) home_word)
     ∙ ap (scoped_meaning tree text) cut
     ∙ rw loaded refl
-    ∙ label_and_pieces tree (in_module home) label front pieces word found all low
+    ∙ label_and_pieces tree (in_module home) label prefix pieces word found all low
 
 module _ (written : (o : List ℕ) → IsIdentifier o → IsNumericName (numeric_text o) o) (tree : Contents) (numeric_index : Bool) (o : List ℕ) where
-  deepest_back : IsSound tree → IsIdentifier o → (standing : Option Standing) → nearest_node tree o ≡ standing
-      → meaning tree (standing_text tree ModuleLabel numeric_index o standing) ≡ Ok o
+  deepest_back : IsSound tree → IsIdentifier o → (view : Option NodeView) → nearest_node tree o ≡ view
+      → meaning tree (nearest_text tree ModuleLabel numeric_index o view) ≡ Ok o
   deepest_back sound h None is = numeric_meaning tree (numeric_text o) o (written o h) h.short
   deepest_back sound h (Some node) is =
       let index = cond numeric_index None node.index in
       let rest : List ℕ = drop node.depth o in
       let pieces : List Piece = instance_pieces index rest in
-      let front : List ℕ = take node.depth o in
-      let same : front ++ flat_map piece_numbers pieces ≡ o = ap (λ (t : List ℕ). front ++ t) (whole index rest) ∙ take-append-drop node.depth o in
-      let low : length (front ++ flat_map piece_numbers pieces) ≤ 128 = subst (λ (t : List ℕ). length t ≤ 128) (sym same) h.short in
-      qualified_back tree node.home node.label front pieces (sound.words o node is) (sound.leads o node is)
+      let prefix : List ℕ = take node.depth o in
+      let same : prefix ++ flat_map piece_numbers pieces ≡ o = ap (λ (t : List ℕ). prefix ++ t) (whole index rest) ∙ take-append-drop node.depth o in
+      let low : length (prefix ++ flat_map piece_numbers pieces) ≤ 128 = subst (λ (t : List ℕ). length t ≤ 128) (sym same) h.short in
+      qualified_back tree node.home node.label prefix pieces (sound.words o node is) (sound.refers_to o node is)
       (each index rest (All-drop IsNumber node.depth o h.numbers)) low
       ∙ ap (λ (t : List ℕ). Ok t) same
 

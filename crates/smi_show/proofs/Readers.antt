@@ -43,21 +43,21 @@ pub some_part : (state : Option ℕ) (text : List ℕ) → parts_after state tex
 some_part state [] = refl
 some_part state (octet ∷ more) = grind (arith, common_steps, cond_both, nat_eq)
 
-front_of_front : (a b : List ℕ) (parts : List (List ℕ)) → with_prefix a (with_prefix b parts) ≡ with_prefix (a ++ b) parts
-front_of_front a b [] = refl
-front_of_front a b (part ∷ parts) = ap (λ (t : List ℕ). t ∷ parts) (sym (append_assoc a b part))
+prefix_of_prefix : (a b : List ℕ) (parts : List (List ℕ)) → with_prefix a (with_prefix b parts) ≡ with_prefix (a ++ b) parts
+prefix_of_prefix a b [] = refl
+prefix_of_prefix a b (part ∷ parts) = ap (λ (t : List ℕ). t ∷ parts) (sym (append_assoc a b part))
 
 no_dot : (state : Option ℕ) (octet : ℕ) (more : List ℕ) → Passes state octet → at_dot state (octet ∷ more) ≡ false
 no_dot None octet more h = h.0
 no_dot (Some quote) octet more h = refl
 
 pub parts_reader : IsReader with_prefix parts_after at_dot
-parts_reader = record { none = some_part; twice = front_of_front; next = λ state octet more e. rw e refl; passes = no_dot }
+parts_reader = record { none = some_part; twice = prefix_of_prefix; next = λ state octet more e. rw e refl; passes = no_dot }
 
 -- ---- the module
 
 abbrev pub before_module : List ℕ → Option (List ℕ × List ℕ) → Option (List ℕ × List ℕ)
-before_module front read = option_map (longer_module front) read
+before_module prefix read = option_map (longer_module prefix) read
 
 abbrev pub at_colons : Option ℕ → List ℕ → Bool
 at_colons state text = is_unquoted state && is_double_colon text

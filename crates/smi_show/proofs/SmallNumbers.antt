@@ -7,7 +7,7 @@ use mir.Val.{bool_byte}
 use Rattle.std.specs.Str.{bytes_eq}
 use Rattle.std.proofs.lemmas.Bool.{cases_lt, lt-ltb, le-ltb, lt-leb, le-leb}
 use Rattle.smi_show.specs.declared.index.shown.TheConstants.{SMALL}
-use Rattle.smi_show.proofs.DigitLemmas.{two_digits, digits_of_three}
+use Rattle.smi_show.proofs.Digits.{two_digits, digits_of_three}
 
 -- a number below 1000 after a dot
 abbrev dotted : ℕ → List ℕ
@@ -42,13 +42,13 @@ matched =
 pub small_entry : (n : ℕ) → n < 256 → take (length (46 ∷ decimal n)) (octets_of n) ≡ 46 ∷ decimal n
 small_entry n small = ap (λ t. take (length t) (octets_of n)) (sym (dotted_is n small)) ∙ matched n small ∙ dotted_is n small
 
--- the length of a dot and a number, by two tests
+-- the length of a dot and a number below 256 is two, and one more for each of two tests that holds
 pub small_len_is : (n a b : ℕ) → n < 256 → a ≡ bool_byte (leb 10 n) → b ≡ bool_byte (leb 100 n) → 2 + a + b ≡ length (46 ∷ decimal n)
 small_len_is n a b small tens hundreds = grind (arith, common_steps, cases_lt, lt-leb, decimal_digit, le-leb, two_digits, digits_of_three)
 
--- a prefix of the octets written after the first `a`
-pub front_behind : (a k m : ℕ) (room now part : List ℕ) → a ≤ length room → k ≤ length part → k ≤ m → take (a + m) now ≡ take a room ++ part
+-- if octets were written after the first `a` of a buffer, then the buffer continues with each prefix of them
+pub prefix_after : (a k m : ℕ) (room now part : List ℕ) → a ≤ length room → k ≤ length part → k ≤ m → take (a + m) now ≡ take a room ++ part
     → take (a + k) now ≡ take a room ++ take k part
-front_behind a k m room now part within fits fewer is =
+prefix_after a k m room now part within fits fewer is =
     sym (take-take (a + k) (a + m) now (omega (arith, fewer))) ∙ ap (take (a + k)) is
     ∙ ap (λ i. take (i + k) (take a room ++ part)) (sym (length-take-le a room within)) ∙ take-append-add (take a room) part k

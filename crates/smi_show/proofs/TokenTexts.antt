@@ -5,7 +5,7 @@ use Rattle.std.specs.List.{flat_map}
 use Rattle.smi_text.specs.{lexer.Token.Lexeme, declared.trees.tree.NamedNumber.NamedNumber, declared.trees.tree.Range.Range}
 use Rattle.smi_text.specs.{declared.trees.tree.TokenText.TokenText, declared.trees.tree.Refinement.Refinement, declared.trees.tree.Syntax.Syntax}
 use Rattle.smi_text.specs.declared.lexer.token.TokenKind.TheVariants as K
-use Rattle.smi_text.specs.trees.Mark.{Mark, spelled, on_line, sign, MarksToken, Stands}
+use Rattle.smi_text.specs.trees.Mark.{Mark, spelled, on_line, sign, MarksToken, TokensMatch}
 use Rattle.smi_text.specs.trees.Spelling.{bound, of_list, of_named_number, of_range, of_ranges, of_refinement, of_option, of_syntax}
 use Rattle.smi_text.specs.declared.trees.tree.Refinement.TheVariants as R
 use Rattle.smi_text.specs.declared.trees.tree.Syntax.TheVariants as T
@@ -31,13 +31,13 @@ token_text : (m : Mark) (t : Lexeme) → MarksToken m t → t.text ≡ text_of m
 token_text (spelled k x ok) t h = h.1
 token_text (on_line n m) t h = token_text m t h.0
 
-tokens_spaced : (ms : List Mark) (ts : List Lexeme) → Stands ms ts [] → flat_map (λ t. codes " " ++ t.text) ts ≡ spaced ms
+tokens_spaced : (ms : List Mark) (ts : List Lexeme) → TokensMatch ms ts [] → flat_map (λ t. codes " " ++ t.text) ts ≡ spaced ms
 tokens_spaced [] [] h = refl
 tokens_spaced [] (t ∷ ts) h = cc
 tokens_spaced (m ∷ ms) [] h = absurd h
 tokens_spaced (m ∷ ms) (t ∷ ts) h = grind (arith, common_steps, tokens_spaced ms ts h.1, token_text)
 
-tokens_joined : (ms : List Mark) (ts : List Lexeme) → Stands ms ts [] → joined_by_blanks ts ≡ joined ms
+tokens_joined : (ms : List Mark) (ts : List Lexeme) → TokensMatch ms ts [] → joined_by_blanks ts ≡ joined ms
 tokens_joined [] [] h = refl
 tokens_joined [] (t ∷ ts) h = cc
 tokens_joined (m ∷ ms) [] h = absurd h
@@ -46,12 +46,12 @@ tokens_joined (m ∷ ms) (t ∷ ts) h = grind (arith, common_steps, token_text, 
 spaced_append : (ms ns : List Mark) → spaced (ms ++ ns) ≡ spaced ms ++ spaced ns
 spaced_append ms ns = flat_map-append (λ (m : Mark). codes " " ++ text_of m) ms ns
 
--- between two signs
+-- if `text` is what marks are written as, then with a sign before and after it, it is what the marks between these signs are written as
 enclosed : (opens closes : Mark) (ms : List Mark) (text : List ℕ) → text ≡ spaced ms
     → (codes " " ++ text_of opens) ++ (text ++ (codes " " ++ text_of closes)) ≡ spaced (opens ∷ (ms ++ closes ∷ []))
 enclosed opens closes ms text is = rw (is, spaced_append ms (closes ∷ []), append-nil (codes " " ++ text_of closes)) refl
 
--- each part after a sign
+-- if each element is written as a sign and its marks, then all of them are written as these, one after the other
 parts_spaced : {A : Type 0} (m : Mark) (marks : A → List Mark) (text : A → List ℕ) → ((x : A) → text x ≡ spaced (m ∷ marks x)) → (xs : List A)
     → flat_map text xs ≡ spaced (flat_map (λ x. m ∷ marks x) xs)
 parts_spaced m marks text is [] = refl

@@ -15,8 +15,9 @@ separator Untyped = codes " = "
 separator Quick = codes " "
 
 -- the text before the value: the name and the separator, or nothing with the letter v
-abbrev pub front_text : Letters → List ℕ → List ℕ
-front_text letters name = if letters.value_alone then codes "" else name ++ separator letters.types
+abbrev pub text_before_value : Letters → List ℕ → List ℕ
+text_before_value letters name = if letters.value_alone then codes "" else name
+    ++ separator letters.types
 
 -- `text` shows `value`, the value of the instance `name`, by `letters` and the syntax of its
 -- object. `names` maps each identifier to its name by `letters`.
@@ -33,7 +34,7 @@ pub record IsLine (tree : Contents) (letters : Letters) (name : List ℕ) (value
   pub is_name : IsName tree letters.names letters.numeric_index name shown_name
   pub shown : List ℕ
   pub is_value : IsValueText tree letters name value shown
-  pub whole : text ≡ front_text letters shown_name ++ shown ++ codes "\n"
+  pub whole : text ≡ text_before_value letters shown_name ++ shown ++ codes "\n"
 
 -- ---- for private functions
 

@@ -6,8 +6,8 @@ ghost use Rattle.snmp_wire.specs.ber.Value.{Datum, datum};
 ghost use Rattle.smi_value.specs.Value.{ShowsValue};
 ghost use Rattle.smi_value.specs.declared.letters.Letters.{Letters};
 ghost use Rattle.smi_tree.specs.{Found.IsFound, Tree.Contents};
-ghost use Rattle.smi_tree.specs.Naming.{nearest_node, nearest_syntax, standing_of};
-ghost use Rattle.smi_show.specs.Line.{IsLine, IsValueText, front_text, names_by, separator};
+ghost use Rattle.smi_tree.specs.Naming.{nearest_node, nearest_syntax, view_of};
+ghost use Rattle.smi_show.specs.Line.{IsLine, IsValueText, text_before_value, names_by, separator};
 
 use crate::name::{name_by_node, name_text};
 use smi_tree::{Found, Near, NearestNode, Tree};
@@ -112,25 +112,25 @@ fn append_parts(
 )
     requires { IsFound tree.now name.now found.now }
     ensures { let names = names_by tree.now letters.now in
-        let front = front_text letters.now (names name.now) in (text : List ℕ)
+        let prefix = text_before_value letters.now (names name.now) in (text : List ℕ)
         × ShowsValue names letters.now (nearest_syntax tree.now name.now) (datum value.now) text
-        × Adds draft.old (front ++ text) draft.new }
+        × Adds draft.old (prefix ++ text) draft.new }
 {
-    append_front(tree, letters, name, found.node, draft);
+    append_before_value(tree, letters, name, found.node, draft);
     append_shown(tree, letters, found.syntax.as_ref(), value, draft);
 }
 
 /// Appends the name and the separator after it, or nothing if only the value is shown.
-fn append_front(
+fn append_before_value(
     tree: &Tree,
     letters: &Letters,
     name: &Oid,
     node: Option<NearestNode<'_>>,
     draft: &mut Draft,
 )
-    requires { option_map standing_of node ≡ nearest_node tree.now name.now }
+    requires { option_map view_of node ≡ nearest_node tree.now name.now }
     ensures { let shown = names_by tree.now letters.now name.now in
-        Adds draft.old (front_text letters.now shown) draft.new }
+        Adds draft.old (text_before_value letters.now shown) draft.new }
 {
     if !letters.value_alone {
         name_by_node(

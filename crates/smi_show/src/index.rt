@@ -10,7 +10,7 @@ mod part;
 mod shown;
 
 pub use part::{one_part_reading, read_part};
-pub use shown::{index_text, is_quotable, numbers_text, pieces_stand_for_numbers};
+pub use shown::{index_text, is_quotable, numbers_text, pieces_represent_numbers};
 use smi_tree::IndexPart;
 
 /// Returns whether `numbers` consists of one encoded value for each of `parts`, one after the other
@@ -32,7 +32,7 @@ pub fn reads(parts: &[IndexPart], numbers: &[u32]) -> bool
 /// A list of numbers encodes at most one list of values.
 ///
 /// A law: the call does nothing, and its caller may use what it ensures.
-#[tactic(auto, using(crate::proofs::ReadingLemmas::one_reading_of_all))]
+#[tactic(auto, using(crate::proofs::IndexValues::one_reading_of_all))]
 #[inline]
 pub fn one_list()
     ensures { (parts : List IndexPart) (numbers : List ℕ) (values others : List (List ℕ))

@@ -7,7 +7,7 @@ ghost use Rattle.std.specs.Prelude.{Some, None};
 ghost use Rattle.std.specs.Option.{option_copied};
 ghost use Rattle.snmp_oid.specs.Numeric.{numeric_text};
 ghost use Rattle.snmp_io.specs.Draft.{Adds};
-ghost use Rattle.smi_tree.specs.Naming.{standing_of, nearest_node};
+ghost use Rattle.smi_tree.specs.Naming.{view_of, nearest_node};
 ghost use Rattle.smi_show.specs.name.Name.{arc_text, node_text, path_text, qualified};
 ghost use Rattle.smi_show.specs.private.name.Shown.{instance_text, name_text};
 
@@ -50,7 +50,7 @@ pub fn name_by_node(
     node: Option<NearestNode<'_>>,
     draft: &mut Draft,
 )
-    requires { option_map standing_of node ≡ nearest_node tree.now oid.now }
+    requires { option_map view_of node ≡ nearest_node tree.now oid.now }
     ensures { Adds draft.old (name_text tree.now form numeric_index oid.now) draft.new }
 {
     tree.is_sound();
@@ -76,19 +76,19 @@ pub fn numeric(oid: &Oid, draft: &mut Draft)
 /// Appends the name of `node` in the form `form`, or nothing in the numeric form.
 fn node_text(tree: &Tree, form: NameForm, oid: &Oid, node: NearestNode<'_>, draft: &mut Draft)
     requires { node.depth ≤ length oid.now }
-    ensures { let text = node_text tree.now form oid.now (standing_of node.entry) in
+    ensures { let text = node_text tree.now form oid.now (view_of node.entry) in
         Adds draft.old text draft.new }
 {
     match form {
         NameForm::Numeric => {}
         NameForm::Full => path(tree, &oid.as_slice()[..node.depth], draft),
         NameForm::Label => draft.octets(node.label),
-        NameForm::ModuleLabel => qualified(node, draft),
+        NameForm::ModuleLabel => append_qualified(node, draft),
     }
 }
 
 /// Appends `MODULE::label`, or only the label for a built-in root, which has no module.
-fn qualified(node: NearestNode<'_>, draft: &mut Draft)
+fn append_qualified(node: NearestNode<'_>, draft: &mut Draft)
     ensures { let text = qualified (option_copied node.entry.home) node.entry.label.now in
         Adds draft.old text draft.new }
 {
@@ -114,8 +114,8 @@ fn path(tree: &Tree, numbers: &[u32], draft: &mut Draft)
 
 /// Appends a dot and the label of the node at `here`, or `number` if there is none.
 fn arc(tree: &Tree, here: &Oid, number: u32, near: &mut Near, draft: &mut Draft)
-    ensures { let standing = nearest_node tree.now here.now in
-        Adds draft.old (codes "." ++ arc_text standing here.now number) draft.new }
+    ensures { let view = nearest_node tree.now here.now in
+        Adds draft.old (codes "." ++ arc_text view here.now number) draft.new }
 {
     draft.octet(b'.');
     match tree.nearest_from(here, near) {
@@ -127,7 +127,7 @@ fn arc(tree: &Tree, here: &Oid, number: u32, near: &mut Near, draft: &mut Draft)
 /// Appends the numbers after `node`: by its index, or as numbers if it has none or `numeric_index`.
 fn instance_text(numeric_index: bool, oid: &Oid, node: NearestNode<'_>, draft: &mut Draft)
     requires { node.depth ≤ length oid.now }
-    ensures { let text = instance_text numeric_index oid.now (standing_of node.entry) in
+    ensures { let text = instance_text numeric_index oid.now (view_of node.entry) in
         Adds draft.old text draft.new }
 {
     let rest = &oid.as_slice()[node.depth..];

@@ -29,7 +29,8 @@ pub fn name_text(
     draft.finish(out)
 }
 
-/// An identifier has only one name in a given form and tree.
+/// In a given tree, an identifier has only one name in each form, and with its index shown in each
+/// way.
 ///
 /// A law: the call does nothing, and its caller may use what it ensures.
 #[tactic(auto, using(crate::proofs::NamesStated::same_name))]

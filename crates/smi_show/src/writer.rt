@@ -33,12 +33,13 @@ impl<'t> Model for LineWriter<'t> {
 
     ghost view = { λ w. w.tree.now };
 
-    // If `below` in `found` is an identifier, `found` is what the tree finds for each name below it.
+    // If `below` in `found` is an identifier, `found` is what the tree finds for each name below
+    // it.
     ghost invariant = { λ w. IsFoundBelow w.tree.now w.found };
 }
 
 impl<'t> LineWriter<'t> {
-    /// Returns a writer of lines by `tree`.
+    /// Returns a writer of lines that looks up names and types in `tree`.
     pub fn new(tree: &'t Tree) -> LineWriter<'t>
         ensures { result ≡ tree.now }
     {

@@ -7,7 +7,7 @@ use Rattle.std.proofs.lemmas.Bool.{and_parts, eqb-true, not-true}
 use Rattle.smi_text.specs.declared.lexer.token.TokenKind.{TokenKind}
 use Rattle.smi_text.specs.declared.lexer.token.TokenKind.TheVariants as K
 use Rattle.smi_text.specs.{declared.trees.tree.TokenText.TokenText, trees.Mark.same_kind, private.Grammar.depth_after, private.Grammar.is_outside}
-use Rattle.smi_text.specs.trees.Braces.{opening_braces, closing_braces, fronts, has_balanced_braces}
+use Rattle.smi_text.specs.trees.Braces.{opening_braces, closing_braces, prefixes, has_balanced_braces}
 use Rattle.smi_text.proofs.Marks.{same_kind-eq}
 use Rattle.smi_text.specs.trees.Braces.{IsBalanced, none, other, nested}
 
@@ -18,10 +18,10 @@ is_balanced depth (x ∷ xs) = not (is_outside x.kind depth) && is_balanced (dep
 
 -- a prefix closes no more braces than it opens, with d braces open before it
 abbrev is_within : ℕ → List TokenText → Bool
-is_within d front = nat_le (closing_braces front) (d + opening_braces front)
+is_within d prefix = nat_le (closing_braces prefix) (d + opening_braces prefix)
 
 abbrev is_whole : ℕ → List TokenText → Bool
-is_whole d xs = list_all (is_within d) (fronts xs) && d + opening_braces xs == closing_braces xs
+is_whole d xs = list_all (is_within d) (prefixes xs) && d + opening_braces xs == closing_braces xs
 
 all-same : {A : Type 0} (p q : A → Bool) → ((x : A) → p x ≡ q x) → (xs : List A) → list_all p xs ≡ list_all q xs
 all-same p q h [] = refl
@@ -34,7 +34,7 @@ opens k = if same_kind k K.OpenBrace then 1 else 0
 abbrev closes : TokenKind → ℕ
 closes k = if same_kind k K.CloseBrace then 1 else 0
 
--- the first token of a list is counted
+-- the opening braces of a list are those of its first token and those of the others
 opening-cons : (x : TokenText) (xs : List TokenText) → opening_braces (x ∷ xs) ≡ opens x.kind + opening_braces xs
 opening-cons x xs = sum_by-cons (λ y. opens y.kind) x xs
 
@@ -51,12 +51,12 @@ shifted d n o c e a b = (grind arith, grind arith)
 step : (d n : ℕ) (x : TokenText) (xs : List TokenText) → d + opens x.kind ≡ n + closes x.kind → is_whole d (x ∷ xs) ≡ is_whole n xs
 step d n x xs e = grind (arith, common_steps, shifted, within-none, list_all-map, all-same, opening-cons, closing-cons)
 
-fronts-first : (p : List TokenText → Bool) (xs : List TokenText) → p [] ≡ false → list_all p (fronts xs) ≡ false
-fronts-first p [] h = rw h refl
-fronts-first p (x ∷ xs) h = rw h refl
+prefixes-first : (p : List TokenText → Bool) (xs : List TokenText) → p [] ≡ false → list_all p (prefixes xs) ≡ false
+prefixes-first p [] h = rw h refl
+prefixes-first p (x ∷ xs) h = rw h refl
 
 outside : (d : ℕ) (x : TokenText) (xs : List TokenText) → is_outside x.kind d ≡ true → is_whole d (x ∷ xs) ≡ false
-outside d x xs o = grind (arith, common_steps, and_parts, opening-cons, closing-cons, same_kind-eq, list_all-map, fronts-first, eqb-true, within-none)
+outside d x xs o = grind (arith, common_steps, and_parts, opening-cons, closing-cons, same_kind-eq, list_all-map, prefixes-first, eqb-true, within-none)
 
 depth-counted : (k : TokenKind) (d : ℕ) → is_outside k d ≡ false → d + opens k ≡ depth_after k d + closes k
 depth-counted k d o = grind (arith, common_steps)
@@ -66,13 +66,13 @@ unfolding is_balanced
 counted-as d [] = rw (within-none d) (grind arith)
 counted-as d (x ∷ xs) = grind (arith, common_steps, outside, step, depth-counted, counted-as (depth_after x.kind d) xs)
 
-pub fronts_counted : (xs : List TokenText) → has_balanced_braces xs ≡ is_balanced 0 xs
+pub prefixes_counted : (xs : List TokenText) → has_balanced_braces xs ≡ is_balanced 0 xs
 unfolding has_balanced_braces
-fronts_counted xs = simp (is_within, zero-add) at (counted-as 0 xs)
+prefixes_counted xs = simp (is_within, zero-add) at (counted-as 0 xs)
 
 -- ---- balanced tokens leave the count as it was
 
--- a token that isn't a brace
+-- a token that isn't a brace never closes a brace too many, and doesn't change the depth
 passing : (k : TokenKind) (d : ℕ) → k ≢ K.OpenBrace → k ≢ K.CloseBrace → (is_outside k d ≡ false) × (depth_after k d ≡ d)
 passing k d o c = grind (arith, common_steps)
 
@@ -104,7 +104,7 @@ closes-opening (suc d) x xs k (inner, last, rest, e, l, b, (more, end, after, f,
     let split : xs ≡ (inner ++ last ∷ more) ++ end ∷ after = e ∙ ap (λ ys. inner ++ last ∷ ys) f ∙ sym (append_assoc inner (last ∷ more) (end ∷ after)) in
     (x ∷ (inner ++ last ∷ more), end, after, ap (λ ys. x ∷ ys) split, g, nested x last inner more k l b h, c)
 
--- one more token, of each kind
+-- if the tokens `xs` close the braces that are open after `x`, then `x` followed by `xs` closes those open before it
 closes-more : (k : TokenKind) (d : ℕ) (x : TokenText) (xs : List TokenText) → x.kind ≡ k → is_outside k d ≡ false → Closes (depth_after k d) xs
     → Closes d (x ∷ xs)
 closes-more K.OpenBrace d x xs e inside c = closes-opening d x xs e (rw add-one at c)

@@ -3,7 +3,7 @@ use Rattle.std.proofs.Common.{arith, ◌≡◌, ℕ, true, List, [], ◌∷◌, 
 use Rattle.std.proofs.{lemmas.Grind.common_steps, lemmas.Bool.eqb-true}
 use Rattle.std.specs.Char.{is_ascii_lowercase, is_ascii_uppercase, is_ascii_digit}
 use Rattle.smi_text.specs.{declared.lexer.class.Class.Class, declared.lexer.token.TokenKind.TokenKind, lexer.Lexeme.IsLexeme, lexer.Lexeme.is_blank}
-use Rattle.smi_text.specs.{lexer.Reading.class_of, lexer.Reading.symbol_among}
+use Rattle.smi_text.specs.{lexer.LongestMatch.class_of, lexer.LongestMatch.symbol_among}
 use Rattle.smi_text.specs.declared.lexer.class.Class.TheVariants as C
 
 -- the octet is as its class says

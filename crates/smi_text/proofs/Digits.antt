@@ -20,7 +20,7 @@ worth-digit base n c cs = grind (arith, common_steps, pow-succ', mul_assoc, mul_
 pub worth-grows : (base n : ℕ) (cs : List ℕ) → 0 < base → n ≤ worth base n cs
 worth-grows base n cs h = grind (arith, common_steps, le-mul_of_pos_right, one-le-pow)
 
--- after one more digit
+-- the value of the digits from index `i` on, with `n` before them, is that of the digits after the first of them, with `n` and that digit before them
 pub worth_step : (base n i : ℕ) (cs : List ℕ) → i < length cs
     → worth base n (drop i cs) ≡ worth base (base * n + digit_value (get_or cs i 0)) (drop (i + 1) cs)
 worth_step base n i cs h = rw (add-one, drop-cons cs i 0) (worth-digit base n (get_or cs i 0) (drop (suc i) cs))

@@ -6,39 +6,39 @@ use Rattle.std.specs.List.{flat_map, list_any, list_all}
 use Rattle.smi_text.specs.{lexer.Token.Lexeme, lexer.Token.Item, trees.Mark.Mark, trees.Mark.same_text, trees.Spelling.of_def, trees.Spelling.of_head}
 use Rattle.smi_text.specs.{trees.Spelling.spelling, Text.HasNoDoubles, Text.HasSecond, Text.DefinesAgain, trees.Lookup.labels}
 use Rattle.smi_text.specs.{trees.Lookup.are_distinct, declared.modules.Head.Head, declared.trees.tree.Def.Def, declared.trees.tree.Module.Module}
-use Rattle.smi_text.specs.private.Format.{StandsAhead, Format, Parsed, begins, apart, with_front, before, many, pair, shaped, lower}
+use Rattle.smi_text.specs.private.Format.{ItemsMatch, Format, Parsed, begins, apart, prepend, before, many, pair, shaped, lower}
 use Rattle.smi_text.specs.private.Grammar.{definition, file, head, module_text}
 use Rattle.smi_text.proofs.{Lawful.Lawful, Laws.starts-with, Laws.some-inj, Productions.all, Shorter.definition-solid, Shorter.module_text-solid}
 use Rattle.smi_text.proofs.{FileSteps.read-label, FileSteps.spelled-label, FileSteps.same-sym, Tokens.all_tokens, Tokens.taken-tokens}
-use Rattle.smi_text.proofs.{Marks.StandsAhead-split, Marks.apart-false, Marks.map-inv, Many.many-fails, Many.many-goes_on}
+use Rattle.smi_text.proofs.{Marks.ItemsMatch-split, Marks.apart-false, Marks.map-inv, Many.many-fails, Many.many-goes_on}
 use Rattle.smi_text.proofs.ProductionLaws.{definition-law, head-law, module_text-law}
 
-fronts-inv : {A : Type 0} (xs : List A) (r : Parsed (List A)) (ys : List A) (rest : List Item) → with_front xs r ≡ Some (ys, rest)
+prefixes-inv : {A : Type 0} (xs : List A) (r : Parsed (List A)) (ys : List A) (rest : List Item) → prepend xs r ≡ Some (ys, rest)
     → (zs : List A) × (r ≡ Some (zs, rest)) × (ys ≡ xs ++ zs)
-unfolding with_front
-fronts-inv xs None ys rest h = absurd (cc)
-fronts-inv {A} xs (Some p) ys rest h = grind (arith, common_steps, some-inj)
+unfolding prepend
+prefixes-inv xs None ys rest h = absurd (cc)
+prefixes-inv {A} xs (Some p) ys rest h = grind (arith, common_steps, some-inj)
 
 -- if parts are spelled before another part of the same kind, then they are read first, and then that one
 module _ {A : Type 0} {s : A → List Mark} {f : Format A} (law : Lawful s f) (solid : f.empty ≡ false) (far : apart f.stop f.first ≡ true) where
-  begin-again : (xs : List A) (ts mid : List Item) → StandsAhead (flat_map s xs) ts mid → begins f.first mid ≡ true → begins f.first ts ≡ true
+  begin-again : (xs : List A) (ts mid : List Item) → ItemsMatch (flat_map s xs) ts mid → begins f.first mid ≡ true → begins f.first ts ≡ true
   begin-again [] ts mid h b = ap (begins f.first) h ∙ b
-  begin-again (x ∷ xs) ts mid h b = grind (arith, common_steps, StandsAhead-split, starts-with)
+  begin-again (x ∷ xs) ts mid h b = grind (arith, common_steps, ItemsMatch-split, starts-with)
 
-  many-before : (xs : List A) (ts mid rest : List Item) (ys : List A) → StandsAhead (flat_map s xs) ts mid → begins f.first mid ≡ true
+  many-before : (xs : List A) (ts mid rest : List Item) (ys : List A) → ItemsMatch (flat_map s xs) ts mid → begins f.first mid ≡ true
       → (many f).read ts ≡ Some (ys, rest) → (x : A) × (more : List A) × (after : List Item) × (f.read mid ≡ Some (x, after)) × (ys ≡ xs ++ x ∷ more)
   many-before [] ts mid rest ys h b r =
       elim (f.read mid) as (λ o. f.read mid ≡ o → (x : A) × (more : List A) × (after : List Item) × (f.read mid ≡ Some (x, after))
       × (ys ≡ x ∷ more)) [
         | None ↦ λ e. absurd (cc (h, r, many-fails f mid b e))
         | Some p ↦ λ e.
-            let q = fronts-inv (p.0 ∷ []) ((many f).read p.1) ys rest (sym (many-goes_on law solid p.0 mid p.1 b e) ∙ rw h at r) in
+            let q = prefixes-inv (p.0 ∷ []) ((many f).read p.1) ys rest (sym (many-goes_on law solid p.0 mid p.1 b e) ∙ rw h at r) in
             (p.0, q.0, p.1, e, q.2)
       ] refl
   many-before (x ∷ xs) ts mid rest ys h b r =
-      let p = StandsAhead-split (s x) (flat_map s xs) ts mid h in
+      let p = ItemsMatch-split (s x) (flat_map s xs) ts mid h in
       let read = law.again x ts p.0 p.1 (apart-false f.stop f.first p.0 far (begin-again xs p.0 mid p.2 b)) in
-      let q = fronts-inv (x ∷ []) ((many f).read p.0) ys rest (sym (many-goes_on law solid x ts p.0 (starts-with law solid x ts p.0 p.1) read) ∙ r) in
+      let q = prefixes-inv (x ∷ []) ((many f).read p.0) ys rest (sym (many-goes_on law solid x ts p.0 (starts-with law solid x ts p.0 p.1) read) ∙ r) in
       let later = many-before xs p.0 mid rest q.0 p.2 b q.1 in
       (later.0, later.1, later.2, later.3, cc (q.2, later.4))
 
@@ -58,9 +58,9 @@ unfolding all
 definition-apart = refl
 
 module _ (line : ℕ) (body : List Lexeme) (s : HasSecond line body) where
-  halves : (mid : List Item) × StandsAhead (flat_map of_def s.before) (all_tokens body) mid × StandsAhead (of_def s.second) mid (all_tokens s.rest)
-  halves = StandsAhead-split (flat_map of_def s.before) (of_def s.second) (all_tokens body) (all_tokens s.rest)
-      (taken-tokens (flat_map of_def s.before ++ of_def s.second) body s.rest s.stands)
+  halves : (mid : List Item) × ItemsMatch (flat_map of_def s.before) (all_tokens body) mid × ItemsMatch (of_def s.second) mid (all_tokens s.rest)
+  halves = ItemsMatch-split (flat_map of_def s.before) (of_def s.second) (all_tokens body) (all_tokens s.rest)
+      (taken-tokens (flat_map of_def s.before ++ of_def s.second) body s.rest s.matched)
 
   second-ahead : begins definition.first halves.0 ≡ true
   second-ahead = starts-with definition-law definition-solid s.second halves.0 (all_tokens s.rest) halves.2
@@ -97,10 +97,10 @@ module-inv ts body h m rest e r =
     ] refl
 
 module _ (line : ℕ) (tokens : List Lexeme) (d : DefinesAgain line tokens) where
-  opened : (mid : List Item) × StandsAhead (spelling d.modules) (all_tokens tokens) mid
-      × StandsAhead (of_head d.name d.heading d.imports) mid (all_tokens d.body)
-  opened = StandsAhead-split (spelling d.modules) (of_head d.name d.heading d.imports) (all_tokens tokens) (all_tokens d.body)
-      (taken-tokens (spelling d.modules ++ of_head d.name d.heading d.imports) tokens d.body d.stands)
+  opened : (mid : List Item) × ItemsMatch (spelling d.modules) (all_tokens tokens) mid
+      × ItemsMatch (of_head d.name d.heading d.imports) mid (all_tokens d.body)
+  opened = ItemsMatch-split (spelling d.modules) (of_head d.name d.heading d.imports) (all_tokens tokens) (all_tokens d.body)
+      (taken-tokens (spelling d.modules ++ of_head d.name d.heading d.imports) tokens d.body d.matched)
 
   abbrev top : Head
   top = record { name = d.name; heading = d.heading; imports = d.imports }

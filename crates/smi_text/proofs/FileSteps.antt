@@ -10,16 +10,16 @@ use Rattle.smi_text.specs.{trees.Lookup.are_distinct, declared.trees.tree.Def.De
 use Rattle.smi_text.specs.{declared.trees.tree.DefKind.DefKind, declared.trees.tree.Module.Module, private.Names.has, declared.error.Stop.Stop}
 use Rattle.smi_text.specs.{declared.error.ParseError.ParseError, declared.modules.Head.Head}
 use Rattle.smi_text.specs.trees.Mark.{Mark, MarksToken, spelled, on_line, same_text}
-use Rattle.smi_text.specs.private.Format.{StandsAhead, Ahead, begins, many, with_front, shaped, pair, before, lower}
+use Rattle.smi_text.specs.private.Format.{ItemsMatch, Ahead, begins, many, prepend, shaped, pair, before, lower}
 use Rattle.smi_text.specs.private.Grammar.{definition, file, head, module_text}
 use Rattle.smi_text.specs.trees.Spelling.{label, of_def, spelling, of_head, of_module}
 use Rattle.smi_text.specs.private.Returned.{text_ahead, is_memory, error_of, NewDefinitionFault, ReadsDefinitions, DefinitionsFault, ReadsModule}
 use Rattle.smi_text.specs.private.Returned.{ModuleFault, ReadsModules, ModulesFault}
-use Rattle.smi_text.proofs.{Marks.StandsAhead-append, Laws.starts-with, Laws.some-inj, Tokens.taken-stands, Tokens.Stands-append}
+use Rattle.smi_text.proofs.{Marks.ItemsMatch-append, Laws.starts-with, Laws.some-inj, Tokens.taken-matched, Tokens.TokensMatch-append}
 use Rattle.smi_text.proofs.ProductionLaws.{definition-law, head-law, module_text-law}
 use Rattle.smi_text.specs.declared.error.ParseError.TheVariants as E
-use Rattle.smi_text.proofs.Many.{reading-shorter, many-fails, many-goes_on, many-done, with_front-append, with_front-none, with_front-end}
-use Rattle.smi_text.proofs.Many.{with_front_nil}
+use Rattle.smi_text.proofs.Many.{reading-shorter, many-fails, many-goes_on, many-done, prepend-append, prepend-none, prepend-end}
+use Rattle.smi_text.proofs.Many.{with_prefix_nil}
 use Rattle.smi_text.proofs.Shorter.{definition-solid, module_text-solid}
 
 -- the label of a definition is the text of its first token
@@ -37,7 +37,7 @@ label-text : (x : Name) (k : DefKind) → mark_text (label x k) ≡ x.octets
 unfolding mark_text
 label-text x k = grind (arith, common_steps)
 
-pub spelled-label : (d : Def) (ts rest : List Item) → StandsAhead (of_def d) ts rest → d.label.octets ≡ text_ahead ts
+pub spelled-label : (d : Def) (ts rest : List Item) → ItemsMatch (of_def d) ts rest → d.label.octets ≡ text_ahead ts
 unfolding mark_text
 spelled-label d (Ok t ∷ ts) rest h = sym (label-text d.label d.kind) ∙ fits-text (label d.label d.kind) t h.0.0
 spelled-label d _ rest h = absurd h
@@ -50,11 +50,11 @@ read-label d ts rest h = spelled-label d ts rest (definition-law.takes ts rest d
 flat-more : {A : Type 0} (f : A → List Mark) (xs : List A) (x : A) → flat_map f (xs ++ x ∷ []) ≡ flat_map f xs ++ f x
 flat-more f xs x = flat_map-append f xs (x ∷ []) ∙ ap (λ (ms : List Mark). flat_map f xs ++ ms) (append-nil (f x))
 
-pub stands-more : {A : Type 0} (f : A → List Mark) (xs : List A) (x : A) (ts mid rest : List Item) → StandsAhead (flat_map f xs) ts mid
-    → StandsAhead (f x) mid rest
-    → StandsAhead (flat_map f (xs ++ x ∷ [])) ts rest
-stands-more f xs x ts mid rest h k =
-    rw (flat-more f xs x) (StandsAhead-append (flat_map f xs) (f x) ts mid rest h k)
+pub matched-more : {A : Type 0} (f : A → List Mark) (xs : List A) (x : A) (ts mid rest : List Item) → ItemsMatch (flat_map f xs) ts mid
+    → ItemsMatch (f x) mid rest
+    → ItemsMatch (flat_map f (xs ++ x ∷ [])) ts rest
+matched-more f xs x ts mid rest h k =
+    rw (flat-more f xs x) (ItemsMatch-append (flat_map f xs) (f x) ts mid rest h k)
 
 any-more : (x : List ℕ) (ys : List (List ℕ)) (y : List ℕ) → list_any (same_text x) (ys ++ y ∷ []) ≡ (same_text x y || list_any (same_text x) ys)
 any-more x ys y = grind (arith, common_steps, list_any-append, or-false, or_comm)
@@ -87,20 +87,20 @@ nothing-begins cs = refl
 -- definitions
 
 pub record HasRead (names : BTreeSet (ℕ × Bor (List ℕ))) (defs : List Def) (from now : List Item) : Type 0 where
-  pub left : with_front defs ((many definition).read now) ≡ (many definition).read from
-  pub stands : StandsAhead (flat_map of_def defs) from now
+  pub left : prepend defs ((many definition).read now) ≡ (many definition).read from
+  pub matched : ItemsMatch (flat_map of_def defs) from now
   pub named : (x : List ℕ) → has names x ≡ list_any (same_text x) (labels defs)
   pub distinct : are_distinct (labels defs) ≡ true
 
 pub has_read-start : (names : BTreeSet (ℕ × Bor (List ℕ))) (defs : List Def) (ts : List Item) → names.keys ≡ [] → defs ≡ [] → HasRead names defs ts ts
-has_read-start names defs ts e d = grind (arith, common_steps, with_front_nil)
+has_read-start names defs ts e d = grind (arith, common_steps, with_prefix_nil)
 
 module _ (names : BTreeSet (ℕ × Bor (List ℕ))) (defs : List Def) (from now : List Item) (have : HasRead names defs from now) where
   pub has_read-done : begins definition.first now ≡ false → ReadsDefinitions defs from now
-  has_read-done b = grind (arith, common_steps, many-done, with_front-end)
+  has_read-done b = grind (arith, common_steps, many-done, prepend-end)
 
   pub has_read-stuck : begins definition.first now ≡ true → definition.read now ≡ None → (many definition).read from ≡ None
-  has_read-stuck b e = sym have.left ∙ with_front-none defs _ (many-fails definition now b e)
+  has_read-stuck b e = sym have.left ∙ prepend-none defs _ (many-fails definition now b e)
 
   module _ (x : List ℕ) (d : Def) (rest : List Item) (ahead : begins definition.first now ≡ true) (label : x ≡ text_ahead now)
       (read : definition.read now ≡ Some (d, rest)) where
@@ -115,8 +115,8 @@ module _ (names : BTreeSet (ℕ × Bor (List ℕ))) (defs : List Def) (from now 
     has_read-next more new added =
         let step = many-goes_on definition-law definition-solid d now rest ahead read in
         record {
-          left = with_front-append defs (d ∷ []) _ ∙ ap (with_front defs) (sym step) ∙ have.left;
-          stands = stands-more of_def defs d from now rest have.stands (definition-law.takes now rest d read);
+          left = prepend-append defs (d ∷ []) _ ∙ ap (prepend defs) (sym step) ∙ have.left;
+          matched = matched-more of_def defs d from now rest have.matched (definition-law.takes now rest d read);
           named = λ y. added y ∙ ap (λ (b : Bool). same_text x y || b) (have.named y)
               ∙ ap (λ (z : List ℕ). same_text z y || list_any (same_text y) (labels defs)) (sym same-label) ∙ sym (among-more defs d y);
           distinct = distinct-more defs d have.distinct (ap (λ (z : List ℕ). list_any (same_text z) (labels defs)) same-label ∙ sym (have.named x) ∙ new);
@@ -128,8 +128,8 @@ module _ (names : BTreeSet (ℕ × Bor (List ℕ))) (defs : List Def) (from now 
       once = have.distinct;
       second = d;
       rest = tokens_of rest;
-      stands = taken-stands (flat_map of_def defs ++ of_def d) from rest
-          (StandsAhead-append (flat_map of_def defs) (of_def d) from now rest have.stands (definition-law.takes now rest d read));
+      matched = taken-matched (flat_map of_def defs ++ of_def d) from rest
+          (ItemsMatch-append (flat_map of_def defs) (of_def d) from now rest have.matched (definition-law.takes now rest d read));
       defined = ap (λ (z : List ℕ). list_any (same_text z) (labels defs)) same-label ∙ sym (have.named x) ∙ again;
       on_line = refl;
     }
@@ -158,7 +158,7 @@ module _ (ts mid : List Item) (h : Head) (read : head.read ts ≡ Some (h, mid))
     heading = h.heading;
     imports = h.imports;
     body = tokens_of mid;
-    stands = taken-stands (of_head h.name h.heading h.imports) ts mid (head-law.takes ts mid h read);
+    matched = taken-matched (of_head h.name h.heading h.imports) ts mid (head-law.takes ts mid h read);
     twice = f;
   }
   module-defs E.Memory f = tt
@@ -167,17 +167,17 @@ module _ (ts mid : List Item) (h : Head) (read : head.read ts ≡ Some (h, mid))
 -- modules
 
 pub record HasModules (ms : List Module) (from now : List Item) : Type 0 where
-  pub left : with_front ms ((many module_text).read now) ≡ file.read from
-  pub stands : StandsAhead (spelling ms) from now
+  pub left : prepend ms ((many module_text).read now) ≡ file.read from
+  pub matched : ItemsMatch (spelling ms) from now
   pub distinct : HasNoDoubles ms
 
 pub has_modules-start : (ms : List Module) (ts : List Item) → ms ≡ [] → HasModules ms ts ts
 unfolding file
-has_modules-start ms ts e = grind (arith, common_steps, with_front_nil)
+has_modules-start ms ts e = grind (arith, common_steps, with_prefix_nil)
 
 module _ (ms : List Module) (from now : List Item) (have : HasModules ms from now) where
   pub has_modules-done : now ≡ [] → ReadsModules ms from
-  has_modules-done e = grind (arith, common_steps, many-done, nothing-begins, with_front-end)
+  has_modules-done e = grind (arith, common_steps, many-done, nothing-begins, prepend-end)
 
   pub has_modules-shorter : (m : Module) (rest : List Item) → ReadsModule m now rest → length rest < length now
   has_modules-shorter m rest r = reading-shorter module_text-law module_text-solid m now rest r.read
@@ -187,13 +187,13 @@ module _ (ms : List Module) (from now : List Item) (have : HasModules ms from no
       let ahead = starts-with module_text-law module_text-solid m now rest (module_text-law.takes now rest m r.read) in
       let step = many-goes_on module_text-law module_text-solid m now rest ahead r.read in
       record {
-        left = with_front-append ms (m ∷ []) _ ∙ ap (with_front ms) (sym step) ∙ have.left;
-        stands = stands-more of_module ms m from now rest have.stands (module_text-law.takes now rest m r.read);
+        left = prepend-append ms (m ∷ []) _ ∙ ap (prepend ms) (sym step) ∙ have.left;
+        matched = matched-more of_module ms m from now rest have.matched (module_text-law.takes now rest m r.read);
         distinct = no-doubles-more ms m have.distinct r.distinct;
       }
 
   stuck : module_text.read now ≡ None → (now ≡ [] → ⊥) → (us : List Module) → file.read from ≡ Some (us, []) → ⊥
-  stuck e some us h = grind (arith, common_steps, with_front-none, many-fails, many-done, with_front-end, some-inj)
+  stuck e some us h = grind (arith, common_steps, prepend-none, many-fails, many-done, prepend-end, some-inj)
 
   pub has_modules-fault : (error : ParseError) → (now ≡ [] → ⊥) → ModuleFault error now → ModulesFault error from
   has_modules-fault (E.DoubleName line) some f = record {
@@ -203,8 +203,8 @@ module _ (ms : List Module) (from now : List Item) (have : HasModules ms from no
     heading = f.heading;
     imports = f.imports;
     body = f.body;
-    stands = Stands-append (spelling ms) (of_head f.name f.heading f.imports) (tokens_of from) (tokens_of now) f.body
-        (taken-stands (spelling ms) from now have.stands) f.stands;
+    matched = TokensMatch-append (spelling ms) (of_head f.name f.heading f.imports) (tokens_of from) (tokens_of now) f.body
+        (taken-matched (spelling ms) from now have.matched) f.matched;
     twice = f.twice;
   }
   has_modules-fault E.Memory some f = tt

@@ -6,24 +6,24 @@ use Rattle.std.proofs.lemmas.Bool.{eqb-true, ne_eqb, false≢true, or_cases}
 use Rattle.smi_text.specs.declared.lexer.class.Class.TheVariants as C
 use Rattle.smi_text.specs.lexer.Lexeme.{Part, gap, begins, is_blank, is_hyphen}
 use Rattle.std.specs.Bool.{then_some}
-use Rattle.smi_text.specs.lexer.Reading.{HasNoGap, IsLongestPassing, IsPartFront, Skips, hyphen_part, is_comment_rest, is_nothing, ArePassedBetween}
-use Rattle.smi_text.specs.lexer.Reading.{is_space_or_tab, newlines, part_in, part_of}
-use Rattle.smi_text.proofs.{Scans.rest_at, Scans.rest_of_two, ItemsLemmas.newlines-one, ItemsLemmas.skips_gap, Parts.none_some}
-use Rattle.smi_text.proofs.{Parts.front_behind_first, Parts.front_cons, Parts.part_front, Scans.begins-take, Scans.hand_on}
+use Rattle.smi_text.specs.lexer.LongestMatch.{HasNoGap, IsLongestPassing, IsPartPrefix, Skips, hyphen_part, is_comment_rest, is_nothing, ArePassedBetween}
+use Rattle.smi_text.specs.lexer.LongestMatch.{is_space_or_tab, newlines, part_in, part_of}
+use Rattle.smi_text.proofs.{Scans.rest_at, Scans.rest_of_two, LexedItems.newlines-one, LexedItems.skips_gap, Parts.none_some}
+use Rattle.smi_text.proofs.{Parts.prefix_after_first, Parts.prefix_cons, Parts.part_prefix, Scans.begins-take, Scans.hand_on}
 use Rattle.smi_text.proofs.PartLaws.{blank_class, comment_one_line, comment_opens, part_is, two_hyphens}
 
 -- ---- a blank octet
 
-nothing_front : (cs : List ℕ) → IsLongestPassing is_nothing cs 0
-nothing_front cs = grind (arith, common_steps)
+nothing_prefix : (cs : List ℕ) → IsLongestPassing is_nothing cs 0
+nothing_prefix cs = grind (arith, common_steps)
 
-pub blank_front : (c : ℕ) (cs : List ℕ) → is_blank c ≡ true → IsPartFront part_of (c ∷ cs) gap 1
-blank_front c cs h =
-    front_behind_first c cs C.Blank (sym (blank_class c h)) gap 0 (part_front is_nothing (part_in C.Blank) gap cs 0 (λ s. refl) (nothing_front cs))
+pub blank_prefix : (c : ℕ) (cs : List ℕ) → is_blank c ≡ true → IsPartPrefix part_of (c ∷ cs) gap 1
+blank_prefix c cs h =
+    prefix_after_first c cs C.Blank (sym (blank_class c h)) gap 0 (part_prefix is_nothing (part_in C.Blank) gap cs 0 (λ s. refl) (nothing_prefix cs))
 
 skips_blank : (text : List ℕ) (n lines more : ℕ) → n < length text → is_blank (get_or text n 0) ≡ true → newlines (get_or text n 0 ∷ []) ≡ more
     → Skips text n lines → Skips text (n + 1) (lines + more)
-skips_blank text n lines more here blank ended skips = grind (arith, common_steps, rest_at, skips_gap, blank_front)
+skips_blank text n lines more here blank ended skips = grind (arith, common_steps, rest_at, skips_gap, blank_prefix)
 
 -- a newline ends a line, and no other octet does
 pub skips_newline : (text : List ℕ) (n lines : ℕ) → n < length text → get_or text n 0 ≡ 10 → Skips text n lines → Skips text (n + 1) (lines + 1)
@@ -43,7 +43,7 @@ skips_space : (text : List ℕ) (n lines : ℕ) → n < length text → is_space
     → Skips text n lines → Skips text (n + 1) lines
 skips_space text n lines here is skips = grind (arith, common_steps, skips_other, ends_no_line)
 
--- a space, and the spaces and tabs after it
+-- a space, and the spaces and tabs after it, can be skipped
 pub skips_run : (text : List ℕ) (n to lines : ℕ) → n < length text → get_or text n 0 ≡ 32 → ArePassedBetween is_space_or_tab text (n + 1) to
     → Skips text n lines → Skips text to lines
 skips_run text n to lines here space run skips =
@@ -55,21 +55,21 @@ skips_run text n to lines here space run skips =
 
 -- ---- comments
 
-pub comment_part : (s : List ℕ) (n : ℕ) → IsLongestPassing is_comment_rest s n → IsPartFront part_of (45 ∷ 45 ∷ s) gap (2 + n)
-comment_part s n front =
-    let place : (n + 1) + 1 ≡ 2 + n = omega arith in
-    let behind : List ℕ → Option Part = λ s. then_some (is_comment_rest s) gap in
-    rw place at (front_behind_first 45 (45 ∷ s) C.Hyphen refl gap (n + 1) (front_cons hyphen_part behind 45 s gap n (λ s. refl)
-    (part_front is_comment_rest behind gap s n (λ s. refl) front)))
+pub comment_part : (s : List ℕ) (n : ℕ) → IsLongestPassing is_comment_rest s n → IsPartPrefix part_of (45 ∷ 45 ∷ s) gap (2 + n)
+comment_part s n prefix =
+    let offset : (n + 1) + 1 ≡ 2 + n = omega arith in
+    let after_hyphens : List ℕ → Option Part = λ s. then_some (is_comment_rest s) gap in
+    rw offset at (prefix_after_first 45 (45 ∷ s) C.Hyphen refl gap (n + 1) (prefix_cons hyphen_part after_hyphens 45 s gap n (λ s. refl)
+    (part_prefix is_comment_rest after_hyphens gap s n (λ s. refl) prefix)))
 
 pub skips_comment : (text : List ℕ) (n lines k : ℕ) → n + 1 < length text → get_or text n 0 ≡ 45 → get_or text (n + 1) 0 ≡ 45
     → IsLongestPassing is_comment_rest (drop (n + 2) text) k → Skips text n lines → Skips text (n + (2 + k)) lines
-skips_comment text n lines k here first second front skips =
-    let behind = drop (n + 2) text in
-    let rest : drop n text ≡ 45 ∷ 45 ∷ behind = rw (first, second) at (rest_of_two text n here) in
+skips_comment text n lines k here first second prefix skips =
+    let after_hyphens = drop (n + 2) text in
+    let rest : drop n text ≡ 45 ∷ 45 ∷ after_hyphens = rw (first, second) at (rest_of_two text n here) in
     let two : 2 + k ≡ suc (suc k) = omega arith in
-    rw add-zero at (skips_gap text n lines (2 + k) 0 (rw rest (comment_part behind k front))
-    (rw (rest, two) (comment_one_line (45 ∷ 45 ∷ take k behind) (two_hyphens (take k behind) front.passes))) skips)
+    rw add-zero at (skips_gap text n lines (2 + k) 0 (rw rest (comment_part after_hyphens k prefix))
+    (rw (rest, two) (comment_one_line (45 ∷ 45 ∷ take k after_hyphens) (two_hyphens (take k after_hyphens) prefix.passes))) skips)
 
 -- ---- the end of the gaps
 

@@ -4,7 +4,7 @@ use Rattle.std.proofs.{lemmas.Bool.agree_below, lemmas.Bool.agree_below_at, lemm
 use Rattle.std.proofs.lemmas.Simd.{map-map, mask_l-mod, length-chunk, first_set_mask_l, run_in_chunk_le, run_in_chunk_fails, run_in_chunk_stops}
 use Rattle.std.specs.List.{prefix_len}
 use lib.Lanes.{chunk, mask_l, top}
-use Rattle.smi_text.specs.lexer.Reading.{IsRunIn, first_set}
+use Rattle.smi_text.specs.lexer.LongestMatch.{IsRunIn, first_set}
 
 -- if the top bit of each lane is set exactly when its octet fails the test, then the run ends at the lowest lane that is set
 pub run_in : (test : ℕ → Bool) (text : List ℕ) (at run : ℕ) (lanes : List ℕ) → at + 16 ≤ length text

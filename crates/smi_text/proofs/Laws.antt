@@ -8,22 +8,22 @@ use Rattle.smi_text.specs.{declared.lexer.token.TokenKind.TokenKind, lexer.Token
 use Rattle.smi_text.specs.{trees.Reserved.is_reserved, declared.trees.names.Name.Name}
 use Rattle.smi_text.specs.declared.lexer.token.TokenKind.TheVariants as K
 use Rattle.smi_text.specs.trees.Mark.{Mark, sign, spelled, same_kind, MarksToken}
-use Rattle.smi_text.specs.private.Format.{StandsAhead, Format, Ahead, a_name, a_kind, meets, begins, apart, one, word, token, text, text_where, name}
-use Rattle.smi_text.specs.private.Format.{pair, behind, before, maybe, either, read_many, many, some_of, shaped, line_ahead, lined, with_front, lower}
+use Rattle.smi_text.specs.private.Format.{ItemsMatch, Format, Ahead, a_name, a_kind, meets, begins, apart, one, word, token, text, text_where, name}
+use Rattle.smi_text.specs.private.Format.{pair, preceded, before, maybe, either, read_many, many, some_of, shaped, line_ahead, lined, prepend, lower}
 use Rattle.smi_text.specs.private.Format.{name_where, name_of, separated}
 use Rattle.smi_text.specs.private.Grammar.{kept, kept_text, braced, clause, parenthesized}
 use Rattle.smi_text.specs.trees.Spelling as say
 use Rattle.smi_text.proofs.{Lawful.Lawful, NameLaws.name_of-octets, NameLaws.name_of-is, Many.shorter, Many.many-goes_on, Many.many-done}
 pub use Rattle.smi_text.proofs.NameLaws.{some-inj}
-use Rattle.smi_text.proofs.Marks.{same_kind-eq, same_kind-same, same_text-eq, same_text-same, if-inv, StandsAhead-append, StandsAhead-split, map-inv}
+use Rattle.smi_text.proofs.Marks.{same_kind-eq, same_kind-same, same_text-eq, same_text-same, if-inv, ItemsMatch-append, ItemsMatch-split, map-inv}
 use Rattle.smi_text.proofs.Marks.{then-inv, begins-append, apart-false}
 
 -- no tokens meet the marks `nothing`
-pub never-stands : (ts rest : List Item) → StandsAhead say.nothing ts rest → ⊥
-never-stands ts rest h = grind (arith, common_steps)
+pub never-matched : (ts rest : List Item) → ItemsMatch say.nothing ts rest → ⊥
+never-matched ts rest h = grind (arith, common_steps)
 
 -- what is spelled begins as the format says, if the format isn't empty
-pub starts-with : {A : Type 0} {s : A → List Mark} {f : Format A} → Lawful s f → f.empty ≡ false → (x : A) (ts rest : List Item) → StandsAhead (s x) ts rest
+pub starts-with : {A : Type 0} {s : A → List Mark} {f : Format A} → Lawful s f → f.empty ≡ false → (x : A) (ts rest : List Item) → ItemsMatch (s x) ts rest
     → begins f.first ts ≡ true
 starts-with law solid x ts rest h = grind (arith, common_steps)
 
@@ -88,9 +88,9 @@ module _ {A B : Type 0} {s : A → List Mark} {t : B → List Mark} {f : Format 
   pair-law = record {
     takes = λ ts rest x h.
         let r = then-inv _ (f.read ts) (x, rest) h in
-        grind (arith, common_steps, map-inv, StandsAhead-append (s x.0) (t x.1) ts r.0.1 rest);
-    again = grind (arith, common_steps, StandsAhead-split, neither, apart-false);
-    starts = grind (arith, common_steps, StandsAhead-split, begins-left, begins-right, and_from);
+        grind (arith, common_steps, map-inv, ItemsMatch-append (s x.0) (t x.1) ts r.0.1 rest);
+    again = grind (arith, common_steps, ItemsMatch-split, neither, apart-false);
+    starts = grind (arith, common_steps, ItemsMatch-split, begins-left, begins-right, and_from);
   }
 
 module _ {A : Type 0} {s : A → List Mark} {f : Format A} (law : Lawful s f) (solid : f.empty ≡ false) where
@@ -114,7 +114,7 @@ module _ {A B : Type 0} {s : A → List Mark} {t : B → List Mark} {f : Format 
   unfolding either
   sides-law = grind (arith, common_steps, and_parts, not-true, if-inv, map-inv, starts-with, neither, apart-false, begins-left, begins-right)
 
--- the same spelling, written otherwise
+-- a format that is lawful for a spelling is lawful for an equal one
 pub spelled-as : {A : Type 0} {s u : A → List Mark} {f : Format A} → Lawful s f → ((x : A) → s x ≡ u x) → Lawful u f
 spelled-as {f = f} law same = subst (λ v. Lawful v f) (λ i x. same x i) law
 
@@ -137,7 +137,7 @@ pub last : {A : Type 0} {s : A → List Mark} {f : Format A} → Lawful s f → 
 last law tests = law
 
 module _ {A : Type 0} {s : A → List Mark} {f : Format A} (law : Lawful s f) (solid : f.empty ≡ false) (far : apart f.stop f.first ≡ true) where
-  many-takes-from : (n : ℕ) (ts rest : List Item) (xs : List A) → read_many f n ts ≡ Some (xs, rest) → StandsAhead (flat_map s xs) ts rest
+  many-takes-from : (n : ℕ) (ts rest : List Item) (xs : List A) → read_many f n ts ≡ Some (xs, rest) → ItemsMatch (flat_map s xs) ts rest
   unfolding read_many
   many-takes-from zero ts rest xs h = grind (arith, common_steps, some-inj)
   many-takes-from (suc n) ts rest xs h =
@@ -145,20 +145,20 @@ module _ {A : Type 0} {s : A → List Mark} {f : Format A} (law : Lawful s f) (s
         | inl p ↦
             let r = then-inv _ (f.read ts) (xs, rest) p.1 in
             let q = map-inv _ (read_many f n r.0.1) (xs, rest) r.2 in
-            grind (arith, common_steps, many-takes-from n r.0.1 q.0.1 q.0.0 q.1, StandsAhead-append (s r.0.0) (flat_map s q.0.0) ts r.0.1 q.0.1)
+            grind (arith, common_steps, many-takes-from n r.0.1 q.0.1 q.0.0 q.1, ItemsMatch-append (s r.0.0) (flat_map s q.0.0) ts r.0.1 q.0.1)
         | inr p ↦ grind (arith, common_steps, some-inj)
       ]
 
-  many-starts : (xs : List A) (ts rest : List Item) → StandsAhead (flat_map s xs) ts rest → (begins f.first ts ≡ true) ⊎ (ts ≡ rest)
+  many-starts : (xs : List A) (ts rest : List Item) → ItemsMatch (flat_map s xs) ts rest → (begins f.first ts ≡ true) ⊎ (ts ≡ rest)
   many-starts [] ts rest h = inr h
-  many-starts (x ∷ xs) ts rest h = grind (arith, common_steps, StandsAhead-split, starts-with)
+  many-starts (x ∷ xs) ts rest h = grind (arith, common_steps, ItemsMatch-split, starts-with)
 
-  many-again : (xs : List A) (ts rest : List Item) → StandsAhead (flat_map s xs) ts rest → (begins f.first rest ≡ false) × (begins f.stop rest ≡ false)
+  many-again : (xs : List A) (ts rest : List Item) → ItemsMatch (flat_map s xs) ts rest → (begins f.first rest ≡ false) × (begins f.stop rest ≡ false)
       → (many f).read ts ≡ Some (xs, rest)
-  unfolding with_front
+  unfolding prepend
   many-again [] ts rest h k = rw h (many-done f rest k.0)
   many-again (x ∷ xs) ts rest h k =
-      let r = StandsAhead-split (s x) (flat_map s xs) ts rest h in
+      let r = ItemsMatch-split (s x) (flat_map s xs) ts rest h in
       grind (arith, common_steps, many-starts xs r.0 rest, many-again xs r.0 rest, apart-false, many-goes_on law solid x ts r.0, starts-with)
 
   pub many-law : Lawful (flat_map s) (many f)
@@ -167,8 +167,8 @@ module _ {A : Type 0} {s : A → List Mark} {f : Format A} (law : Lawful s f) (s
 
 -- if the pieces and the part that they make have the same spelling, then the format of the part is lawful
 module _ {A B : Type 0} {to : A → B} {u : B → List Mark} {s : A → List Mark} {f : Format A} (law : Lawful s f)
-    (forth : (ts rest : List Item) (x : A) → StandsAhead (s x) ts rest → StandsAhead (u (to x)) ts rest)
-    (back : (ts rest : List Item) (y : B) → StandsAhead (u y) ts rest → (x : A) × (to x ≡ y) × StandsAhead (s x) ts rest) where
+    (forth : (ts rest : List Item) (x : A) → ItemsMatch (s x) ts rest → ItemsMatch (u (to x)) ts rest)
+    (back : (ts rest : List Item) (y : B) → ItemsMatch (u y) ts rest → (x : A) × (to x ≡ y) × ItemsMatch (s x) ts rest) where
   pub made-law : Lawful u (shaped to f)
   unfolding shaped
   made-law = grind (arith, common_steps, map-inv)
@@ -177,12 +177,12 @@ module _ {A B : Type 0} {to : A → B} {u : B → List Mark} {s : A → List Mar
 pub shaped-law : {A B : Type 0} {to : A → B} {u : B → List Mark} {f : Format A} → Lawful (λ x. u (to x)) f
     → ((y : B) → ((x : A) × (to x ≡ y)) ⊎ (u y ≡ say.nothing)) → Lawful u (shaped to f)
 unfolding shaped
-shaped-law law made = grind (arith, common_steps, map-inv, made, never-stands)
+shaped-law law made = grind (arith, common_steps, map-inv, made, never-matched)
 
-pub behind-law : {A : Type 0} {v : Unit {0} → List Mark} {s : A → List Mark} {w : Format (Unit {0})} {f : Format A} → Lawful v w → Lawful s f
-    → apart w.stop f.first ≡ true → Lawful (λ x. v tt ++ s x) (behind w f)
-unfolding behind
-behind-law w-law f-law far = shaped-law (pair-law w-law f-law far) (λ x. inl ((tt, x), refl))
+pub preceded-law : {A : Type 0} {v : Unit {0} → List Mark} {s : A → List Mark} {w : Format (Unit {0})} {f : Format A} → Lawful v w → Lawful s f
+    → apart w.stop f.first ≡ true → Lawful (λ x. v tt ++ s x) (preceded w f)
+unfolding preceded
+preceded-law w-law f-law far = shaped-law (pair-law w-law f-law far) (λ x. inl ((tt, x), refl))
 
 pub before-law : {A : Type 0} {s : A → List Mark} {v : Unit {0} → List Mark} {f : Format A} {w : Format (Unit {0})} → Lawful s f → Lawful v w
     → apart f.stop w.first ≡ true → Lawful (λ x. s x ++ v tt) (before f w)
@@ -192,7 +192,7 @@ before-law f-law w-law far = shaped-law (pair-law f-law w-law far) (λ x. inl ((
 -- one part and then others are read as a pair is that is made into a list
 some-read : {A : Type 0} (f g : Format A) (ts : List Item)
     → (some_of f g).read ts ≡ (shaped (λ (p : A × List A). p.0 ∷ p.1) (pair f (many g))).read ts
-unfolding some_of shaped pair with_front
+unfolding some_of shaped pair prepend
 some-read f g ts = grind (arith, common_steps)
 
 pub some_of-law : {A : Type 0} {s t : A → List Mark} {f g : Format A} → Lawful s f → Lawful t g → g.empty ≡ false → apart f.stop g.first ≡ true
@@ -207,12 +207,12 @@ some_of-law {A} {s} {t} {f} {g} f-law g-law solid far near =
       starts = law.starts;
     }
 
--- the line of the first mark
-put-line : (ms : List Mark) (ts rest : List Item) → (ms ≡ [] → ⊥) → StandsAhead ms ts rest → StandsAhead (say.put_line (line_ahead ts) ms) ts rest
+-- tokens that match marks also match them with the line of the first token put on the first mark
+put-line : (ms : List Mark) (ts rest : List Item) → (ms ≡ [] → ⊥) → ItemsMatch ms ts rest → ItemsMatch (say.put_line (line_ahead ts) ms) ts rest
 put-line ms ts rest some h = grind (arith, common_steps)
 
-drop-line : (n : ℕ) (ms : List Mark) (ts rest : List Item) → StandsAhead (say.put_line n ms) ts rest → StandsAhead ms ts rest × (line_ahead ts ≡ n)
-drop-line n ms ts rest h = grind (arith, common_steps, never-stands)
+drop-line : (n : ℕ) (ms : List Mark) (ts rest : List Item) → ItemsMatch (say.put_line n ms) ts rest → ItemsMatch ms ts rest × (line_ahead ts ≡ n)
+drop-line n ms ts rest h = grind (arith, common_steps, never-matched)
 
 module _ {A : Type 0} {s : A → List Mark} {f : Format A} (law : Lawful s f) (solid : f.empty ≡ false) where
   some-mark : (x : A) → s x ≡ [] → ⊥
@@ -224,14 +224,14 @@ module _ {A : Type 0} {s : A → List Mark} {f : Format A} (law : Lawful s f) (s
 
 -- parts of productions
 
--- a part after a word, and a part after a sign
-pub after-word : {A : Type 0} {w : List ℕ} {s : A → List Mark} {f : Format A} → Lawful s f → Lawful (λ x. say.word w ∷ s x) (behind (word w) f)
+-- if a format is lawful, then so is the format of a word followed by it
+pub after-word : {A : Type 0} {w : List ℕ} {s : A → List Mark} {f : Format A} → Lawful s f → Lawful (λ x. say.word w ∷ s x) (preceded (word w) f)
 unfolding word
-after-word law = behind-law word-law law refl
+after-word law = preceded-law word-law law refl
 
-pub after-sign : {A : Type 0} {k : TokenKind} {s : A → List Mark} {f : Format A} → Lawful s f → Lawful (λ x. sign k ∷ s x) (behind (token k) f)
+pub after-sign : {A : Type 0} {k : TokenKind} {s : A → List Mark} {f : Format A} → Lawful s f → Lawful (λ x. sign k ∷ s x) (preceded (token k) f)
 unfolding token
-after-sign {k = k} law = behind-law (token-law k) law refl
+after-sign {k = k} law = preceded-law (token-law k) law refl
 
 pub clause-law : {w : List ℕ} → Lawful (λ x. say.of_clause w x) (clause w)
 unfolding clause
@@ -249,7 +249,7 @@ parenthesized-law law far = after-sign (before-law law (token-law K.CloseParen) 
 
 pub separated-law : {A : Type 0} {s : A → List Mark} {f : Format A} (k : TokenKind) → Lawful s f → f.empty ≡ false → apart f.stop (a_kind k ∷ []) ≡ true
     → Lawful (say.of_list (sign k) s) (separated k f)
-unfolding separated behind shaped pair token
+unfolding separated preceded shaped pair token
 separated-law k law solid far = some_of-law law (after-sign law) refl far (rw solid far)
 
 pub same-token : (t : Lexeme) (x : TokenText) → t.kind ≡ x.kind → t.text ≡ x.text → kept_text t ≡ x

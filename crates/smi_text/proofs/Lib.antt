@@ -16,10 +16,10 @@ pub mod Braces
 pub mod Lines
 pub mod Lanes
 pub mod Scans
-pub mod Places
+pub mod FirstIndex
 pub mod Parts
 pub mod Classes
-pub mod ItemsLemmas
+pub mod LexedItems
 pub mod Gaps
 pub mod PartLaws
 pub mod LexerLaws

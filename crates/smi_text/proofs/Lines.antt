@@ -2,11 +2,11 @@
 use Rattle.std.proofs.Common.{arith, ◌≡◌, ℕ, Bool, true, false, List, [], ◌∷◌, ◌++◌, Option, if◌then◌else◌, refl, ◌∙◌, ap}
 use Rattle.std.proofs.{lemmas.Grind.common_steps, lemmas.List.map-append, lemmas.List.Folds.flat_map-map, lemmas.Simd.map-map}
 use Rattle.std.specs.{Prelude.map, Prelude.option_map, List.flat_map}
-use Rattle.smi_text.specs.{lexer.Token.Lexeme, trees.Braces.has_balanced_braces, trees.Lines.plain, trees.Lines.unlined}
+use Rattle.smi_text.specs.{lexer.Token.Lexeme, trees.Braces.has_balanced_braces, trees.Lines.plain, trees.Lines.without_lines}
 use Rattle.smi_text.specs.{declared.trees.names.Name.Name, declared.trees.tree.Module.Module, declared.trees.tree.TokenText.TokenText}
 use Rattle.smi_text.specs.{declared.trees.tree.DefKind.DefKind, declared.trees.tree.Part.Part, declared.trees.tree.Index.Index}
 use Rattle.smi_text.specs.{declared.trees.tree.Syntax.Syntax, declared.trees.tree.Base.Base, declared.trees.tree.Refinement.Refinement}
-use Rattle.smi_text.specs.trees.Mark.{Mark, spelled, on_line, MarksToken, Stands}
+use Rattle.smi_text.specs.trees.Mark.{Mark, spelled, on_line, MarksToken, TokensMatch}
 use Rattle.smi_text.specs.trees.Spelling as say
 use Rattle.smi_text.specs.declared.trees.tree.DefKind.TheVariants as D
 use Rattle.smi_text.specs.declared.trees.tree.Index.TheVariants as I
@@ -19,7 +19,7 @@ abbrev zeroed : Mark → Mark
 zeroed (spelled k x ok) = spelled k x ok
 zeroed (on_line n m) = on_line 0 (zeroed m)
 
--- parts, each with its marks
+-- setting each line to 0 in the marks of all elements of a list is setting it in the marks of each element
 each : {A : Type 0} (f : A → List Mark) (xs : List A) → map zeroed (flat_map f xs) ≡ flat_map (λ x. map zeroed (f x)) xs
 each f [] = refl
 each f (x ∷ xs) = map-append zeroed (f x) (flat_map f xs) ∙ ap (λ ms. map zeroed (f x) ++ ms) (each f xs)
@@ -84,7 +84,7 @@ kind _ = simp productions
 label : (x : Name) (k : DefKind) → zeroed (say.label x k) ≡ say.label x k
 label x k = grind (arith, common_steps)
 
-spelling-zeroed : (ms : List Module) → map zeroed (say.spelling ms) ≡ say.spelling (map unlined ms)
+spelling-zeroed : (ms : List Module) → map zeroed (say.spelling ms) ≡ say.spelling (map without_lines ms)
 spelling-zeroed ms = simp (zeroing, part, label, kind, put_line-zeroed, option-map, flat_map-map)
 
 -- ---- tokens
@@ -96,15 +96,16 @@ fits-zeroed : (m : Mark) (t : Lexeme) → MarksToken (plain m) t → MarksToken 
 fits-zeroed (spelled k x ok) t h = h
 fits-zeroed (on_line n m) t h = (fits-zeroed m t h, refl)
 
-stands-zeroed : (ms : List Mark) (ts : List Lexeme) → Stands (map plain ms) ts [] → Stands (map zeroed ms) (map first_line ts) []
-stands-zeroed [] ts h = ap (map first_line) h
-stands-zeroed (m ∷ ms) [] h = h
-stands-zeroed (m ∷ ms) (t ∷ ts) h = (fits-zeroed m t h.0, stands-zeroed ms ts h.1)
+matched-zeroed : (ms : List Mark) (ts : List Lexeme) → TokensMatch (map plain ms) ts [] → TokensMatch (map zeroed ms) (map first_line ts) []
+matched-zeroed [] ts h = ap (map first_line) h
+matched-zeroed (m ∷ ms) [] h = h
+matched-zeroed (m ∷ ms) (t ∷ ts) h = (fits-zeroed m t h.0, matched-zeroed ms ts h.1)
 
-unlined-stands : (ms : List Module) (ts : List Lexeme) → Stands (map plain (say.spelling ms)) ts []
-    → Stands (say.spelling (map unlined ms)) (map first_line ts) []
-unlined-stands ms ts h = rw (← spelling-zeroed ms) (stands-zeroed (say.spelling ms) ts h)
+without_lines-matched : (ms : List Module) (ts : List Lexeme) → TokensMatch (map plain (say.spelling ms)) ts []
+    → TokensMatch (say.spelling (map without_lines ms)) (map first_line ts) []
+without_lines-matched ms ts h = rw (← spelling-zeroed ms) (matched-zeroed (say.spelling ms) ts h)
 
-pub same_but_lines : (ms ns : List Module) (ts : List Lexeme) → Stands (map plain (say.spelling ms)) ts [] → Stands (map plain (say.spelling ns)) ts []
-    → map unlined ms ≡ map unlined ns
-same_but_lines ms ns ts h k = grind (arith, common_steps, some-inj, tokens-read, unlined-stands)
+pub same_but_lines : (ms ns : List Module) (ts : List Lexeme) → TokensMatch (map plain (say.spelling ms)) ts []
+    → TokensMatch (map plain (say.spelling ns)) ts []
+    → map without_lines ms ≡ map without_lines ns
+same_but_lines ms ns ts h k = grind (arith, common_steps, some-inj, tokens-read, without_lines-matched)

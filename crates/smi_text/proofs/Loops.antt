@@ -6,9 +6,9 @@ use Rattle.std.specs.Prelude.{◌==◌, codes}
 use Rattle.smi_text.specs.{declared.lexer.token.TokenKind.TokenKind, lexer.Token.Lexeme, lexer.Token.Item, declared.trees.tree.TokenText.TokenText}
 use Rattle.smi_text.specs.{declared.trees.tree.IndexParts.IndexParts, declared.trees.names.Name.Name}
 use Rattle.smi_text.specs.declared.lexer.token.TokenKind.TheVariants as K
-use Rattle.smi_text.specs.private.Format.{Parsed, a_word, a_kind, begins, with_front, lower, token, token_ahead}
+use Rattle.smi_text.specs.private.Format.{Parsed, a_word, a_kind, begins, prepend, lower, token, token_ahead}
 use Rattle.smi_text.specs.private.Grammar.{read_index, with_names, depth_after, is_outside, kept_text, read_balanced}
-use Rattle.smi_text.proofs.{Laws.lower-law, Laws.token-law, Many.reading-shorter, Many.with_front-append, Many.with_front-end}
+use Rattle.smi_text.proofs.{Laws.lower-law, Laws.token-law, Many.reading-shorter, Many.prepend-append, Many.prepend-end}
 
 -- the names of an index
 
@@ -37,24 +37,24 @@ index-next names (suc m) ts h x rest after b e c t = (
 pub depth_after-le : (k : TokenKind) (depth : ℕ) → depth_after k depth ≤ depth + 1
 depth_after-le k depth = grind arith
 
-pub balanced-next : (xs : List TokenText) (depth : ℕ) (t : Lexeme) (ts : List Item) → is_outside t.kind depth ≡ false
-    → with_front xs (read_balanced depth (Ok t ∷ ts)) ≡ with_front (xs ++ kept_text t ∷ []) (read_balanced (depth_after t.kind depth) ts)
+pub balanced_tokens-next : (xs : List TokenText) (depth : ℕ) (t : Lexeme) (ts : List Item) → is_outside t.kind depth ≡ false
+    → prepend xs (read_balanced depth (Ok t ∷ ts)) ≡ prepend (xs ++ kept_text t ∷ []) (read_balanced (depth_after t.kind depth) ts)
 unfolding read_balanced
-balanced-next xs depth t ts o = rw o (sym (with_front-append xs (kept_text t ∷ []) (read_balanced (depth_after t.kind depth) ts)))
+balanced_tokens-next xs depth t ts o = rw o (sym (prepend-append xs (kept_text t ∷ []) (read_balanced (depth_after t.kind depth) ts)))
 
-pub balanced-open : (xs : List TokenText) (depth : ℕ) (items : List Item) → 0 < depth → token_ahead items ≡ None
-    → with_front xs (read_balanced depth items) ≡ None
-unfolding read_balanced with_front
-balanced-open xs depth (Ok t ∷ items) h n = absurd (cc)
-balanced-open xs depth _ h n = let e : (depth == 0) ≡ false = grind arith in rw e refl
+pub balanced_tokens-open : (xs : List TokenText) (depth : ℕ) (items : List Item) → 0 < depth → token_ahead items ≡ None
+    → prepend xs (read_balanced depth items) ≡ None
+unfolding read_balanced prepend
+balanced_tokens-open xs depth (Ok t ∷ items) h n = absurd (cc)
+balanced_tokens-open xs depth _ h n = let e : (depth == 0) ≡ false = grind arith in rw e refl
 
-pub balanced-outside : (xs : List TokenText) (depth : ℕ) (t : Lexeme) (ts : List Item) → is_outside t.kind depth ≡ true
-    → with_front xs (read_balanced depth (Ok t ∷ ts)) ≡ Some (xs, Ok t ∷ ts)
+pub balanced_tokens-outside : (xs : List TokenText) (depth : ℕ) (t : Lexeme) (ts : List Item) → is_outside t.kind depth ≡ true
+    → prepend xs (read_balanced depth (Ok t ∷ ts)) ≡ Some (xs, Ok t ∷ ts)
 unfolding read_balanced
-balanced-outside xs depth t ts o = rw o (with_front-end xs (Ok t ∷ ts))
+balanced_tokens-outside xs depth t ts o = rw o (prepend-end xs (Ok t ∷ ts))
 
-pub balanced-closed : (xs : List TokenText) (depth : ℕ) (items : List Item) → depth ≡ 0 → token_ahead items ≡ None
-    → with_front xs (read_balanced depth items) ≡ Some (xs, items)
+pub balanced_tokens-closed : (xs : List TokenText) (depth : ℕ) (items : List Item) → depth ≡ 0 → token_ahead items ≡ None
+    → prepend xs (read_balanced depth items) ≡ Some (xs, items)
 unfolding read_balanced
-balanced-closed xs depth (Ok t ∷ items) e n = absurd (cc)
-balanced-closed xs depth _ e n = rw e (with_front-end xs _)
+balanced_tokens-closed xs depth (Ok t ∷ items) e n = absurd (cc)
+balanced_tokens-closed xs depth _ e n = rw e (prepend-end xs _)

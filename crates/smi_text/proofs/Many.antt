@@ -3,19 +3,19 @@ use Rattle.std.proofs.lemmas.Grind.{common_steps}
 use Rattle.std.proofs.Common.{◌≡◌, ℕ, zero, suc, ◌+◌, ◌<◌, ◌≤◌, true, false, List, [], ◌∷◌, ◌++◌, length, Some, None, Ok, if◌then◌else◌}
 use Rattle.std.proofs.Common.{option_map, option_and_then, refl, ◌∙◌, ap, arith, append_assoc, append-nil}
 use Rattle.smi_text.specs.{lexer.Token.Item, trees.Mark.Mark}
-use Rattle.smi_text.specs.private.Format.{StandsAhead, Format, Parsed, begins, read_many, many, with_front}
+use Rattle.smi_text.specs.private.Format.{ItemsMatch, Format, Parsed, begins, read_many, many, prepend}
 use Rattle.smi_text.proofs.Lawful.{Lawful}
 
 -- the tokens that the marks spell are one for each mark
-pub StandsAhead-length : (ms : List Mark) (ts rest : List Item) → StandsAhead ms ts rest → length ts ≡ length ms + length rest
-StandsAhead-length [] ts rest h = ap length h ∙ omega arith
-StandsAhead-length (m ∷ ms) (Ok t ∷ ts) rest h = omega (arith, StandsAhead-length ms ts rest h.1)
-StandsAhead-length (m ∷ ms) _ rest h = absurd h
+pub ItemsMatch-length : (ms : List Mark) (ts rest : List Item) → ItemsMatch ms ts rest → length ts ≡ length ms + length rest
+ItemsMatch-length [] ts rest h = ap length h ∙ omega arith
+ItemsMatch-length (m ∷ ms) (Ok t ∷ ts) rest h = omega (arith, ItemsMatch-length ms ts rest h.1)
+ItemsMatch-length (m ∷ ms) _ rest h = absurd h
 
-pub shorter : {A : Type 0} {s : A → List Mark} {f : Format A} → Lawful s f → f.empty ≡ false → (x : A) (ts rest : List Item) → StandsAhead (s x) ts rest
+pub shorter : {A : Type 0} {s : A → List Mark} {f : Format A} → Lawful s f → f.empty ≡ false → (x : A) (ts rest : List Item) → ItemsMatch (s x) ts rest
     → length rest < length ts
 unfolding begins
-shorter {s = s} law solid x ts rest h = grind (arith, common_steps, StandsAhead-length (s x) ts rest h, law.starts x [] [])
+shorter {s = s} law solid x ts rest h = grind (arith, common_steps, ItemsMatch-length (s x) ts rest h, law.starts x [] [])
 
 pub reading-shorter : {A : Type 0} {s : A → List Mark} {f : Format A} → Lawful s f → f.empty ≡ false → (x : A) (ts rest : List Item)
     → f.read ts ≡ Some (x, rest) → length rest < length ts
@@ -24,7 +24,7 @@ reading-shorter law solid x ts rest h = shorter law solid x ts rest (law.takes t
 abbrev put_one : {A : Type 0} → Format A → ℕ → A × List Item → Parsed (List A)
 put_one f n p = option_map (λ q. (p.0 ∷ q.0, q.1)) (read_many f n p.1)
 
--- a greater bound reads the same
+-- two bounds that are at least the number of tokens make no difference to what is read
 enough : {A : Type 0} {s : A → List Mark} {f : Format A} → Lawful s f → f.empty ≡ false → (n m : ℕ) (ts : List Item) → length ts ≤ n → length ts ≤ m
     → read_many f (suc n) ts ≡ read_many f (suc m) ts
 unfolding read_many begins
@@ -48,8 +48,8 @@ many-fails f ts b e = rw (b, e) refl
 
 -- if a part is read, then it is before the others
 pub many-goes_on : {A : Type 0} {s : A → List Mark} {f : Format A} → Lawful s f → f.empty ≡ false → (x : A) (ts rest : List Item) → begins f.first ts ≡ true
-    → f.read ts ≡ Some (x, rest) → (many f).read ts ≡ with_front (x ∷ []) ((many f).read rest)
-unfolding many read_many begins with_front
+    → f.read ts ≡ Some (x, rest) → (many f).read ts ≡ prepend (x ∷ []) ((many f).read rest)
+unfolding many read_many begins prepend
 many-goes_on law solid x [] rest b e = absurd (cc)
 many-goes_on {A} {s} {f} law solid x (t ∷ ts) rest b e =
     let less : length rest < length (t ∷ ts) = reading-shorter law solid x (t ∷ ts) rest e in
@@ -61,26 +61,26 @@ pub many-done : {A : Type 0} (f : Format A) (ts : List Item) → begins f.first 
 unfolding many read_many
 many-done f ts b = rw b refl
 
-pub with_front-append : {A : Type 0} (xs ys : List A) (r : Parsed (List A)) → with_front (xs ++ ys) r ≡ with_front xs (with_front ys r)
-unfolding with_front
-with_front-append xs ys r = grind (arith, common_steps, append_assoc)
+pub prepend-append : {A : Type 0} (xs ys : List A) (r : Parsed (List A)) → prepend (xs ++ ys) r ≡ prepend xs (prepend ys r)
+unfolding prepend
+prepend-append xs ys r = grind (arith, common_steps, append_assoc)
 
-pub with_front-none : {A : Type 0} (xs : List A) (r : Parsed (List A)) → r ≡ None → with_front xs r ≡ None
-unfolding with_front
-with_front-none xs r e = rw e refl
+pub prepend-none : {A : Type 0} (xs : List A) (r : Parsed (List A)) → r ≡ None → prepend xs r ≡ None
+unfolding prepend
+prepend-none xs r e = rw e refl
 
-pub with_front-end : {A : Type 0} (xs : List A) (ts : List Item) → with_front xs (Some ([], ts)) ≡ Some (xs, ts)
-unfolding with_front
-with_front-end {A} xs ts = ap (λ (zs : List A). Some (zs, ts)) (append-nil xs)
+pub prepend-end : {A : Type 0} (xs : List A) (ts : List Item) → prepend xs (Some ([], ts)) ≡ Some (xs, ts)
+unfolding prepend
+prepend-end {A} xs ts = ap (λ (zs : List A). Some (zs, ts)) (append-nil xs)
 
-pub with_front_nil : {A : Type 0} (r : Parsed (List A)) → with_front [] r ≡ r
-unfolding with_front
-with_front_nil r = grind (arith, common_steps)
+pub with_prefix_nil : {A : Type 0} (r : Parsed (List A)) → prepend [] r ≡ r
+unfolding prepend
+with_prefix_nil r = grind (arith, common_steps)
 
 -- one step of a loop that reads several parts: the parts that are still to be read, and a bound that is enough for them
 pub next-many : {A : Type 0} (f : Format A) (n : ℕ) (x : A) (ts rest : List Item) → begins f.first ts ≡ true → f.read ts ≡ Some (x, rest) → length ts ≤ n
     → length rest < length ts
-    → (m : ℕ) × (length rest ≤ m) × (read_many f (suc n) ts ≡ with_front (x ∷ []) (read_many f (suc m) rest))
-unfolding read_many with_front
+    → (m : ℕ) × (length rest ≤ m) × (read_many f (suc n) ts ≡ prepend (x ∷ []) (read_many f (suc m) rest))
+unfolding read_many prepend
 next-many f zero x ts rest b e h k = absurd (omega arith)
 next-many f (suc m) x ts rest b e h k = (m, omega arith, rw (b, e) refl)

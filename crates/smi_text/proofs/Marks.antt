@@ -9,7 +9,7 @@ use Rattle.smi_text.specs.contracts.lexer.token.TokenKind.{the_type}
 use Rattle.smi_text.specs.{declared.lexer.token.TokenKind.TokenKind, lexer.Token.Lexeme, lexer.Token.Item}
 use Rattle.smi_text.specs.declared.lexer.token.TokenKind.TheVariants as K
 use Rattle.smi_text.specs.trees.Mark.{Mark, same_kind, same_text}
-use Rattle.smi_text.specs.private.Format.{StandsAhead, Ahead, is_this_word, meets, begins, half_apart, apart}
+use Rattle.smi_text.specs.private.Format.{ItemsMatch, Ahead, is_this_word, meets, begins, half_apart, apart}
 
 -- kinds and texts
 
@@ -27,16 +27,16 @@ same_text-same x = (bytes_eq-Decides x x).1 refl
 
 -- marks one after the other
 
-pub StandsAhead-append : (xs ys : List Mark) (ts mid rest : List Item) → StandsAhead xs ts mid → StandsAhead ys mid rest → StandsAhead (xs ++ ys) ts rest
-StandsAhead-append [] ys ts mid rest h k = let P : List Item → Type 0 = λ us. StandsAhead ys us rest in subst P (sym h) k
-StandsAhead-append (x ∷ xs) ys (Ok t ∷ ts) mid rest h k = (h.0, StandsAhead-append xs ys ts mid rest h.1 k)
-StandsAhead-append (x ∷ xs) ys _ mid rest h k = absurd h
+pub ItemsMatch-append : (xs ys : List Mark) (ts mid rest : List Item) → ItemsMatch xs ts mid → ItemsMatch ys mid rest → ItemsMatch (xs ++ ys) ts rest
+ItemsMatch-append [] ys ts mid rest h k = let P : List Item → Type 0 = λ us. ItemsMatch ys us rest in subst P (sym h) k
+ItemsMatch-append (x ∷ xs) ys (Ok t ∷ ts) mid rest h k = (h.0, ItemsMatch-append xs ys ts mid rest h.1 k)
+ItemsMatch-append (x ∷ xs) ys _ mid rest h k = absurd h
 
-pub StandsAhead-split : (xs ys : List Mark) (ts rest : List Item) → StandsAhead (xs ++ ys) ts rest
-    → (mid : List Item) × StandsAhead xs ts mid × StandsAhead ys mid rest
-StandsAhead-split [] ys ts rest h = (ts, refl, h)
-StandsAhead-split (x ∷ xs) ys (Ok t ∷ ts) rest h = grind (arith, common_steps, StandsAhead-split xs ys ts rest h.1)
-StandsAhead-split (x ∷ xs) ys _ rest h = absurd h
+pub ItemsMatch-split : (xs ys : List Mark) (ts rest : List Item) → ItemsMatch (xs ++ ys) ts rest
+    → (mid : List Item) × ItemsMatch xs ts mid × ItemsMatch ys mid rest
+ItemsMatch-split [] ys ts rest h = (ts, refl, h)
+ItemsMatch-split (x ∷ xs) ys (Ok t ∷ ts) rest h = grind (arith, common_steps, ItemsMatch-split xs ys ts rest h.1)
+ItemsMatch-split (x ∷ xs) ys _ rest h = absurd h
 
 -- readings
 

@@ -9,10 +9,10 @@ use Rattle.smi_text.specs.declared.lexer.class.Class.TheVariants as C
 use Rattle.smi_text.specs.declared.lexer.token.TokenKind.TheVariants as K
 use Rattle.smi_text.specs.lexer.Lexeme.{IsComment, IsLexeme, IsLiteral, IsPart, IsRunOfHyphens, IsWord, Part, begins, gap, is_binary_digit, is_blank}
 use Rattle.smi_text.specs.lexer.Lexeme.{is_hyphen, is_newline, is_remark, is_word_rest, lexeme}
-use Rattle.smi_text.specs.lexer.Reading.{class_of, hyphen_part, is_binary_letter, is_comment_rest, is_hex_letter, is_literal_rest, is_nothing}
-use Rattle.smi_text.specs.lexer.Reading.{is_other, is_remark_rest, is_sole, is_string_rest, literal_part, part_in, part_of, symbol_part, newlines}
-use Rattle.smi_text.specs.lexer.Reading.{literal_of}
-use Rattle.smi_text.proofs.{Classes.class_is, ItemsLemmas.newlines-cons, ItemsLemmas.newlines-one, Marks.if-inv}
+use Rattle.smi_text.specs.lexer.LongestMatch.{class_of, hyphen_part, is_binary_letter, is_comment_rest, is_hex_letter, is_literal_rest, is_nothing}
+use Rattle.smi_text.specs.lexer.LongestMatch.{is_other, is_remark_rest, is_sole, is_string_rest, literal_part, part_in, part_of, symbol_part, newlines}
+use Rattle.smi_text.specs.lexer.LongestMatch.{literal_of}
+use Rattle.smi_text.proofs.{Classes.class_is, LexedItems.newlines-cons, LexedItems.newlines-one, Marks.if-inv}
 use Rattle.smi_text.proofs.Parts.{none_some, string_step, literal_reads, literal_exact}
 
 -- ---- what reads as a part is one
@@ -28,7 +28,7 @@ sole_is : (test : ℕ → Bool) (s : List ℕ) → is_sole test s ≡ true → (
 sole_is test [] h = absurd (false≢true h)
 sole_is test (c ∷ cs) h = grind (arith, common_steps, and_parts, nothing_is)
 
--- strings
+-- the rest of a string, after its opening quote, is octets other than a quote and then the closing quote
 string_body : (s : List ℕ) → is_string_rest s ≡ true → (body : List ℕ) × (s ≡ body ++ 34 ∷ []) × (list_all (is_other 34) body ≡ true)
 string_body [] h = absurd (false≢true h)
 string_body (c ∷ cs) h =
@@ -37,7 +37,7 @@ string_body (c ∷ cs) h =
       | inr p ↦ let r = string_body cs p.1 in (c ∷ r.0, ap (λ s. c ∷ s) r.1, rw p.0 r.2)
     ]
 
--- literals
+-- the rest of a literal, after its opening quote, is digits, the closing quote and a letter
 literal_body : (is_digit is_letter : ℕ → Bool) (s : List ℕ) → is_literal_rest is_digit is_letter s ≡ true
     → (digits : List ℕ) × (letter : ℕ) × (s ≡ digits ++ 39 ∷ letter ∷ []) × (list_all is_digit digits ≡ true) × (is_letter letter ≡ true)
 literal_body is_digit is_letter [] h = absurd (false≢true h)
@@ -50,7 +50,7 @@ literal_body is_digit is_letter (c ∷ cs) h =
           (c ∷ r.0, r.1, ap (λ s. c ∷ s) r.2, and_from (is_digit c) (list_all is_digit r.0) both.0 r.3, r.4)
     ]
 
--- after the first quote
+-- an opening quote and the rest of a literal are a literal
 literal_is : (is_digit : ℕ → Bool) (upper lower : ℕ) (s : List ℕ) → is_literal_rest is_digit (λ c. eqb c upper || eqb c lower) s ≡ true
     → IsLiteral is_digit upper lower (39 ∷ s)
 literal_is is_digit upper lower s h = grind (arith, common_steps, literal_body, or_cases, eqb-true, append_assoc)
@@ -60,8 +60,8 @@ literal_part_is s part h = grind (arith, common_steps, if-inv, then_is, literal_
 
 -- comments
 -- if octets begin no run of hyphens, then no prefix of them does
-begins_front : (b : Bool) (front rest : List ℕ) → (b && begins is_hyphen (front ++ rest)) ≡ false → (b && begins is_hyphen front) ≡ false
-begins_front b front rest h = grind (arith, common_steps, and-false)
+begins_prefix : (b : Bool) (prefix rest : List ℕ) → (b && begins is_hyphen (prefix ++ rest)) ≡ false → (b && begins is_hyphen prefix) ≡ false
+begins_prefix b prefix rest h = grind (arith, common_steps, and-false)
 
 -- a closing run begins with two hyphens
 run_is : (c : ℕ) (cs : List ℕ) → (is_hyphen c && begins is_hyphen cs) ≡ true → list_all is_hyphen cs ≡ true → IsRunOfHyphens (c ∷ cs)
@@ -78,7 +78,7 @@ remark_body (c ∷ cs) h =
         | inl q ↦ ([], c ∷ cs, refl, refl, inr (run_is c cs q.0 q.1))
         | inr q ↦
             let r = remark_body cs q.1 in
-            let alone = begins_front (is_hyphen c) r.0 r.1 (rw r.2 at q.0) in
+            let alone = begins_prefix (is_hyphen c) r.0 r.1 (rw r.2 at q.0) in
             (c ∷ r.0, r.1, ap (λ s. c ∷ s) r.2, rw (p.0, alone) r.3, r.4)
       ]
     ]
@@ -96,12 +96,12 @@ comment_body (c ∷ cs) h =
 
 pub two_hyphens : (s : List ℕ) → is_comment_rest s ≡ true → IsComment (45 ∷ 45 ∷ s)
 two_hyphens s h =
-    let front = comment_body s h in
-    let back = remark_body front.1 front.4 in
-    let all : s ≡ front.0 ++ back.0 ++ back.1 = front.2 ∙ ap (λ t. front.0 ++ t) back.2 ∙ sym (append_assoc front.0 back.0 back.1) in
-    (45 ∷ 45 ∷ front.0, back.0, back.1, ap (λ t. 45 ∷ 45 ∷ t) all, (omega arith, front.3), back.3, back.4)
+    let prefix = comment_body s h in
+    let back = remark_body prefix.1 prefix.4 in
+    let all : s ≡ prefix.0 ++ back.0 ++ back.1 = prefix.2 ∙ ap (λ t. prefix.0 ++ t) back.2 ∙ sym (append_assoc prefix.0 back.0 back.1) in
+    (45 ∷ 45 ∷ prefix.0, back.0, back.1, ap (λ t. 45 ∷ 45 ∷ t) all, (omega arith, prefix.3), back.3, back.4)
 
--- numbers
+-- a text with a first octet isn't empty
 some_octets : (c : ℕ) (cs : List ℕ) → c ∷ cs ≢ []
 some_octets c cs h = cc
 
@@ -114,7 +114,7 @@ hyphen_part_is (c ∷ cs) part h =
       | inr p ↦ then_is number (lexeme K.Number) part (45 ∷ c ∷ cs) p.1 (λ e. (45 ∷ [], c ∷ cs, refl, inr refl, some_octets c cs, e))
     ]
 
--- symbols
+-- what reads as a symbol, by its first octet and the octets after it, is that symbol
 symbol_part_is : (kind : TokenKind) (c : ℕ) (s : List ℕ) (part : Part) → IsLexeme kind (c ∷ []) → symbol_part kind s ≡ Some part → IsPart part (c ∷ s)
 symbol_part_is kind c [] part first h = then_is true (lexeme kind) part (c ∷ []) h (λ _. first)
 symbol_part_is K.Colon c (d ∷ ds) part first h = grind (arith, common_steps, then_is, and_parts, sole_is, eqb-true)
@@ -160,12 +160,12 @@ all_other : (p : ℕ → Bool) (octet : ℕ) → p octet ≡ false → (s : List
 all_other p octet fail [] h = refl
 all_other p octet fail (c ∷ cs) h = grind (arith, common_steps, and_parts, other, all_other p octet fail cs)
 
--- strings
+-- octets other than a quote, and then a quote, read as the rest of a string
 string_reads : (body : List ℕ) → list_all (is_other 34) body ≡ true → is_string_rest (body ++ 34 ∷ []) ≡ true
 string_reads [] h = refl
 string_reads (c ∷ cs) h = grind (arith, common_steps, and_parts, string_step, string_reads cs)
 
--- literals
+-- `H` and `h` are letters of hexadecimal literals
 hex_letter : (c : ℕ) → (c ≡ 72) ⊎ (c ≡ 104) → is_hex_letter c ≡ true
 hex_letter c h = grind arith
 
@@ -188,11 +188,11 @@ lexeme_of_kind K.Hex s (digits, letter, is, all, case) = grind (arith, common_st
 lexeme_of_kind K.Binary s (digits, letter, is, all, case) = grind (arith, common_steps, binary_letter, literal_reads_of, all_other, and-false)
 lexeme_of_kind _ s h = rw h refl
 
--- comments: only hyphens may close a remark
+-- what closes a remark, if anything does, consists of hyphens
 all_hyphens : (closing : List ℕ) → (closing ≡ []) ⊎ IsRunOfHyphens closing → list_all is_hyphen closing ≡ true
 all_hyphens closing h = grind (arith, common_steps)
 
--- the first two hyphens of a run
+-- a run of hyphens begins with two, and all others after them are hyphens too
 run_opens : (run : List ℕ) → IsRunOfHyphens run → (more : List ℕ) × (run ≡ 45 ∷ 45 ∷ more) × (list_all is_hyphen more ≡ true)
 run_opens [] h = absurd (omega (arith, h.0))
 run_opens (c ∷ []) h = absurd (omega (arith, h.0))
@@ -212,7 +212,7 @@ remark_reads [] closing remark_is closes = hyphens_read closing closes
 remark_reads (c ∷ cs) closing remark_is closes =
     grind (arith, common_steps, and_parts, not-true, remark_octet_reads, all_hyphens, remark_reads cs closing)
 
-hyphens_before : (front rest : List ℕ) → list_all is_hyphen front ≡ true → is_comment_rest rest ≡ true → is_comment_rest (front ++ rest) ≡ true
+hyphens_before : (prefix rest : List ℕ) → list_all is_hyphen prefix ≡ true → is_comment_rest rest ≡ true → is_comment_rest (prefix ++ rest) ≡ true
 hyphens_before [] rest all h = h
 hyphens_before (c ∷ cs) rest all h = grind (arith, common_steps, and_parts, hyphens_before cs rest)
 
@@ -233,7 +233,7 @@ comment_opens c s (opening, remark, closing, is, run, remark_is, closes) = grind
 
 -- ---- lines
 
--- no line ends in octets other than newlines
+-- octets other than newlines contain no newline
 others_one_line : (s : List ℕ) → list_all (is_other 10) s ≡ true → newlines s ≡ 0
 others_one_line [] h = refl
 others_one_line (c ∷ cs) h = grind (arith, common_steps, and_parts, newlines-cons, newlines-one, not-true, others_one_line cs)
@@ -250,7 +250,7 @@ literal_one_line : (is_digit : ℕ → Bool) (upper lower : ℕ) → is_digit 10
 literal_one_line is_digit upper lower fail up low s (digits, letter, is, all, case) =
     grind (arith, common_steps, others_one_line, list_all-append, all_other)
 
--- a line ends only in a string
+-- a token that isn't a string contains no newline
 pub one_line : (kind : TokenKind) → (kind ≡ K.Text → ⊥) → (s : List ℕ) → IsLexeme kind s → newlines s ≡ 0
 one_line K.Lower other s h = word_one_line is_ascii_lowercase refl s h
 one_line K.Upper other s h = word_one_line is_ascii_uppercase refl s h

@@ -7,24 +7,24 @@ use Rattle.std.specs.{List.list_all, Bool.then_some, Option.option_map, Char.is_
 use Rattle.std.proofs.lemmas.List.{drop_all, take-append-drop, take_all, take-take, length-take}
 use Rattle.smi_text.specs.{declared.lexer.token.TokenKind.TokenKind, lexer.Lexeme.Part, lexer.Lexeme.lexeme, lexer.Lexeme.is_binary_digit}
 use Rattle.smi_text.specs.declared.lexer.token.TokenKind.TheVariants.{Text, Hex, Binary}
-use Rattle.smi_text.specs.lexer.Reading.{HasNoLexeme, IsFirstPlace, IsLexemeFront, IsLongestPassing, IsPartFront, is_other, is_nothing, is_sole}
-use Rattle.smi_text.specs.lexer.Reading.{is_string_rest, is_literal_rest, string_part, literal_part, literal_of, is_hex_letter, is_binary_letter}
+use Rattle.smi_text.specs.lexer.LongestMatch.{HasNoLexeme, IsFirstIndex, IsLexemePrefix, IsLongestPassing, IsPartPrefix, is_other, is_nothing, is_sole}
+use Rattle.smi_text.specs.lexer.LongestMatch.{is_string_rest, is_literal_rest, string_part, literal_part, literal_of, is_hex_letter, is_binary_letter}
 use Rattle.smi_text.specs.declared.lexer.class.Class.{Class}
-use Rattle.smi_text.specs.lexer.Reading.{class_of, part_in, part_of}
-use Rattle.smi_text.proofs.Scans.{rest_at, longest_behind, goes_on_past}
+use Rattle.smi_text.specs.lexer.LongestMatch.{class_of, part_in, part_of}
+use Rattle.smi_text.proofs.Scans.{rest_at, longest_after, goes_on_past}
 
 -- the longest prefix, if a test decides what it reads as
-pub part_front : (test : List ℕ → Bool) (reading : List ℕ → Option Part) (part : Part) (text : List ℕ) (n : ℕ)
-    → ((s : List ℕ) → reading s ≡ then_some (test s) part) → IsLongestPassing test text n → IsPartFront reading text part n
-part_front test reading part text n read front = grind (arith, common_steps)
+pub part_prefix : (test : List ℕ → Bool) (reading : List ℕ → Option Part) (part : Part) (text : List ℕ) (n : ℕ)
+    → ((s : List ℕ) → reading s ≡ then_some (test s) part) → IsLongestPassing test text n → IsPartPrefix reading text part n
+part_prefix test reading part text n read prefix = grind (arith, common_steps)
 
 pub none_some : (part : Part) → ◌≡◌ {A = Option Part} None (Some part) → ⊥
 none_some part h = cc
 
 -- no prefix, if a test decides what it reads as
-pub no_front : (test : List ℕ → Bool) (reading : List ℕ → Option Part) (part : Part) (text : List ℕ)
+pub no_prefix : (test : List ℕ → Bool) (reading : List ℕ → Option Part) (part : Part) (text : List ℕ)
     → ((s : List ℕ) → reading s ≡ then_some (test s) part) → ((m : ℕ) → test (take m text) ≡ false) → HasNoLexeme reading text
-no_front test reading part text read fails kind m h = none_some (lexeme kind) (sym (read (take m text) ∙ ap (λ b. then_some b part) (fails m)) ∙ h)
+no_prefix test reading part text read fails kind m h = none_some (lexeme kind) (sym (read (take m text) ∙ ap (λ b. then_some b part) (fails m)) ∙ h)
 
 -- if all octets pass a test, then so do the octets of each prefix
 pub list_all-take : (p : ℕ → Bool) (m : ℕ) (s : List ℕ) → list_all p s ≡ true → list_all p (take m s) ≡ true
@@ -44,8 +44,8 @@ pub string_open : (s : List ℕ) → list_all (is_other 34) s ≡ true → is_st
 string_open [] h = refl
 string_open (c ∷ cs) h = grind (arith, common_steps, and_parts, string_step, string_open cs)
 
-pub string_none : (text : List ℕ) → IsFirstPlace 34 text None → IsLexemeFront string_part text None
-string_none text h = no_front is_string_rest string_part (lexeme Text) text (λ s. refl) (λ m. string_open (take m text) (list_all-take (is_other 34) m text h))
+pub string_none : (text : List ℕ) → IsFirstIndex 34 text None → IsLexemePrefix string_part text None
+string_none text h = no_prefix is_string_rest string_part (lexeme Text) text (λ s. refl) (λ m. string_open (take m text) (list_all-take (is_other 34) m text h))
 
 pub quote_alone : (s : List ℕ) → IsLongestPassing is_string_rest (34 ∷ s) 1
 quote_alone s = record { within = omega arith; passes = refl; longest = more s }
@@ -56,10 +56,10 @@ quote_alone s = record { within = omega arith; passes = refl; longest = more s }
     more [] (suc (suc m)) above within = absurd (omega arith)
     more (c ∷ cs) (suc (suc m)) above within = refl
 
-pub string_some : (text : List ℕ) (i : ℕ) → IsFirstPlace 34 text (Some i) → IsLexemeFront string_part text (Some (Text, i + 1))
+pub string_some : (text : List ℕ) (i : ℕ) → IsFirstIndex 34 text (Some i) → IsLexemePrefix string_part text (Some (Text, i + 1))
 string_some text i h =
-    part_front is_string_rest string_part (lexeme Text) text (i + 1) (λ s. refl)
-    (longest_behind is_string_rest is_string_rest text i 1 (omega (arith, h.0))
+    part_prefix is_string_rest string_part (lexeme Text) text (i + 1) (λ s. refl)
+    (longest_after is_string_rest is_string_rest text i 1 (omega (arith, h.0))
     (goes_on_past is_string_rest (is_other 34) string_step i text (omega (arith, h.0)) h.2)
     (subst (λ s. IsLongestPassing is_string_rest s 1) (sym (rest_at text i h.0 ∙ ap (λ c. c ∷ drop (i + 1) text) h.1)) (quote_alone (drop (i + 1) text))))
 
@@ -77,63 +77,63 @@ literal_closed is_digit is_letter [] s h = refl
 literal_closed is_digit is_letter (c ∷ cs) s h = grind (arith, common_steps, and_parts, other_not, and_assoc, literal_closed is_digit is_letter cs s)
 
 -- what follows a literal's digits decides its kind
-abbrev pub literal_behind : List ℕ → List ℕ → Option Part
-literal_behind digits s =
+abbrev pub literal_after : List ℕ → List ℕ → Option Part
+literal_after digits s =
     if list_all is_ascii_hexdigit digits && is_sole is_hex_letter s then Some (lexeme Hex)
     else then_some (list_all is_binary_digit digits && is_sole is_binary_letter s) (lexeme Binary)
 
-pub literal_reads : (digits s : List ℕ) → list_all (is_other 39) digits ≡ true → literal_part (digits ++ 39 ∷ s) ≡ literal_behind digits s
+pub literal_reads : (digits s : List ℕ) → list_all (is_other 39) digits ≡ true → literal_part (digits ++ 39 ∷ s) ≡ literal_after digits s
 literal_reads digits s h = grind (arith, common_steps, literal_closed)
 
-pub literal_exact : (digits : List ℕ) (letter : ℕ) → literal_behind digits (letter ∷ []) ≡ literal_of digits letter
+pub literal_exact : (digits : List ℕ) (letter : ℕ) → literal_after digits (letter ∷ []) ≡ literal_of digits letter
 literal_exact digits letter = rw (and-true (is_hex_letter letter), and-true (is_binary_letter letter)) refl
 
-literal_unended : (digits : List ℕ) → literal_behind digits [] ≡ None
+literal_unended : (digits : List ℕ) → literal_after digits [] ≡ None
 literal_unended digits = rw (and-false (list_all is_ascii_hexdigit digits), and-false (list_all is_binary_digit digits)) refl
 
 literal_unclosed : (s : List ℕ) → list_all (is_other 39) s ≡ true → literal_part s ≡ None
 literal_unclosed s h = rw (literal_open is_ascii_hexdigit is_hex_letter s h, literal_open is_binary_digit is_binary_letter s h) refl
 
--- a prefix that ends after the second quote
-literal_long : (k i : ℕ) (text : List ℕ) → IsFirstPlace 39 text (Some i)
-    → literal_part (take (i + suc k) text) ≡ literal_behind (take i text) (take k (drop (i + 1) text))
+-- with a quote at its first index `i`, a prefix of a literal that ends after this quote is read from the digits before the quote and the octets after it
+literal_long : (k i : ℕ) (text : List ℕ) → IsFirstIndex 39 text (Some i)
+    → literal_part (take (i + suc k) text) ≡ literal_after (take i text) (take k (drop (i + 1) text))
 literal_long k i text h = grind (arith, common_steps, take-add, rest_at, literal_reads)
 
 -- each prefix ends before the second quote or after it
-literal_at : (text : List ℕ) (i : ℕ) → IsFirstPlace 39 text (Some i) → (m : ℕ)
+literal_at : (text : List ℕ) (i : ℕ) → IsFirstIndex 39 text (Some i) → (m : ℕ)
     → (literal_part (take m text) ≡ None)
-    ⊎ ((k : ℕ) × (m ≡ i + suc k) × (literal_part (take m text) ≡ literal_behind (take i text) (take k (drop (i + 1) text))))
+    ⊎ ((k : ℕ) × (m ≡ i + suc k) × (literal_part (take m text) ≡ literal_after (take i text) (take k (drop (i + 1) text))))
 literal_at text i h m =
     elim (cases_lt i m) [
       | inl long ↦
-          let place : m ≡ i + suc (m - (i + 1)) = omega arith in
-          inr (m - (i + 1), place, ap (λ j. literal_part (take j text)) place ∙ literal_long (m - (i + 1)) i text h)
+          let offset : m ≡ i + suc (m - (i + 1)) = omega arith in
+          inr (m - (i + 1), offset, ap (λ j. literal_part (take j text)) offset ∙ literal_long (m - (i + 1)) i text h)
       | inr short ↦ inl (literal_unclosed (take m text) (rw (take-take m i text short) at (list_all-take (is_other 39) m (take i text) h.2)))
     ]
 
-pub literal_none : (text : List ℕ) → IsFirstPlace 39 text None → IsLexemeFront literal_part text None
+pub literal_none : (text : List ℕ) → IsFirstIndex 39 text None → IsLexemePrefix literal_part text None
 literal_none text h kind m is = none_some (lexeme kind) (sym (literal_unclosed (take m text) (list_all-take (is_other 39) m text h)) ∙ is)
 
 -- if no letter follows the second quote, then no prefix is a literal
-pub literal_ends : (text : List ℕ) (i : ℕ) → IsFirstPlace 39 text (Some i) → i + 1 ≡ length text → IsLexemeFront literal_part text None
+pub literal_ends : (text : List ℕ) (i : ℕ) → IsFirstIndex 39 text (Some i) → i + 1 ≡ length text → IsLexemePrefix literal_part text None
 literal_ends text i h last kind m is = grind (arith, common_steps, literal_at, none_some, drop_all, take_all, literal_unended)
 
 -- the octet after the second quote is the letter, and with more octets there is no literal
-literal_letter : (digits : List ℕ) (c : ℕ) (cs : List ℕ) (k : ℕ) → (literal_behind digits (take k (c ∷ cs)) ≡ None) ⊎ (take k (c ∷ cs) ≡ c ∷ [])
+literal_letter : (digits : List ℕ) (c : ℕ) (cs : List ℕ) (k : ℕ) → (literal_after digits (take k (c ∷ cs)) ≡ None) ⊎ (take k (c ∷ cs) ≡ c ∷ [])
 literal_letter digits c cs zero = inl (literal_unended digits)
 literal_letter digits c cs (suc zero) = inr refl
 literal_letter digits c [] (suc (suc k)) = inr refl
 literal_letter digits c (d ∷ ds) (suc (suc k)) = grind (arith, common_steps, and-false, literal_unended)
 
--- the letter decides
-pub literal_front : (text : List ℕ) (i : ℕ) → IsFirstPlace 39 text (Some i) → i + 1 < length text
+-- the first prefix that can be a literal ends with the octet after the second quote, which decides what kind of literal it is, if it is one
+pub literal_prefix : (text : List ℕ) (i : ℕ) → IsFirstIndex 39 text (Some i) → i + 1 < length text
     → (digits : List ℕ) → digits ≡ take i text → (found : Option TokenKind) → option_map lexeme found ≡ literal_of digits (get_or text (i + 1) 0)
-    → IsLexemeFront literal_part text (option_map (λ kind. (kind, i + 2)) found)
-literal_front text i h next digits front found kind_is = by_kind found (rw front at kind_is)
+    → IsLexemePrefix literal_part text (option_map (λ kind. (kind, i + 2)) found)
+literal_prefix text i h next digits prefix found kind_is = by_kind found (rw prefix at kind_is)
   where
-    rest : (k : ℕ) → literal_behind (take i text) (take k (drop (i + 1) text))
-        ≡ literal_behind (take i text) (take k (get_or text (i + 1) 0 ∷ drop ((i + 1) + 1) text))
-    rest k = ap (λ s. literal_behind (take i text) (take k s)) (rest_at text (i + 1) next)
+    rest : (k : ℕ) → literal_after (take i text) (take k (drop (i + 1) text))
+        ≡ literal_after (take i text) (take k (get_or text (i + 1) 0 ∷ drop ((i + 1) + 1) text))
+    rest k = ap (λ s. literal_after (take i text) (take k s)) (rest_at text (i + 1) next)
 
     -- each prefix is no literal, or is this one
     each : (m : ℕ) → (literal_part (take m text) ≡ None)
@@ -145,13 +145,13 @@ literal_front text i h next digits front found kind_is = by_kind found (rw front
             | inl none ↦ inl (p.2 ∙ rest p.0 ∙ none)
             | inr one ↦ inr (
               λ within. omega (arith, p.1, ap length one, length-take p.0 (get_or text (i + 1) 0 ∷ drop ((i + 1) + 1) text), length-drop ((i + 1) + 1) text),
-              p.2 ∙ rest p.0 ∙ ap (literal_behind (take i text)) one ∙ literal_exact (take i text) (get_or text (i + 1) 0),
+              p.2 ∙ rest p.0 ∙ ap (literal_after (take i text)) one ∙ literal_exact (take i text) (get_or text (i + 1) 0),
             )
           ]
         ]
 
     by_kind : (found : Option TokenKind) → option_map lexeme found ≡ literal_of (take i text) (get_or text (i + 1) 0)
-        → IsLexemeFront literal_part text (option_map (λ kind. (kind, i + 2)) found)
+        → IsLexemePrefix literal_part text (option_map (λ kind. (kind, i + 2)) found)
     by_kind None none = λ kind m is. elim (each m) [ inl e ↦ none_some (lexeme kind) (sym e ∙ is) | inr p ↦ none_some (lexeme kind) (none ∙ sym p.1 ∙ is) ]
     by_kind (Some kind) some = record {
       within = omega arith;
@@ -161,28 +161,28 @@ literal_front text i h next digits front found kind_is = by_kind found (rw front
 
 -- ---- with the first octet
 
--- a prefix with one octet before it
-pub front_cons : (reading inner : List ℕ → Option Part) (c : ℕ) (cs : List ℕ) (part : Part) (n : ℕ) → ((s : List ℕ) → reading (c ∷ s) ≡ inner s)
-    → IsPartFront inner cs part n → IsPartFront reading (c ∷ cs) part (n + 1)
-front_cons reading inner c cs part n read front = rw (add-one n) (record {
-  within = omega (arith, front.within);
-  reads = read (take n cs) ∙ front.reads;
+-- if `n` octets of `cs` are the longest prefix that reads as a part, then with the octet `c` before them they are the longest one of `c` and `cs`
+pub prefix_cons : (reading inner : List ℕ → Option Part) (c : ℕ) (cs : List ℕ) (part : Part) (n : ℕ) → ((s : List ℕ) → reading (c ∷ s) ≡ inner s)
+    → IsPartPrefix inner cs part n → IsPartPrefix reading (c ∷ cs) part (n + 1)
+prefix_cons reading inner c cs part n read prefix = rw (add-one n) (record {
+  within = omega (arith, prefix.within);
+  reads = read (take n cs) ∙ prefix.reads;
   longest = longer;
 })
   where
     longer : (m : ℕ) → suc n < m → m ≤ suc (length cs) → reading (take m (c ∷ cs)) ≡ None
     longer zero above within = absurd (omega arith)
-    longer (suc m) above within = read (take m cs) ∙ front.longest m (omega arith) (omega arith)
+    longer (suc m) above within = read (take m cs) ∙ prefix.longest m (omega arith) (omega arith)
 
-pub none_behind_first : (c : ℕ) (cs : List ℕ) (class : Class) → class ≡ class_of c → HasNoLexeme (part_in class) cs → HasNoLexeme part_of (c ∷ cs)
+pub none_after_first : (c : ℕ) (cs : List ℕ) (class : Class) → class ≡ class_of c → HasNoLexeme (part_in class) cs → HasNoLexeme part_of (c ∷ cs)
 unfolding part_of
-none_behind_first c cs class of none kind zero is = none_some (lexeme kind) is
-none_behind_first c cs class of none kind (suc m) is = none kind m (rw of is)
+none_after_first c cs class of none kind zero is = none_some (lexeme kind) is
+none_after_first c cs class of none kind (suc m) is = none kind m (rw of is)
 
-pub front_behind_first : (c : ℕ) (cs : List ℕ) (class : Class) → class ≡ class_of c → (part : Part) (n : ℕ) → IsPartFront (part_in class) cs part n
-    → IsPartFront part_of (c ∷ cs) part (n + 1)
+pub prefix_after_first : (c : ℕ) (cs : List ℕ) (class : Class) → class ≡ class_of c → (part : Part) (n : ℕ) → IsPartPrefix (part_in class) cs part n
+    → IsPartPrefix part_of (c ∷ cs) part (n + 1)
 unfolding part_of
-front_behind_first c cs class of part n front = front_cons part_of (part_in class) c cs part n (λ s. rw of refl) front
+prefix_after_first c cs class of part n prefix = prefix_cons part_of (part_in class) c cs part n (λ s. rw of refl) prefix
 
 pub no_lexeme_of_nothing : HasNoLexeme part_of []
 unfolding part_of

@@ -9,13 +9,13 @@ use Rattle.smi_text.specs.{declared.modules.Head.Head, declared.trees.tree.DefKi
 use Rattle.smi_text.specs.trees.Mark.{Mark, sign, spelled, on_line, same_kind}
 use Rattle.smi_text.specs.trees.Spelling as say
 use Rattle.smi_text.specs.trees.Number.{is_bound, is_symbol, is_macro}
-use Rattle.smi_text.specs.private.Format.{StandsAhead, a_name, a_kind, meets, begins}
+use Rattle.smi_text.specs.private.Format.{ItemsMatch, a_name, a_kind, meets, begins}
 use Rattle.smi_text.specs.private.Grammar as g
 use Rattle.smi_text.proofs.{Productions.all, Lawful.Lawful, Marks.same_kind-eq, RawLaws.index_names-law}
-use Rattle.smi_text.proofs.Laws.{never-stands, of_either, ◌▸◌, ◌∣◌, last, word-law, token-law, text-law, text_where-law, name_where-law, lower-law}
-use Rattle.smi_text.proofs.Laws.{name-law, pair-law, behind-law, before-law, maybe-law, either-law, many-law, shaped-law, made-law, spelled-as}
+use Rattle.smi_text.proofs.Laws.{never-matched, of_either, ◌▸◌, ◌∣◌, last, word-law, token-law, text-law, text_where-law, name_where-law, lower-law}
+use Rattle.smi_text.proofs.Laws.{name-law, pair-law, preceded-law, before-law, maybe-law, either-law, many-law, shaped-law, made-law, spelled-as}
 use Rattle.smi_text.proofs.Laws.{lined-law, some_of-law, after-word, after-sign, clause-law, braced-law, parenthesized-law, separated-law, kept-law}
-use Rattle.smi_text.proofs.RawLaws.{before_assign-law, before_end-law, balanced-law}
+use Rattle.smi_text.proofs.RawLaws.{before_assign-law, before_end-law, balanced_tokens-law}
 use Rattle.smi_text.specs.declared.trees.tree.Part.TheVariants as P
 use Rattle.smi_text.specs.declared.trees.tree.Syntax.TheVariants as T
 use Rattle.smi_text.specs.declared.trees.tree.Base.TheVariants as B
@@ -109,7 +109,7 @@ object_identity-law = unfold all in shaped-law (after-word (pair-law status-law 
 
 object_type-law : Lawful say.of_object_type g.object_type
 object_type-law = unfold all in shaped-law (after-word ((after-word syntax_type-law ▸ maybe-law clause-law refl ▸ after-word text-law ▸ status-law
-    ▸ maybe-law index-law refl ▸ maybe-law (after-word (braced-law balanced-law refl)) refl ▸ last value-law) refl)) (λ d. inl (_, refl))
+    ▸ maybe-law index-law refl ▸ maybe-law (after-word (braced-law balanced_tokens-law refl)) refl ▸ last value-law) refl)) (λ d. inl (_, refl))
 
 notification_type-law : Lawful say.of_notification_type g.notification_type
 notification_type-law = unfold all in shaped-law
@@ -140,7 +140,7 @@ only n s k = if class k == n then s k else say.nothing
 
 lower_definition-law : Lawful (only 0 say.of_kind) g.lower_definition
 lower_definition-law = unfold all in shaped-law
-    ((object_type-law ∣ behind-law (after-word word-law) value-law refl ∣ object_identity-law ∣ module_identity-law ∣ notification_type-law
+    ((object_type-law ∣ preceded-law (after-word word-law) value-law refl ∣ object_identity-law ∣ module_identity-law ∣ notification_type-law
     ∣ group-law _ _ ∣ group-law _ _ ∣ raw_definition-law _ ∣ last (raw_definition-law _)) refl)
     (elim [
       | D.ObjectType d ↦ inl (inl d, refl)
@@ -167,7 +167,7 @@ type-made None (T.Simple t) = (inr (inr (inr (inr t))), refl)
 
 assigned-law : Lawful of_assigned g.assigned
 assigned-law = unfold all in shaped-law
-    ((textual_convention-law ∣ after-word (braced-law balanced-law refl)
+    ((textual_convention-law ∣ after-word (braced-law balanced_tokens-law refl)
     ∣ pair-law (after-sign (after-word (before-law text_where-law (after-sign word-law) refl))) syntax_type-law refl
     ∣ spelled-as (after-word (either-law {u = of_either _ _} (braced-law (separated-law K.Comma field-law refl refl) refl) (after-word name-law) refl))
     (elim [ inl fs ↦ refl | inr x ↦ refl ])
@@ -192,7 +192,7 @@ of_upper k = sign K.Assign ∷ of_assigned k
 
 upper_definition-law : Lawful of_upper g.upper_definition
 upper_definition-law = unfold all in made-law (either-law {u = of_either _ _} (after-sign assigned-law) macro_definition-law refl)
-    (λ ts rest x h. grind (arith, common_steps, never-stands))
+    (λ ts rest x h. grind (arith, common_steps, never-matched))
     (λ ts rest. elim [ D.Macro xs ↦ λ h. (inr _, refl, h) | k ↦ λ h. (inl _, refl, h) ])
 
 -- the names of macros
@@ -216,12 +216,12 @@ of_labelled (inl p) = on_line p.0.0 (say.lower p.0.1) ∷ only 0 say.of_kind p.1
 of_labelled (inr (inl p)) = on_line p.0.0 (say.upper p.0.1) ∷ of_upper p.1
 of_labelled (inr (inr p)) = on_line p.0.0 (spelled K.Upper p.0.1.octets (is_macro p.0.1.octets)) ∷ only 2 say.of_kind p.1
 
-def-forth : (ts rest : List Item) (x : g.Labelled ⊎ (g.Labelled ⊎ g.Labelled)) → StandsAhead (of_labelled x) ts rest
-    → StandsAhead (say.of_def (g.to_def x)) ts rest
-def-forth ts rest x h = grind (arith, common_steps, never-stands)
+def-forth : (ts rest : List Item) (x : g.Labelled ⊎ (g.Labelled ⊎ g.Labelled)) → ItemsMatch (of_labelled x) ts rest
+    → ItemsMatch (say.of_def (g.to_def x)) ts rest
+def-forth ts rest x h = grind (arith, common_steps, never-matched)
 
-def-back : (ts rest : List Item) (d : Def) → StandsAhead (say.of_def d) ts rest → let p : g.Labelled = ((d.line, d.label), d.kind) in
-    StandsAhead (of_labelled (inl p)) ts rest ⊎ (StandsAhead (of_labelled (inr (inl p))) ts rest ⊎ StandsAhead (of_labelled (inr (inr p))) ts rest)
+def-back : (ts rest : List Item) (d : Def) → ItemsMatch (say.of_def d) ts rest → let p : g.Labelled = ((d.line, d.label), d.kind) in
+    ItemsMatch (of_labelled (inl p)) ts rest ⊎ (ItemsMatch (of_labelled (inr (inl p))) ts rest ⊎ ItemsMatch (of_labelled (inr (inr p))) ts rest)
 def-back ts rest d h = grind (arith, common_steps)
 
 pub definition-law : Lawful say.of_def g.definition
@@ -250,7 +250,7 @@ of_head h = say.of_head h.name h.heading h.imports
 
 pub head-law : Lawful of_head g.head
 head-law = unfold all in shaped-law
-    ((name-law ▸ maybe-law (braced-law (many-law part-law refl refl) refl) refl ▸ last (behind-law (after-word (after-sign word-law))
+    ((name-law ▸ maybe-law (braced-law (many-law part-law refl refl) refl) refl ▸ last (preceded-law (after-word (after-sign word-law))
     (maybe-law (after-word (before-law (many-law import_clause-law refl refl) (token-law K.Semicolon) refl)) refl) refl)) refl)
     (λ h. inl (_, refl))
 

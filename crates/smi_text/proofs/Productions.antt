@@ -1,9 +1,9 @@
 -- What the functions of a file unfold, each list under one name: the formats, and the productions that the file reads.
 use Rattle.std.proofs.Common.{ℕ}
 use Rattle.smi_text.specs.{trees.Number.is_symbol, trees.Reserved.is_reserved}
-use Rattle.smi_text.specs.private.Format.{begins, maybe, behind, lower, word, token, text, text_where, name, pair, before, either, shaped, some_of}
+use Rattle.smi_text.specs.private.Format.{begins, maybe, preceded, lower, word, token, text, text_where, name, pair, before, either, shaped, some_of}
 use Rattle.smi_text.specs.private.Format.{separated, lined, many}
-use Rattle.smi_text.specs.private.Grammar.{arc, assigned, balanced, base, before_assign, before_end, bound, braced, choice, clause, default_value}
+use Rattle.smi_text.specs.private.Grammar.{arc, assigned, balanced_tokens, base, before_assign, before_end, bound, braced, choice, clause, default_value}
 use Rattle.smi_text.specs.private.Grammar.{definition, field, group, head, heading, identifier, import_clause, imported_symbol, imports, index}
 use Rattle.smi_text.specs.private.Grammar.{index_names, later_part, lower_definition, macro_definition, macro_name, module_identity}
 use Rattle.smi_text.specs.private.Grammar.{module_text, named_number, names, notification_type, object_identifier, object_identifier_words}
@@ -11,9 +11,9 @@ use Rattle.smi_text.specs.private.Grammar.{object_identity, object_type, objects
 use Rattle.smi_text.specs.private.Grammar.{ranges, raw_definition, refinement, revision, simple_type, size, status, syntax_clause}
 use Rattle.smi_text.specs.private.Grammar.{syntax_type, tag, textual_convention, upper_definition, value, file, read_index, with_names}
 
--- one token, or none
+-- the formats of one token, or of none
 unfoldable pub tokens : ℕ
-unfolding begins maybe shaped pair behind lower word token text text_where name
+unfolding begins maybe shaped pair preceded lower word token text text_where name
 tokens = 0
 
 unfoldable pub formats : ℕ
@@ -30,7 +30,7 @@ unfolding formats braced parenthesized arc part later_part identifier value boun
 of_types = 0
 
 unfoldable pub of_clauses : ℕ
-unfolding formats clause braced names status index_names index before_assign before_end balanced default_value revision objects
+unfolding formats clause braced names status index_names index before_assign before_end balanced_tokens default_value revision objects
 of_clauses = 0
 
 unfoldable pub of_definitions : ℕ
@@ -41,19 +41,19 @@ of_definitions = 0
 
 -- only what is needed for these two, which have many parts
 unfoldable pub of_many : ℕ
-unfolding shaped pair behind module_identity textual_convention
+unfolding shaped pair preceded module_identity textual_convention
 of_many = 0
 
--- the loop of an index
+-- what a proof about the loop over the names of an INDEX clause unfolds
 unfoldable pub of_index : ℕ
-unfolding read_index with_names shaped pair behind lower
+unfolding read_index with_names shaped pair preceded lower
 of_index = 0
 
 unfoldable pub of_modules : ℕ
 unfolding formats braced imported_symbol import_clause imports heading opening head module_text is_symbol
 of_modules = 0
 
--- all of them
+-- all formats and productions
 unfoldable pub all : ℕ
 unfolding of_types of_clauses of_definitions of_modules file many is_reserved
 all = 0

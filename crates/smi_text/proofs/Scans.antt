@@ -4,7 +4,7 @@ use Rattle.std.proofs.lemmas.Bool.{and_parts, eqb-true, ne_eqb, cases_lt, false_
 use Rattle.std.proofs.Common.{◌≡◌, ℕ, zero, suc, ◌+◌, ◌-◌, ◌<◌, ◌≤◌, Bool, true, false, List, [], ◌∷◌, length, get_or, take, drop, sym, ap, ◌∙◌}
 use Rattle.std.proofs.Common.{arith, length-drop, drop-cons, add-one, add-zero, zero-add, suc-add, cond, ◌&&◌, ◌||◌, refl, subst, inl, inr}
 use Rattle.std.specs.List.{list_all}
-use Rattle.smi_text.specs.lexer.Reading.{GoesOn, IsLongestPassing, IsRemarkEnd, is_comment_rest, IsRunBetween, is_remark_rest}
+use Rattle.smi_text.specs.lexer.LongestMatch.{GoesOn, IsLongestPassing, IsRemarkEnd, is_comment_rest, IsRunBetween, is_remark_rest}
 use Rattle.smi_text.specs.lexer.Lexeme.{begins, is_hyphen, is_word_octet, is_word_rest}
 
 -- what is left of a text at offset n is its octet there, and what follows
@@ -21,8 +21,8 @@ module _ (test : List ℕ → Bool) (text : List ℕ) where
   scan_step n here step before = record {
     within = omega arith;
     same = λ k.
-        let place : (n + 1) + k ≡ n + suc k = omega arith in
-        ap (λ m. test (take m text)) place ∙ before.same (suc k) ∙ ap (λ s. test (take (suc k) s)) (rest_at text n here) ∙ step k;
+        let offset : (n + 1) + k ≡ n + suc k = omega arith in
+        ap (λ m. test (take m text)) offset ∙ before.same (suc k) ∙ ap (λ s. test (take (suc k) s)) (rest_at text n here) ∙ step k;
   }
 
   pub scan_two : (n : ℕ) → n + 1 < length text → ((k : ℕ)
@@ -31,8 +31,8 @@ module _ (test : List ℕ → Bool) (text : List ℕ) where
   scan_two n here step before = record {
     within = omega arith;
     same = λ k.
-        let place : (n + 2) + k ≡ n + suc (suc k) = omega arith in
-        ap (λ m. test (take m text)) place ∙ before.same (suc (suc k)) ∙ ap (λ s. test (take (suc (suc k)) s)) (rest_of_two text n here) ∙ step k;
+        let offset : (n + 2) + k ≡ n + suc (suc k) = omega arith in
+        ap (λ m. test (take m text)) offset ∙ before.same (suc (suc k)) ∙ ap (λ s. test (take (suc (suc k)) s)) (rest_of_two text n here) ∙ step k;
   }
 
   pub scan_end : (n : ℕ) → test [] ≡ true → ((k : ℕ) → k < length text - n → test (take (suc k) (drop n text)) ≡ false)
@@ -41,8 +41,8 @@ module _ (test : List ℕ → Bool) (text : List ℕ) where
     within = before.within;
     passes = ap (λ m. test (take m text)) (sym (add-zero n)) ∙ before.same 0 ∙ empty;
     longest = λ m above within.
-        let place : m ≡ n + suc (m - (n + 1)) = omega arith in
-        ap (λ j. test (take j text)) place ∙ before.same (suc (m - (n + 1))) ∙ stop (m - (n + 1)) (omega arith);
+        let offset : m ≡ n + suc (m - (n + 1)) = omega arith in
+        ap (λ j. test (take j text)) offset ∙ before.same (suc (m - (n + 1))) ∙ stop (m - (n + 1)) (omega arith);
   }
 
   -- if nothing that begins with an octet passes, then the scan stops before it
@@ -52,18 +52,18 @@ module _ (test : List ℕ → Bool) (text : List ℕ) where
       scan_end n empty (λ k h. ap (λ s. test (take (suc k) s)) (rest_at text n here) ∙ stop k) before
 
 -- after octets that make no difference, the longest prefix of the rest that passes another test
-pub longest_behind : (test inner : List ℕ → Bool) (text : List ℕ) (n k : ℕ) → n ≤ length text
+pub longest_after : (test inner : List ℕ → Bool) (text : List ℕ) (n k : ℕ) → n ≤ length text
     → ((j : ℕ) → test (take (n + j) text) ≡ inner (take j (drop n text)))
     → IsLongestPassing inner (drop n text) k → IsLongestPassing test text (n + k)
-longest_behind test inner text n k within same front = record {
-  within = omega (arith, length-drop n text, front.within);
-  passes = same k ∙ front.passes;
+longest_after test inner text n k within same prefix = record {
+  within = omega (arith, length-drop n text, prefix.within);
+  passes = same k ∙ prefix.passes;
   longest = λ m above below.
-      let place : m ≡ n + (m - n) = omega arith in
-      ap (λ j. test (take j text)) place ∙ same (m - n) ∙ front.longest (m - n) (omega arith) (omega (arith, length-drop n text));
+      let offset : m ≡ n + (m - n) = omega arith in
+      ap (λ j. test (take j text)) offset ∙ same (m - n) ∙ prefix.longest (m - n) (omega arith) (omega (arith, length-drop n text));
 }
 
--- octets that pass and make no difference to the test
+-- if an octet that passes `p` makes no difference to `test` before any octets, then `n` of them at the start of a text make none
 pub goes_on_past : (test : List ℕ → Bool) (p : ℕ → Bool) → ((c : ℕ) (s : List ℕ) → p c ≡ true → test (c ∷ s) ≡ test s)
     → (n : ℕ) (text : List ℕ) → n ≤ length text → list_all p (take n text) ≡ true
     → (k : ℕ) → test (take (n + k) text) ≡ test (take k (drop n text))
@@ -109,14 +109,14 @@ hyphen_alone next c k s alone = grind (arith, common_steps, begins-take, eqb-tru
 
 -- ---- words
 
--- a letter, digit or `_`
+-- a letter, digit or `_` continues the rest of a word
 pub word_step : (text : List ℕ) (n : ℕ) → n < length text → is_word_octet (get_or text n 0) ≡ true
     → GoesOn is_word_rest text n → GoesOn is_word_rest text (n + 1)
 word_step text n here pass =
     let rest = λ (k : ℕ). take k (drop (n + 1) text) in
     scan_step is_word_rest text n here (λ k. ap (λ b. (b || (is_hyphen (get_or text n 0) && begins is_word_octet (rest k))) && is_word_rest (rest k)) pass)
 
--- a hyphen, and a letter, digit or `_`
+-- a hyphen that a letter, digit or `_` follows continues the rest of a word, together with this octet
 pub hyphen_step : (text : List ℕ) (n : ℕ) → n + 1 < length text → get_or text n 0 ≡ 45 → is_word_octet (get_or text (n + 1) 0) ≡ true
     → GoesOn is_word_rest text n → GoesOn is_word_rest text (n + 2)
 hyphen_step text n here hyphen pass = scan_two is_word_rest text n here (λ k. rw (hyphen, pass) refl)
@@ -127,7 +127,7 @@ pub word_stop : (text : List ℕ) (n : ℕ) → n < length text → is_word_octe
 word_stop text n here fail next =
     scan_stop is_word_rest text n here refl (λ k. rw (fail, hyphen_alone is_word_octet (get_or text n 0) k (drop (n + 1) text) next) refl)
 
--- up to the end of a run of letters, digits and `_`
+-- a run of letters, digits and `_` continues the rest of a word up to the end of the run
 pub word_run_goes : (text : List ℕ) (from to : ℕ) → GoesOn is_word_rest text from → IsRunBetween is_word_octet text from to
     → GoesOn is_word_rest text to
 word_run_goes text from to goes run =
@@ -154,7 +154,7 @@ word_ends text n stops next goes = elim (cases_lt n (length text)) [
 
 -- ---- remarks
 
--- an octet other than a newline and than a hyphen before another
+-- an octet continues a remark if it is neither a newline nor a hyphen before another hyphen
 pub remark_step : (text : List ℕ) (n : ℕ) → n < length text → (get_or text n 0 ≡ 10 → ⊥)
     → (get_or text n 0 ≡ 45 → begins is_hyphen (drop (n + 1) text) ≡ false)
     → GoesOn is_remark_rest text n → GoesOn is_remark_rest text (n + 1)
@@ -177,18 +177,19 @@ remark_begins _ _ h = refl
 
 -- no hyphen follows the longest run
 pub run_closed : (text : List ℕ) (n : ℕ) → IsLongestPassing (list_all is_hyphen) text n → begins is_hyphen (drop n text) ≡ false
-run_closed text n front = grind (arith, common_steps, cases_lt, begins_at, false_from_ne_true, list_all_more, begins_past)
+run_closed text n prefix = grind (arith, common_steps, cases_lt, begins_at, false_from_ne_true, list_all_more, begins_past)
 
--- a comment after its first two hyphens: the opening run, the remark, the closing run
-pub comment_front : (text remark closing : List ℕ) (o n r : ℕ) → IsLongestPassing (list_all is_hyphen) text o → remark ≡ drop o text
+-- After the first two hyphens of a comment, its longest rest is `o` hyphens, as many as there are, then `n` octets of a remark up to its end, and then `r`
+-- hyphens, as many as there are.
+pub comment_prefix : (text remark closing : List ℕ) (o n r : ℕ) → IsLongestPassing (list_all is_hyphen) text o → remark ≡ drop o text
     → n ≤ length remark → GoesOn is_remark_rest remark n → IsRemarkEnd (drop n remark) → closing ≡ drop n remark
     → IsLongestPassing (list_all is_hyphen) closing r
     → IsLongestPassing is_comment_rest text (o + (n + r))
-comment_front text remark closing o n r opening remark_is within goes ends closing_is run =
-    longest_behind is_comment_rest is_remark_rest text o (n + r) opening.within
+comment_prefix text remark closing o n r opening remark_is within goes ends closing_is run =
+    longest_after is_comment_rest is_remark_rest text o (n + r) opening.within
     (λ k. goes_on_past is_comment_rest is_hyphen (λ c s h. ap (λ b. cond b (is_comment_rest s) (is_remark_rest
     (c ∷ s))) h) o text opening.within opening.passes k
     ∙ remark_begins k (drop o text) (run_closed text o opening))
     (subst (λ s. IsLongestPassing is_remark_rest s (n + r)) remark_is
-    (longest_behind is_remark_rest (list_all is_hyphen) remark n r within (λ k. goes.same k ∙ closing_run k (drop n remark) ends)
+    (longest_after is_remark_rest (list_all is_hyphen) remark n r within (λ k. goes.same k ∙ closing_run k (drop n remark) ends)
     (subst (λ s. IsLongestPassing (list_all is_hyphen) s r) closing_is run)))

@@ -5,7 +5,7 @@ use Rattle.smi_text.specs.lexer.Token.{Lexeme, Item, tokens_of, first_fault}
 use Rattle.smi_text.specs.{lexer.Lexes.Lexes, declared.error.ParseError.ParseError}
 use Rattle.smi_text.specs.{declared.trees.tree.Module.Module, declared.trees.tree.Part.Part}
 use Rattle.smi_text.specs.{declared.trees.tree.Import.Import, declared.trees.tree.Def.Def}
-use Rattle.smi_text.specs.{trees.Mark.Stands, trees.Mark.same_text, trees.Lookup.labels}
+use Rattle.smi_text.specs.{trees.Mark.TokensMatch, trees.Mark.same_text, trees.Lookup.labels}
 use Rattle.smi_text.specs.{trees.Lookup.are_distinct, declared.trees.names.Name.Name}
 use Rattle.smi_text.specs.declared.lexer.token.LexError.{LexError}
 use Rattle.smi_text.specs.declared.error.ParseError.TheVariants as E
@@ -16,7 +16,7 @@ pub record AreSpelledBy (ms : List Module) (text : List ℕ) : Type 0 where
   pub items : List Item
   pub lexed : Lexes [] text items
   pub whole : first_fault items ≡ None
-  pub spelled : Stands (spelling ms) (tokens_of items) []
+  pub spelled : TokensMatch (spelling ms) (tokens_of items) []
 
 -- no module defines a name twice
 abbrev pub HasNoDoubles : List Module → Type 0
@@ -35,7 +35,7 @@ pub record HasSecond (line : ℕ) (tokens : List Lexeme) : Type 0 where
   pub once : are_distinct (labels before) ≡ true
   pub second : Def
   pub rest : List Lexeme
-  pub stands : Stands (flat_map of_def before ++ of_def second) tokens rest
+  pub matched : TokensMatch (flat_map of_def before ++ of_def second) tokens rest
   pub defined : list_any (same_text second.label.octets) (labels before) ≡ true
   pub on_line : second.line ≡ line
 
@@ -48,7 +48,7 @@ pub record DefinesAgain (line : ℕ) (tokens : List Lexeme) : Type 0 where
   pub heading : Option (List Part)
   pub imports : Option (List Import)
   pub body : List Lexeme
-  pub stands : Stands (spelling modules ++ of_head name heading imports) tokens body
+  pub matched : TokensMatch (spelling modules ++ of_head name heading imports) tokens body
   pub twice : HasSecond line body
 
 pub record HasDouble (line : ℕ) (text : List ℕ) : Type 0 where

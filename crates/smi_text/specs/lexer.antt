@@ -1,4 +1,4 @@
 pub mod Token
 pub mod Lexeme
 pub mod Lexes
-pub mod Reading
+pub mod LongestMatch

@@ -249,8 +249,8 @@ impl<'a> Parser<'a> {
 
     /// Reads tokens up to the brace that closes the one before them. Each brace that opens among
     /// them is closed among them.
-    fn balanced(&mut self) -> Result<Items<TokenText>, Stop>
-        ensures { ReturnsReading result self.new (grammar.balanced.read self.old) }
+    fn balanced_tokens(&mut self) -> Result<Items<TokenText>, Stop>
+        ensures { ReturnsReading result self.new (grammar.balanced_tokens.read self.old) }
     {
         let mut tokens = self.list();
         let mut depth: usize = 0;
@@ -269,10 +269,11 @@ impl<'a> Parser<'a> {
 
     /// Reads balanced tokens with the braces around them.
     pub(crate) fn braced_tokens(&mut self) -> Result<Items<TokenText>, Stop>
-        ensures { ReturnsReading result self.new ((grammar.braced grammar.balanced).read self.old) }
+        ensures { ReturnsReading result self.new
+            ((grammar.braced grammar.balanced_tokens).read self.old) }
     {
         self.sign(TokenKind::OpenBrace)?;
-        let tokens = self.balanced()?;
+        let tokens = self.balanced_tokens()?;
         self.sign(TokenKind::CloseBrace)?;
         Ok(tokens)
     }

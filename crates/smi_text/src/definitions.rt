@@ -207,7 +207,7 @@ impl<'a> Parser<'a> {
     }
 
     /// Reads what follows a name and `::=`.
-    fn assigned(&mut self) -> Result<DefKind, Stop>
+    fn read_assigned(&mut self) -> Result<DefKind, Stop>
         ensures { ReturnsReading result self.new (grammar.assigned.read self.old) }
     {
         if self.at_word(b"TEXTUAL-CONVENTION") {
@@ -251,7 +251,7 @@ impl<'a> Parser<'a> {
     {
         if self.at_kind(TokenKind::Assign) {
             self.sign(TokenKind::Assign)?;
-            self.assigned()
+            self.read_assigned()
         } else {
             self.macro_definition()
         }

@@ -3,9 +3,9 @@
 
 ghost use Rattle.std.specs.Prelude.{◌≡◌, List, [], IfOk, IfErr, IfSome, MatchResult, MatchBool};
 ghost use Rattle.std.specs.Prelude.{map, true, false, Some, ◌↔◌, ◌||◌, ℕ, OnOk};
-ghost use Rattle.smi_text.specs.{lexer.Token.Lexeme, trees.Mark.Stands, trees.Mark.same_text};
+ghost use Rattle.smi_text.specs.{lexer.Token.Lexeme, trees.Mark.TokensMatch, trees.Mark.same_text};
 ghost use Rattle.smi_text.specs.{private.Names.has, trees.Spelling.spelling, trees.Lines.plain};
-ghost use Rattle.smi_text.specs.{trees.Lines.unlined, trees.Braces.IsBalanced};
+ghost use Rattle.smi_text.specs.{trees.Lines.without_lines, trees.Braces.IsBalanced};
 ghost use Rattle.smi_text.specs.{trees.Braces.has_balanced_braces, private.Grammar.definition};
 ghost use Rattle.smi_text.specs.private.Returned.{ReadsDefinitions, ReadsModule, ReadsModules};
 ghost use Rattle.smi_text.specs.private.Returned.{AppendsDefinition, NewDefinitionFault};
@@ -117,8 +117,8 @@ fn first_fault(text: &[u8]) -> Option<LexError>
     None
 }
 
-/// Returns the error to report if the reading of `text` stopped with `stop`. A stop in the lexer
-/// is reported as the text's own fault.
+/// Returns the error to report if the reading of `text` stopped with `stop`. For an error of the
+/// lexer this is the first such error in the whole text, otherwise `stop` itself.
 fn cause_of(stop: ParseError, text: &[u8]) -> ParseError
     ensures { IsCauseOf stop result text.now }
 {
@@ -159,8 +159,8 @@ pub fn parse_modules(alloc: Global, text: &[u8]) -> Result<Vec<Module>, ParseErr
 ///
 /// A law: the call does nothing, and its caller may use what it ensures.
 pub fn one_module_list()
-    ensures { (ms ns : List Tree) (tokens : List Lexeme) → Stands (spelling ms) tokens []
-        → Stands (spelling ns) tokens [] → ms ≡ ns }
+    ensures { (ms ns : List Tree) (tokens : List Lexeme) → TokensMatch (spelling ms) tokens []
+        → TokensMatch (spelling ns) tokens [] → ms ≡ ns }
 {}
 
 /// Kinds and texts of tokens are the spelling of at most one list of modules, apart from its
@@ -170,15 +170,16 @@ pub fn one_module_list()
 #[tactic(auto, using(crate::proofs::Lines::same_but_lines))]
 pub fn one_module_list_without_lines()
     ensures { (ms ns : List Tree) (tokens : List Lexeme)
-        → Stands (map plain (spelling ms)) tokens [] → Stands (map plain (spelling ns)) tokens [] →
-        map unlined ms ≡ map unlined ns }
+        → TokensMatch (map plain (spelling ms)) tokens []
+        → TokensMatch (map plain (spelling ns)) tokens [] →
+        map without_lines ms ≡ map without_lines ns }
 {}
 
 /// Tokens between braces have a spelling if and only if each brace that opens among them is
 /// followed by the one that closes it, and no other brace closes among them.
 ///
 /// A law: the call does nothing, and its caller may use what it ensures.
-#[tactic(auto, using(crate::proofs::Braces::counted, crate::proofs::Braces::balanced_counted, crate::proofs::Braces::fronts_counted))]
+#[tactic(auto, using(crate::proofs::Braces::counted, crate::proofs::Braces::balanced_counted, crate::proofs::Braces::prefixes_counted))]
 pub fn balanced_braces()
     ensures { (xs : List TokenText) → has_balanced_braces xs ≡ true ↔ IsBalanced xs }
 {}

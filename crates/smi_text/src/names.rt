@@ -6,8 +6,8 @@ ghost use Rattle.smi_text.specs.{trees.Mark.same_text, private.Names.has, privat
 use crate::error::Stop;
 use std::collections::BTreeSet;
 
-/// A name, after its last eight octets as one number. Most names of a module begin alike and end
-/// differently, so the numbers tell them apart without a look at the octets.
+/// The last eight octets of a name as one number, and the name. Most names of a module begin alike
+/// and end differently, so the numbers tell them apart without a look at the other octets.
 pub(crate) type Key<'a> = (u64, &'a [u8]);
 
 /// Returns the last eight octets of `name` as one number, or 0 if it is shorter.

@@ -5,7 +5,7 @@ ghost use Rattle.std.specs.Prelude.{◌≡◌, ℕ, true, false, MatchBool, List
 ghost use Rattle.std.specs.Prelude.{drop, IfNone, IfSome, IfOk, IfErr, OnOk, ◌++◌, ◌<◌, length};
 ghost use Rattle.smi_text.specs.lexer.Token.{Lexeme, Item, lexeme_of};
 ghost use Rattle.smi_text.specs.private.Format.{Format, begins, token_ahead, a_word, a_kind};
-ghost use Rattle.smi_text.specs.private.Format.{a_name, line_ahead, name_of, with_front};
+ghost use Rattle.smi_text.specs.private.Format.{a_name, line_ahead, name_of, prepend};
 ghost use Rattle.smi_text.specs.private.Kinds.{is_sign_kind, is_word_kind};
 ghost use Rattle.smi_text.specs.private.Format as format;
 ghost use Rattle.smi_text.specs.lexer.Lexes.{Lexes};
@@ -69,7 +69,7 @@ pub(crate) struct AfterComma<P>(P);
 impl<P: Production> Production for AfterComma<P> {
     type Output = P::Output;
 
-    ghost format = { format.behind (format.token kinds.Comma) P.format };
+    ghost format = { format.preceded (format.token kinds.Comma) P.format };
 
     fn is_ahead(parser: &Parser<'_>) -> bool {
         parser.at_kind(TokenKind::Comma)
@@ -87,7 +87,7 @@ pub(crate) struct AfterBar<P>(P);
 impl<P: Production> Production for AfterBar<P> {
     type Output = P::Output;
 
-    ghost format = { format.behind (format.token kinds.Bar) P.format };
+    ghost format = { format.preceded (format.token kinds.Bar) P.format };
 
     fn is_ahead(parser: &Parser<'_>) -> bool {
         parser.at_kind(TokenKind::Bar)
@@ -244,7 +244,7 @@ impl<'a> Parser<'a> {
         ensures ok { IfOk result (λ x. (x ≡ text.now) × (self.new ≡ drop 1 self.old)) }
         ensures err { IfErr result (λ e. e ≡ Stop.Memory) }
     {
-        let text = Text::copied(self.alloc, text).map_err(|_| Stop::Memory)?;
+        let text = Text::from_slice(self.alloc, text).map_err(|_| Stop::Memory)?;
         self.advance();
         Ok(text)
     }
@@ -330,7 +330,7 @@ impl<'a> Parser<'a> {
     where
         P::Output: Drop,
         ensures { ReturnsReading result self.new
-            (with_front items.items ((format.many P.format).read
+            (prepend items.items ((format.many P.format).read
             self.old)) }
     {
         let mut items = items;
@@ -342,7 +342,7 @@ impl<'a> Parser<'a> {
     }
 
     /// Reads a production any number of times.
-    #[tactic(auto, using(crate::proofs::Many::with_front_nil))]
+    #[tactic(auto, using(crate::proofs::Many::with_prefix_nil))]
     pub(crate) fn many<P: Production>(&mut self) -> Result<Items<P::Output>, Stop>
     where
         P::Output: Drop,
@@ -361,7 +361,7 @@ impl<'a> Parser<'a> {
     where
         P::Output: Drop,
         ensures { ReturnsReading result self.new
-            (with_front (first ∷ []) ((format.many P.format).read
+            (prepend (first ∷ []) ((format.many P.format).read
             self.old)) }
     {
         let mut items = self.list();
@@ -374,7 +374,7 @@ impl<'a> Parser<'a> {
 /// with LF.
 fn last_line(text: &[u8]) -> usize {
     match text.split_last() {
-        Some((_, front)) => front.iter().filter(|octet| **octet == b'\n').count() + 1,
+        Some((_, prefix)) => prefix.iter().filter(|octet| **octet == b'\n').count() + 1,
         None => 1,
     }
 }

@@ -235,7 +235,7 @@ impl<'a> Parser<'a> {
 
     /// Reads the upper end of a range, if `..` is ahead.
     fn upper_bound_if_any(&mut self) -> Result<Option<TokenText>, Stop>
-        ensures { ReturnsReading result self.new ((format.maybe (format.behind (format.token
+        ensures { ReturnsReading result self.new ((format.maybe (format.preceded (format.token
             TokenKind.Range) grammar.bound)).read self.old) }
     {
         if self.at_kind(TokenKind::Range) {

@@ -147,7 +147,7 @@ fn lists_and_texts_become_vectors(rt: HostRuntime) -> Result<(), Fail> {
     let numbers = Items::new(vec![in alloc; 7, 8]?).into_vec();
     assert_eq!(rt; numbers.as_slice(), [7, 8].as_slice());
     for octets in [b"".as_slice(), b"sysDescr", b"aNameOfMoreThan24OctetsInAll"] {
-        let text = Text::copied(alloc, octets)?;
+        let text = Text::from_slice(alloc, octets)?;
         assert_eq!(rt; text.into_vec(alloc)?.as_slice(), octets);
     }
     Ok(())

@@ -5,7 +5,7 @@ use Rattle.std.specs.List.{slice_get}
 use Rattle.smi_names.specs.nodes.Nodes.{Node, roots, none_yet}
 use Rattle.smi_tree.specs.{types.Types.Facts, types.Chain.no_type, columns.Index.IsIndex, columns.Index.IsObjectType, Shown.IsSyntaxOf}
 use Rattle.smi_tree.specs.{Tree.IsTree, Bare.bare, declared.columns.index_part.IndexPart.IndexPart}
-use Rattle.smi_tree.proofs.{Following.no_syntax, Soundness.root-case}
+use Rattle.smi_tree.proofs.{TypeChains.no_syntax, Soundness.root-case}
 
 -- the roots have no syntax and no index
 none-at : {A : Type 0} (k : ℕ) → slice_index_or {A = Option A} (None ∷ (None ∷ (None ∷ []))) k None ≡ None

@@ -3,11 +3,11 @@ use Rattle.std.proofs.{lemmas.Grind.common_steps, lemmas.Bool.cases_eq, lemmas.B
 use Rattle.std.proofs.Common.{◌≡◌, ◌≢◌, ℕ, zero, suc, ◌<◌, ◌≤◌, Bool, cond, List, [], ◌∷◌, ◌++◌, length, Option, Some, None, refl, ap, arith}
 use Rattle.std.specs.{List.find, List.filter_map, List.Contains, List.Sorted.IsStrictlySortedBy, Ordering.nat_cmp}
 use Rattle.std.proofs.lemmas.Map.Keys.{sorted_tail, below_from_sorted}
-use Rattle.smi_tree.specs.branches.Standing.{place_of, oid_at, AreChildren}
+use Rattle.smi_tree.specs.branches.FirstIndex.{first_index, oid_at, AreChildren}
 use Rattle.smi_names.specs.{meaning.Meaning.or_else, nodes.Nodes.Node}
 use Rattle.smi_tree.specs.Nodes.{IsOfLowest, nothing, lowest, IsFirstChild, is_labelled, of_lowest, highest, child_at, child_of, oids_of}
 use Rattle.smi_tree.specs.Nodes.{last_number}
-use Rattle.smi_tree.proofs.{PlacesLemmas.place_found, First.none_if}
+use Rattle.smi_tree.proofs.{FirstIndex.index_found, First.none_if}
 
 -- the first result of `f` for the numbers, in their order, that isn't `None`
 abbrev pub of_first : (ℕ → Option ℕ) → List ℕ → Option ℕ
@@ -75,12 +75,12 @@ up_to_highest [] k l = absurd (omega arith)
 up_to_highest (o ∷ oids) k l = grind (arith, common_steps, up_to_highest oids)
 
 -- if a child of `o` is found for a number, it is the node of `o` with that number appended, and the number is at most the highest
-child-place : (nodes : List Node) (o label : List ℕ) (n k : ℕ) → child_at nodes o label n ≡ Some k → place_of (oids_of nodes) (o ++ n ∷ []) ≡ Some k
-child-place nodes o label n k e = grind (arith, common_steps)
+child-id : (nodes : List Node) (o label : List ℕ) (n k : ℕ) → child_at nodes o label n ≡ Some k → first_index (oids_of nodes) (o ++ n ∷ []) ≡ Some k
+child-id nodes o label n k e = grind (arith, common_steps)
 
 child-below : (nodes : List Node) (o label : List ℕ) (n k : ℕ) → child_at nodes o label n ≡ Some k → n < suc (highest (oids_of nodes))
 child-below nodes o label n k e =
-    let at = place_found (oids_of nodes) (o ++ n ∷ []) k (child-place nodes o label n k e) in
+    let at = index_found (oids_of nodes) (o ++ n ∷ []) k (child-id nodes o label n k e) in
     omega (arith, up_to_highest (oids_of nodes) k at.0, ap last_number at.1, last_number-push o n)
 
 -- the computed child is the first child, and no other is
@@ -91,12 +91,12 @@ pub child_is : (nodes : List Node) (o label : List ℕ) (r : Option ℕ) → IsF
 child_is nodes o label r is = one_lowest is (child_first nodes o label)
 
 -- if the children are searched in order, the first one with the label is the first child
-pub child_found : (nodes : List Node) (o label : List ℕ) (places : List ℕ) → AreChildren (oids_of nodes) o places
-    → IsFirstChild nodes o label (find (is_labelled nodes label) places)
-child_found nodes o label places c =
+pub child_found : (nodes : List Node) (o label : List ℕ) (indices : List ℕ) → AreChildren (oids_of nodes) o indices
+    → IsFirstChild nodes o label (find (is_labelled nodes label) indices)
+child_found nodes o label indices c =
     rw (
       c.there,
-      find-first (is_labelled nodes label) (λ n. place_of (oids_of nodes) (o ++ n ∷ [])) (child_at nodes o label) c.numbers
+      find-first (is_labelled nodes label) (λ n. first_index (oids_of nodes) (o ++ n ∷ [])) (child_at nodes o label) c.numbers
           (λ n none. rw none refl) (λ n k some. rw some refl),
     )
-    (of_first-lowest (child_at nodes o label) c.numbers c.rising (λ n k e. c.all n k (child-place nodes o label n k e)))
+    (of_first-lowest (child_at nodes o label) c.numbers c.rising (λ n k e. c.all n k (child-id nodes o label n k e)))

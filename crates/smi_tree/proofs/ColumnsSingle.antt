@@ -11,7 +11,7 @@ use Rattle.smi_names.specs.{declared.meaning.base.TypeBase.TypeBase, nodes.Nodes
 use Rattle.smi_names.specs.declared.meaning.base.TypeBase.TheVariants as T
 use Rattle.smi_tree.specs.columns.Parts.{StatesBound, IsFixedBy, HasExtent, IsPartOf}
 use Rattle.smi_tree.specs.columns.Index.{IsIndexPart, AreParts, IsIndexed, IsIndexOf, IsIndex, AreIndexesOf, index_at, is_implied}
-use Rattle.smi_tree.proofs.{Choosing.one_syntax, Lists.get_within, Lists.same_items, Parting.defined_once, Indexing.index_once}
+use Rattle.smi_tree.proofs.{TypesSingle.one_syntax, Lists.get_within, Lists.same_items, Parts.defined_once, IndexesOfNodes.index_once}
 
 -- if a SIZE is fixed, it has one bound, and that has one value
 fixed_once : (sizes : Option (List Range)) (n m : ℕ) (a : (bound : TokenText) × IsFixedBy sizes bound × StatesBound bound n)

@@ -59,8 +59,8 @@ module _ {A : Type 0} (t : A → Bool) where
   more xs i d l = grind (arith, common_steps, length-take-le, take_more, append-from)
 
   -- if an item is the first that passes in a prefix of a list, it is the first in the list
-  pub of_front : (xs : List A) (n k : ℕ) → position_from t 0 (take n xs) ≡ Some k → position_from t 0 xs ≡ Some k
-  of_front xs n k e = rw take-append-drop at (append-from 0 (take n xs) (drop n xs)) ∙ rw e refl
+  pub of_prefix : (xs : List A) (n k : ℕ) → position_from t 0 (take n xs) ≡ Some k → position_from t 0 xs ≡ Some k
+  of_prefix xs n k e = rw take-append-drop at (append-from 0 (take n xs) (drop n xs)) ∙ rw e refl
 
 -- if the first item that passes `t` also passes `g`, it is the first that passes both
 module _ {A : Type 0} (g t : A → Bool) (xs : List A) where

@@ -4,7 +4,7 @@ use Rattle.std.proofs.lemmas.List.{ext_get_or}
 use Rattle.smi_text.specs.declared.trees.tree.Module.{Module}
 use Rattle.smi_names.specs.{nodes.Nodes.Node, nodes.Nodes.roots, nodes.Nodes.Loads, declared.nodes.warning.Warning.Warning}
 use Rattle.smi_tree.specs.{types.Types.Facts, types.Types.object_in, Shown.IsSyntaxOf, Shown.AreSyntaxesOf, Tree.Contents, Tree.IsTree}
-use Rattle.smi_tree.proofs.{Choosing.one_syntax, ColumnsSingle.same_indexes, Lists.get_within}
+use Rattle.smi_tree.proofs.{TypesSingle.one_syntax, ColumnsSingle.same_indexes, Lists.get_within}
 
 module _ (ms : List Module)
     (loading : (before : List Module) (ns es : List Node) (ws vs : List Warning) → Loads ms before ns ws → Loads ms before es vs → (ns ≡ es) × (ws ≡ vs)) where

@@ -6,24 +6,24 @@ use Rattle.smi_names.specs.declared.chains.shared.Resolution.TheVariants as R
 use Rattle.smi_text.specs.{trees.Lookup.identifier_value_of, declared.trees.tree.Def.Def, declared.trees.tree.Part.Part}
 use Rattle.smi_text.specs.declared.trees.tree.Module.{Module}
 use Rattle.smi_names.specs.{meaning.Meaning.module_named, declared.nodes.warning.Warning.Warning}
-use Rattle.smi_names.specs.nodes.Nodes.{Node, node_of, roots, GivesNodesBy, Gathers, none, more, is_loaded, Brings, left_out, loaded, Loads, none_yet}
+use Rattle.smi_names.specs.nodes.Nodes.{Node, node_of, roots, GivesNodesBy, Gathers, none, more, is_loaded, Contributes, left_out, loaded, Loads, none_yet}
 use Rattle.smi_names.specs.nodes.Nodes.{node_of_root, then_module}
 use Rattle.smi_tree.specs.{Defined.IsRoot, Defined.IsDefined, Tree.Contents, Tree.IsTree}
-use Rattle.smi_tree.proofs.{Listing.same_itself, Lists.get_at_push, Lists.get_before_push}
+use Rattle.smi_tree.proofs.{SameTexts.same_itself, Lists.get_at_push, Lists.get_before_push}
 
 in-either : {A : Type 0} (xs ys : List A) (k : ℕ) (x : A) → slice_get (xs ++ ys) k ≡ Some x → (slice_get xs k ≡ Some x) ⊎ ((j : ℕ) × (slice_get ys j ≡ Some x))
 in-either [] ys k x e = inr (k, e)
 in-either (y ∷ xs) ys k x e = grind (arith, common_steps, in-either xs ys)
 
-given : (ms : List Module) (m : Module) (d : Def) (place : ℕ) (v : Option (List Part)) (ns : List Node) (ws : List Warning) (k : ℕ) (n : Node)
-    → module_named ms m.name.octets ≡ Some m → slice_get m.defs place ≡ Some d → GivesNodesBy ms m d v ns ws → slice_get ns k ≡ Some n → IsDefined ms n
-given ms m d place None ns ws k n first there g e = let at : slice_get [] k ≡ Some n = rw g.0 at e in cc
-given ms m d place (Some v) ns ws k n first there (R.Numbers o, comes, is, w) e =
+returned : (ms : List Module) (m : Module) (d : Def) (id : ℕ) (v : Option (List Part)) (ns : List Node) (ws : List Warning) (k : ℕ) (n : Node)
+    → module_named ms m.name.octets ≡ Some m → slice_get m.defs id ≡ Some d → GivesNodesBy ms m d v ns ws → slice_get ns k ≡ Some n → IsDefined ms n
+returned ms m d id None ns ws k n first there g e = let at : slice_get [] k ≡ Some n = rw g.0 at e in cc
+returned ms m d id (Some v) ns ws k n first there (R.Numbers o, comes, is, w) e =
     let one = rw is at e in
     let here : node_of m d o ≡ n = grind (arith, common_steps) in
     let P : Node → Type 0 = λ n. IsDefined ms n in
-    subst P here (record { home = m; first = first; definition = d; place = place; there = there; is = refl; identifier = comes })
-given ms m d place (Some v) ns ws k n first there (_, comes, is, w) e = let at : slice_get [] k ≡ Some n = rw is at e in cc
+    subst P here (record { home = m; first = first; definition = d; id = id; there = there; is = refl; identifier = comes })
+returned ms m d id (Some v) ns ws k n first there (_, comes, is, w) e = let at : slice_get [] k ≡ Some n = rw is at e in cc
 
 -- if a node comes from one of the first definitions of a module, it is the node of a definition
 gathered : (ms : List Module) (m : Module) (ds : List Def) (ns : List Node) (ws : List Warning) (k : ℕ) (n : Node)
@@ -32,7 +32,7 @@ gathered : (ms : List Module) (m : Module) (ds : List Def) (ns : List Node) (ws 
 gathered ms m _ _ _ k n first there none e = cc
 gathered ms m _ _ _ k n first there (more ds d ns more_nodes ws more_warnings g gives) e = elim (in-either ns more_nodes k n e) [
   | inl f ↦ gathered ms m ds ns ws k n first (λ p x h. there p x (get_before_push ds d p x h)) g f
-  | inr f ↦ given ms m d (length ds) (identifier_value_of d.kind) more_nodes more_warnings f.0 n first (there (length ds) d (get_at_push ds d)) gives f.1
+  | inr f ↦ returned ms m d (length ds) (identifier_value_of d.kind) more_nodes more_warnings f.0 n first (there (length ds) d (get_at_push ds d)) gives f.1
 ]
 
 -- if a module is the first of its name, it stays the first when others are added; a new name's first module is the added one
@@ -45,7 +45,8 @@ named-last [] m e = rw (same_itself m.name.octets) refl
 named-last (y ∷ ms) m e = grind (arith, common_steps, named-last ms m, is_some)
 
 brought : (ms before : List Module) (m : Module) (ns : List Node) (ws : List Warning) (k : ℕ) (n : Node)
-    → (is_loaded before m.name.octets ≡ false → module_named ms m.name.octets ≡ Some m) → Brings ms before m ns ws → slice_get ns k ≡ Some n → IsDefined ms n
+    → (is_loaded before m.name.octets ≡ false → module_named ms m.name.octets ≡ Some m) → Contributes ms before m ns ws → slice_get ns k ≡ Some n
+    → IsDefined ms n
 brought ms before m _ _ k n first (left_out d) e = cc
 brought ms before m _ _ k n first (loaded ns ws new g) e = gathered ms m m.defs ns ws k n (first new) (λ p d h. h) g e
 

@@ -11,7 +11,7 @@ use Rattle.smi_tree.specs.{types.Chain.no_type, types.Types.object_in, types.Typ
 use Rattle.smi_tree.specs.{declared.types.Types.Types, columns.Index.AreIndexesOf, Tree.IsTree, Kept.contents}
 use Rattle.smi_tree.specs.Shown.{IsSyntaxOf, AreSyntaxesOf, syntax_from, syntaxes_from}
 use Rattle.smi_tree.specs.declared.columns.index_part.IndexPart.{IndexPart}
-use Rattle.smi_tree.proofs.{Bridging.length_nodes, Following.no_syntax}
+use Rattle.smi_tree.proofs.{Sources.length_nodes, TypeChains.no_syntax}
 
 same_object : (ms : List Module) (i k : ℕ) → object_in (slice_get ms i) (gathered.def_of_module (slice_get ms i) k) ≡ object_origin ms i k
 same_object ms i k = grind (arith, common_steps)

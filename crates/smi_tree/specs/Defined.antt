@@ -18,8 +18,8 @@ pub record IsDefined (ms : List Module) (node : Node) : Type 0 where
   pub home : Module
   pub first : module_named ms home.name.octets ≡ Some home
   pub definition : Def
-  pub place : ℕ
-  pub there : slice_get home.defs place ≡ Some definition
+  pub id : ℕ
+  pub there : slice_get home.defs id ≡ Some definition
   pub is : node ≡ node_of home definition node.oid
   pub identifier : ComesTo (origin ms) (qualified_name home definition.label.octets)
       (R.Numbers node.oid)

@@ -3,12 +3,12 @@
 use Rattle.std.specs.Prelude.{◌≡◌, ℕ, List, option_map, MatchOption}
 use Rattle.snmp_oid.specs.Identifier.{IsBelow}
 use Rattle.smi_tree.specs.{Tree.Contents, declared.nearest.Found.Found}
-use Rattle.smi_tree.specs.Naming.{nearest_node, nearest_syntax, standing_of}
+use Rattle.smi_tree.specs.Naming.{nearest_node, nearest_syntax, view_of}
 
 -- `found` has the node and the syntax that are found for `o`
 abbrev pub IsFound : Contents → List ℕ → Found → Type 0
 IsFound tree o found =
-    (option_map standing_of found.node ≡ nearest_node tree o)
+    (option_map view_of found.node ≡ nearest_node tree o)
     × (found.syntax ≡ nearest_syntax tree o)
 
 -- if `found.below` is an identifier, then `found` is found for each identifier below it

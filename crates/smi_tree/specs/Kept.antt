@@ -3,16 +3,16 @@ use Rattle.std.specs.Prelude.{◌≡◌, ℕ, List, length, Option}
 use Rattle.std.specs.List.{position_from}
 use Rattle.indexmap.specs.IndexMap.{hasher_of}
 use Rattle.smi_text.specs.declared.trees.tree.Module.{Module}
-use Rattle.smi_names.specs.{meaning.Names.module_place, nodes.Gathered.nodes_of}
-use Rattle.smi_names.specs.meaning.Scopes.{NamePlaces, place_in}
+use Rattle.smi_names.specs.{meaning.Names.module_index, nodes.Gathered.nodes_of}
+use Rattle.smi_names.specs.meaning.Scopes.{NameIndices, index_in}
 use Rattle.smi_names.specs.declared.nodes.gather.Source.{Source}
 use Rattle.smi_names.specs.declared.nodes.warning.Warning.{Warning}
 use Rattle.smi_tree.specs.declared.types.Types.{Types}
 use Rattle.smi_tree.specs.{declared.columns.index_part.IndexPart.IndexPart, Shown.syntaxes_from}
-use Rattle.smi_tree.specs.declared.places.LabelPlaces.{LabelPlaces}
+use Rattle.smi_tree.specs.declared.indices.LabelIndices.{LabelIndices}
 use Rattle.smi_tree.specs.declared.tree.loaded.Resolved.{Resolved}
 use Rattle.smi_tree.specs.Tree.{Contents, IsTree, Load}
-use Rattle.smi_tree.specs.Places.{Others, has_label, AreOthers}
+use Rattle.smi_tree.specs.Indices.{Others, has_label, AreOthers}
 
 abbrev pub contents : List Module → List Source → List (List ℕ) → Types
     → List (Option (List IndexPart)) → Contents
@@ -26,13 +26,13 @@ contents ms ss os types indexes = record {
 -- what a tree stores is the tree of its modules, and its maps have the index of the first module
 -- of each name and of the first sources of each label
 pub record IsTreeKept (ms : List Module) (ss : List Source) (os : List (List ℕ)) (types : Types)
-    (indexes : List (Option (List IndexPart))) (of_homes of_labels : NamePlaces)
+    (indexes : List (Option (List IndexPart))) (of_homes of_labels : NameIndices)
     (of_others : Others) : Type 0 where
   pub long : length ss ≡ length os
   pub warnings : List Warning
   pub tree : IsTree ms (contents ms ss os types indexes) warnings
-  pub homes : (x : List ℕ) → place_in of_homes x ≡ module_place ms x
-  pub labels : (x : List ℕ) → place_in of_labels x ≡ position_from (has_label ms x) 0 ss
+  pub homes : (x : List ℕ) → index_in of_homes x ≡ module_index ms x
+  pub labels : (x : List ℕ) → index_in of_labels x ≡ position_from (has_label ms x) 0 ss
   pub others : AreOthers ms ss of_others ss
 
 -- the tree, the warnings and the key of what a load stores
@@ -44,10 +44,10 @@ load_kept ms r = record {
 }
 
 -- what a load stores is what a tree stores, and each of its maps has the key `r.key`
-pub record IsLoadKept (ms : List Module) (r : Resolved) (of_homes : NamePlaces)
-    (places : LabelPlaces) : Type 0 where
-  pub kept : IsTreeKept ms r.sources.items r.identifiers r.types r.indexes of_homes places.labels
-      places.others
+pub record IsLoadKept (ms : List Module) (r : Resolved) (of_homes : NameIndices)
+    (indices : LabelIndices) : Type 0 where
+  pub kept : IsTreeKept ms r.sources.items r.identifiers r.types r.indexes of_homes indices.labels
+      indices.others
   pub key_of_homes : hasher_of of_homes ≡ r.key
-  pub key_of_labels : hasher_of places.labels ≡ r.key
-  pub key_of_others : hasher_of places.others ≡ r.key
+  pub key_of_labels : hasher_of indices.labels ≡ r.key
+  pub key_of_others : hasher_of indices.others ≡ r.key

@@ -1,7 +1,7 @@
 use Rattle.smi_tree.specs.{Tree.Contents}
 pub mod Nodes
-pub mod Places
-pub mod Standing
+pub mod Indices
+pub mod LongestPrefix
 pub mod Shown
 pub mod Tree
 pub mod Bare

@@ -10,44 +10,44 @@ use Rattle.smi_value.specs.Syntax.{ObjectSyntax}
 use Rattle.smi_tree.specs.declared.columns.index_part.IndexPart.{IndexPart}
 use Rattle.smi_tree.specs.declared.nearest.NearestNode.{NearestNode}
 use Rattle.smi_tree.specs.{Shown.shown_at, Tree.Contents}
-use Rattle.smi_tree.specs.Nodes.{oids_of, place_in_module, place_anywhere, child_of}
-use Rattle.smi_tree.specs.Standing.{Longest, longest}
+use Rattle.smi_tree.specs.Nodes.{oids_of, index_in_module, index_anywhere, child_of}
+use Rattle.smi_tree.specs.LongestPrefix.{Longest, longest}
 
 -- a node: its module, `None` for a built-in root; its label; the number of numbers in its
 -- identifier; the parts of its index, `None` if it isn't a column or its index can't be read
-pub record Standing : Type 0 where
+pub record NodeView : Type 0 where
   pub home : Option (List ℕ)
   pub label : List ℕ
   pub depth : ℕ
   pub index : Option (List IndexPart)
 
 -- the node that a look-up returned, as a value
-abbrev pub standing_of : NearestNode → Standing
-standing_of node = record {
+abbrev pub view_of : NearestNode → NodeView
+view_of node = record {
   home = option_copied node.home;
   label = node.label.now;
   depth = node.depth;
   index = option_copied node.index;
 }
 
--- ---- of a tree
+-- ---- the nodes of a tree, as names use them
 
 abbrev pub home_name : Option Module → Option (List ℕ)
 home_name m = option_map (λ m. m.name.octets) m
 
 -- the node `n`, with the length of its identifier and its index
-abbrev pub standing_from : ℕ → Option (List IndexPart) → Node → Standing
-standing_from depth index n =
+abbrev pub view_from : ℕ → Option (List IndexPart) → Node → NodeView
+view_from depth index n =
     record { home = home_name n.home; label = n.label; depth = depth; index = index }
 
-abbrev pub standing_of_longest : Contents → Longest → Option Standing
-standing_of_longest t l =
-    option_map (standing_from l.depth (slice_index_or t.indexes l.place None))
-    (slice_get t.nodes l.place)
+abbrev pub view_of_longest : Contents → Longest → Option NodeView
+view_of_longest t l =
+    option_map (view_from l.depth (slice_index_or t.indexes l.id None))
+    (slice_get t.nodes l.id)
 
--- the identifier of the node at index `place`, if there is one
+-- the identifier of the node at index `id`, if there is one
 abbrev pub oid_of : List Node → Option ℕ → Option (List ℕ)
-oid_of nodes place = option_and_then (slice_get (oids_of nodes)) place
+oid_of nodes id = option_and_then (slice_get (oids_of nodes)) id
 
 -- whether a module named `home` is loaded
 unfoldable pub is_module_loaded : Contents → List ℕ → Bool
@@ -55,49 +55,49 @@ is_module_loaded tree home = is_some (module_named tree.modules home)
 
 -- the identifier of the first node with this label in the module named `home`
 unfoldable pub oid_in_module : Contents → List ℕ → List ℕ → Option (List ℕ)
-oid_in_module tree home label = oid_of tree.nodes (place_in_module tree.nodes home label)
+oid_in_module tree home label = oid_of tree.nodes (index_in_module tree.nodes home label)
 
 -- the identifier of the first node with this label, the roots before all others
 unfoldable pub oid_anywhere : Contents → List ℕ → Option (List ℕ)
-oid_anywhere tree label = oid_of tree.nodes (place_anywhere tree.nodes label)
+oid_anywhere tree label = oid_of tree.nodes (index_anywhere tree.nodes label)
 
 -- the identifier of the root with this label
 unfoldable pub oid_of_root : List ℕ → Option (List ℕ)
-oid_of_root label = oid_of roots (place_anywhere roots label)
+oid_of_root label = oid_of roots (index_anywhere roots label)
 
 -- the identifier of the first child of `o` with this label
 unfoldable pub oid_of_child : Contents → List ℕ → List ℕ → Option (List ℕ)
 oid_of_child tree o label = oid_of tree.nodes (child_of tree.nodes o label)
 
 -- the node of the longest prefix of `o` that has one
-unfoldable pub nearest_node : Contents → List ℕ → Option Standing
-nearest_node tree o = option_and_then (standing_of_longest tree) (longest tree.nodes o)
+unfoldable pub nearest_node : Contents → List ℕ → Option NodeView
+nearest_node tree o = option_and_then (view_of_longest tree) (longest tree.nodes o)
 
 -- the definition of that node; `None` for a root
 unfoldable pub nearest_definition : Contents → List ℕ → Option Def
 nearest_definition tree o =
-    option_and_then (λ l. option_and_then (λ n. n.definition) (slice_get tree.nodes l.place))
+    option_and_then (λ l. option_and_then (λ n. n.definition) (slice_get tree.nodes l.id))
     (longest tree.nodes o)
 
 -- the syntax of that node, for showing values
 unfoldable pub nearest_syntax : Contents → List ℕ → Option ObjectSyntax
 nearest_syntax tree o =
-    option_and_then (λ l. shown_at tree.nodes tree.syntaxes l.place) (longest tree.nodes o)
+    option_and_then (λ l. shown_at tree.nodes tree.syntaxes l.id) (longest tree.nodes o)
 
 -- a look-up of the label returns `o`: in the module named `home`, which is loaded and whose name
 -- is a word; or, for a root, by the label only
-abbrev pub LabelLeadsTo : Contents → Option (List ℕ) → List ℕ → List ℕ → Type 0
-LabelLeadsTo tree None label o = oid_anywhere tree label ≡ Some o
-LabelLeadsTo tree (Some home) label o =
+abbrev pub LabelRefersTo : Contents → Option (List ℕ) → List ℕ → List ℕ → Type 0
+LabelRefersTo tree None label o = oid_anywhere tree label ≡ Some o
+LabelRefersTo tree (Some home) label o =
     (is_word home ≡ true) × (is_module_loaded tree home ≡ true)
     × (oid_in_module tree home label ≡ Some o)
 
 -- if a node is found for an identifier, its label is a word, and a look-up of the label returns
 -- the prefix of the identifier that has the node's depth
 pub record IsSound (tree : Contents) : Type 0 where
-  pub within : (o : List ℕ) (node : Standing) → nearest_node tree o ≡ Some node
+  pub within : (o : List ℕ) (node : NodeView) → nearest_node tree o ≡ Some node
       → node.depth ≤ length o
-  pub words : (o : List ℕ) (node : Standing) → nearest_node tree o ≡ Some node
+  pub words : (o : List ℕ) (node : NodeView) → nearest_node tree o ≡ Some node
       → is_word node.label ≡ true
-  pub leads : (o : List ℕ) (node : Standing) → nearest_node tree o ≡ Some node
-      → LabelLeadsTo tree node.home node.label (take node.depth o)
+  pub refers_to : (o : List ℕ) (node : NodeView) → nearest_node tree o ≡ Some node
+      → LabelRefersTo tree node.home node.label (take node.depth o)

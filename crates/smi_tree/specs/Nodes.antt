@@ -3,7 +3,7 @@ use Rattle.std.specs.Prelude.{◌≡◌, ℕ, Bool, false, ◌&&◌, zero, suc, 
 use Rattle.std.specs.Prelude.{unwrap_or, Option, Some, None, map, option_map, if◌then◌else◌}
 use Rattle.std.specs.List.{slice_get, position_from}
 use Rattle.smi_text.specs.{trees.Mark.same_text, declared.trees.tree.Module.Module}
-use Rattle.smi_tree.specs.branches.Standing.{place_of}
+use Rattle.smi_tree.specs.branches.FirstIndex.{first_index}
 use Rattle.smi_names.specs.{meaning.Meaning.or_else, nodes.Nodes.Node}
 
 -- whether `n` has this label
@@ -19,12 +19,12 @@ abbrev pub is_of : List ℕ → List ℕ → Node → Bool
 is_of home label n = is_named home n.home && has_label label n
 
 -- the index of the first node with this label in a module named `home`
-abbrev pub place_in_module : List Node → List ℕ → List ℕ → Option ℕ
-place_in_module nodes home label = position_from (is_of home label) 0 nodes
+abbrev pub index_in_module : List Node → List ℕ → List ℕ → Option ℕ
+index_in_module nodes home label = position_from (is_of home label) 0 nodes
 
 -- the index of the first node with this label
-abbrev pub place_anywhere : List Node → List ℕ → Option ℕ
-place_anywhere nodes label = position_from (has_label label) 0 nodes
+abbrev pub index_anywhere : List Node → List ℕ → Option ℕ
+index_anywhere nodes label = position_from (has_label label) 0 nodes
 
 -- the identifiers of the nodes
 abbrev pub oids_of : List Node → List (List ℕ)
@@ -62,7 +62,7 @@ highest (o ∷ os) = max (last_number o) (highest os)
 
 -- the index of the node that represents `o` with `n` appended, if it has this label
 abbrev pub child_at : List Node → List ℕ → List ℕ → ℕ → Option ℕ
-child_at nodes o label n = if_labelled nodes label (place_of (oids_of nodes) (o ++ n ∷ []))
+child_at nodes o label n = if_labelled nodes label (first_index (oids_of nodes) (o ++ n ∷ []))
 
 -- the result is the index of the first child of `o` with this label: the one with the lowest
 -- number

@@ -1,3 +1,3 @@
-pub mod Standing
+pub mod FirstIndex
 pub mod Branches
 pub mod Children

@@ -21,10 +21,10 @@
 
 mod branches;
 mod columns;
+mod indices;
 mod laws;
 mod nearest;
 mod node;
-mod places;
 mod shown;
 mod syntax;
 mod tree;
@@ -45,5 +45,5 @@ pub use crate::types::Types;
 
 // Laws: the calls do nothing, and a proof may use what they ensure.
 pub use laws::{
-    bare_tree, defined_nodes, look_ups, one_deepest, one_syntax, one_tree, standing_nodes,
+    bare_tree, defined_nodes, look_ups, nodes_have_identifiers, one_deepest, one_syntax, one_tree,
 };

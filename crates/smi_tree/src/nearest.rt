@@ -1,7 +1,7 @@
 //! What a tree finds for an identifier: the node of its longest prefix.
 ghost use Rattle.std.specs.{Prelude.◌≡◌, Option.option_copied};
 ghost use Rattle.smi_names.specs.nodes.Nodes.{roots};
-ghost use Rattle.smi_tree.specs.{Naming.home_name, Nodes.place_anywhere};
+ghost use Rattle.smi_tree.specs.{Naming.home_name, Nodes.index_anywhere};
 
 use crate::columns::IndexPart;
 use smi_names::root_arc;
@@ -13,13 +13,13 @@ use snmp_oid::StoredOid;
 #[derive(Clone, Copy, Debug)]
 pub struct Near {
     /// A number that lets the tree find that node again.
-    pub place: usize,
+    pub id: usize,
 }
 
 impl Near {
     /// Returns the start of the first search.
     pub fn new() -> Near {
-        Near { place: 0 }
+        Near { id: 0 }
     }
 }
 
@@ -49,8 +49,8 @@ pub struct NearestNode<'a> {
 }
 
 /// Returns the index of the root with this label, if there is one (RFC 2578, section 3.5).
-pub(crate) fn root_place(label: &[u8]) -> Option<usize>
-    ensures { result ≡ place_anywhere roots label.now }
+pub(crate) fn root_index(label: &[u8]) -> Option<usize>
+    ensures { result ≡ index_anywhere roots label.now }
 {
     Some(root_arc(label)? as usize)
 }

@@ -1,8 +1,8 @@
 //! The nodes of a tree, and the parts of a node that are read from its source.
 ghost use Rattle.std.specs.{Prelude.◌≡◌, Option.option_copied};
 ghost use Rattle.smi_tree.specs.Nodes.{is_named};
-ghost use Rattle.smi_tree.specs.Places.{home_from, label_from, definition_from};
-ghost use Rattle.smi_names.specs.chains.Order.{at_place};
+ghost use Rattle.smi_tree.specs.Indices.{home_from, label_from, definition_from};
+ghost use Rattle.smi_names.specs.chains.Order.{option_at};
 
 use smi_names::{Source, root_label};
 use smi_text::{Def, Module};
@@ -21,11 +21,11 @@ pub struct Node<'a> {
     pub definition: Option<&'a Def>,
 }
 
-/// Returns the value at index `place` of `list`. Returns `None` past the end too.
-pub(crate) fn kept<T: Copy>(list: &[Option<T>], place: usize) -> Option<T>
-    ensures { result ≡ at_place list.now place }
+/// Returns the value at index `id` of `list`. Returns `None` past the end too.
+pub(crate) fn copy_at<T: Copy>(list: &[Option<T>], id: usize) -> Option<T>
+    ensures { result ≡ option_at list.now id }
 {
-    *list.get(place)?
+    *list.get(id)?
 }
 
 /// Returns the module of a source, or `None` for a root.
@@ -34,7 +34,7 @@ pub(crate) fn home(modules: &[Module], source: Source) -> Option<&Module>
 {
     match source {
         Source::Root(_) => None,
-        Source::Definition(place, _) => modules.get(place),
+        Source::Definition(id, _) => modules.get(id),
     }
 }
 
@@ -51,7 +51,7 @@ pub(crate) fn definition(modules: &[Module], source: Source) -> Option<&Def>
 {
     match source {
         Source::Root(_) => None,
-        Source::Definition(place, k) => modules.get(place)?.defs.as_slice().get(k),
+        Source::Definition(id, k) => modules.get(id)?.defs.as_slice().get(k),
     }
 }
 

@@ -70,6 +70,6 @@ pub(crate) fn syntax<'a>(
 {
     match source {
         Source::Root(_) => None,
-        Source::Definition(place, k) => types.kept(modules, place, k),
+        Source::Definition(index, k) => types.stored_syntax(modules, index, k),
     }
 }

@@ -55,7 +55,7 @@ pub(crate) fn base_of(simple: &SimpleType) -> Option<TypeBase>
         Base::OctetString => Some(TypeBase::OctetString),
         Base::ObjectIdentifier => Some(TypeBase::ObjectIdentifier),
         Base::Bits => Some(TypeBase::Bits),
-        Base::Named(name) => TypeBase::named(name.as_bytes()),
+        Base::Named(name) => TypeBase::from_name(name.as_bytes()),
     }
 }
 

@@ -3,26 +3,26 @@ ghost use Rattle.std.specs.Prelude.{◌≡◌, ◌<◌, ℕ, List, length, drop,
 ghost use Rattle.std.specs.Prelude.{MatchOption, IfSome, option_map, slice_index_or};
 ghost use Rattle.std.specs.{Option.option_and_then, Option.option_copied, List.slice_get};
 ghost use Rattle.smi_names.specs.declared.nodes.warning.Warning.{Warning};
-ghost use Rattle.smi_tree.specs.branches.Children.{places_left};
-ghost use Rattle.smi_tree.specs.branches.Standing.{AreChildren, HasNoBeginning, HasNoneBelow};
-ghost use Rattle.smi_tree.specs.branches.Standing.{IsDeepestAt, oid_at};
+ghost use Rattle.smi_tree.specs.branches.Children.{ids_left};
+ghost use Rattle.smi_tree.specs.branches.FirstIndex.{AreChildren, HasNoBeginning, HasNoneBelow};
+ghost use Rattle.smi_tree.specs.branches.FirstIndex.{IsDeepestAt, oid_at};
 ghost use Rattle.smi_tree.specs.{Found.IsFound, Found.IsFoundBelow, Tree.IsTree, Tree.seen_node};
 ghost use Rattle.smi_tree.specs.Naming.{IsSound, is_module_loaded, nearest_definition};
 ghost use Rattle.smi_tree.specs.Naming.{nearest_node, nearest_syntax, oid_anywhere, oid_in_module};
-ghost use Rattle.smi_tree.specs.Naming.{oid_of, oid_of_child, oid_of_root, standing_of};
-ghost use Rattle.smi_tree.specs.Naming.{standing_of_longest};
-ghost use Rattle.smi_tree.specs.Nodes.{IsFirstChild, is_labelled, oids_of, place_anywhere};
-ghost use Rattle.smi_tree.specs.Nodes.{place_in_module};
-ghost use Rattle.smi_tree.specs.Standing.{depth_of, longest, longest_of};
+ghost use Rattle.smi_tree.specs.Naming.{oid_of, oid_of_child, oid_of_root, view_of};
+ghost use Rattle.smi_tree.specs.Naming.{view_of_longest};
+ghost use Rattle.smi_tree.specs.Nodes.{IsFirstChild, is_labelled, oids_of, index_anywhere};
+ghost use Rattle.smi_tree.specs.Nodes.{index_in_module};
+ghost use Rattle.smi_tree.specs.LongestPrefix.{depth_of, longest, longest_of};
 ghost use Rattle.smi_tree.specs.{types.Kept.facts_of, Shown.shown_at, Shown.units_at};
 
 mod loaded;
 
 use crate::branches::{Children, Deepest, Identifiers};
 use crate::columns::{IndexPart, Indexes};
-use crate::nearest::{Found, Near, NearestNode, home_name, root_place};
+use crate::indices::{Indices, Others, find, homes, labels};
+use crate::nearest::{Found, Near, NearestNode, home_name, root_index};
 use crate::node::{Node, definition, home, is_in_module, label};
-use crate::places::{Others, Places, find, homes, labels};
 use crate::shown::{syntax, units_of, value_syntax};
 use crate::syntax::TypeSyntax;
 use crate::types::Types;
@@ -38,25 +38,28 @@ use std::marker::Model;
 /// The index of a node in order of loading, the roots first. It is below the tree's `len()`.
 pub type NodeId = usize;
 
-/// The nodes of the roots, and then those that modules define (RFC 2578, sections 3.5 and 3.6).
+/// A tree of names: the nodes of the roots `ccitt`, `iso` and `joint-iso-ccitt`, followed by the
+/// nodes that modules define (RFC 2578, sections 3.5 and 3.6).
 ///
 /// If several nodes have the same identifier, the first in order of loading represents it. Only
 /// the calls that load a tree allocate.
 pub struct Tree {
     modules: Vec<Module>,
-    /// The source of each node.
+    /// Where each node comes from.
     sources: Vec<Source>,
     /// The identifier of each node.
     identifiers: Identifiers,
     /// The index of the first module of each name.
-    homes: Places,
+    homes: Indices,
     /// The first node of each label.
-    labels: Places,
-    /// The first node of each label in each other module.
+    labels: Indices,
+    /// The first node of each label in each module, except the module of the label's first node of
+    /// all.
     others: Others,
-    /// The types of the modules.
+    /// The syntax of each object.
     types: Types,
-    /// The index of each node.
+    /// For each node that is a column, what the numbers after its identifier encode (INDEX or
+    /// AUGMENTS).
     indexes: Indexes,
 }
 
@@ -116,17 +119,17 @@ impl Tree {
     {
         let resolved = resolve(alloc, key, &modules)?;
         let homes = homes(alloc, key, &modules)?;
-        let places = labels(alloc, key, &modules, &homes, &resolved.sources)?;
+        let indices = labels(alloc, key, &modules, &homes, &resolved.sources)?;
         Ok(Loaded {
             modules,
             resolved,
             homes,
-            places,
+            indices,
         })
     }
 
     /// Returns the number of nodes, the roots included.
-    #[tactic(auto, using(crate::proofs::Bridging::length_nodes))]
+    #[tactic(auto, using(crate::proofs::Sources::length_nodes))]
     pub fn len(&self) -> usize
         ensures { result ≡ length self.now.nodes }
     {
@@ -148,7 +151,7 @@ impl Tree {
     }
 
     /// Returns whether a module of this name is loaded.
-    #[tactic(auto, using(crate::proofs::Bridging::is_some_find), unfolding(crate::specs::Naming::is_module_loaded))]
+    #[tactic(auto, using(crate::proofs::Sources::is_some_find), unfolding(crate::specs::Naming::is_module_loaded))]
     pub fn has_module(&self, name: &[u8]) -> bool
         ensures { result ≡ is_module_loaded self.now name.now }
     {
@@ -157,7 +160,7 @@ impl Tree {
 
     /// Returns the first node with this label in the module named `home`.
     pub fn find(&self, home: &[u8], label: &[u8]) -> Option<NodeId>
-        ensures { result ≡ place_in_module self.now.nodes home.now label.now }
+        ensures { result ≡ index_in_module self.now.nodes home.now label.now }
     {
         let first = self.find_any(label)?;
         // Most labels are defined in only one module.
@@ -169,9 +172,9 @@ impl Tree {
     }
 
     /// Returns the first node with this label, the roots before all others.
-    #[tactic(auto, using(crate::proofs::Bridging::anywhere_sources))]
+    #[tactic(auto, using(crate::proofs::Sources::anywhere_sources))]
     pub fn find_any(&self, label: &[u8]) -> Option<NodeId>
-        ensures { result ≡ place_anywhere self.now.nodes label.now }
+        ensures { result ≡ index_anywhere self.now.nodes label.now }
     {
         find(&self.labels, label)
     }
@@ -181,14 +184,14 @@ impl Tree {
     pub fn deepest<'o>(&self, oid: &'o Oid) -> (Option<NodeId>, &'o [u32])
         ensures deepest { let oids = oids_of self.now.nodes in MatchOption result.0
             (HasNoBeginning oids oid.now × (result.1.now ≡ oid.now))
-            (λ place. (depth : ℕ) × IsDeepestAt oids oid.now place depth
+            (λ id. (depth : ℕ) × IsDeepestAt oids oid.now id depth
             × (result.1.now ≡ drop depth oid.now)) }
         ensures longest { let at = longest self.now.nodes oid.now in
-            (result.0 ≡ option_map (λ l. l.place) at)
+            (result.0 ≡ option_map (λ l. l.id) at)
             × (result.1.now ≡ drop (depth_of at) oid.now) }
     {
         match self.deepest_near(oid, &mut Near::new()) {
-            Some(deepest) => (Some(deepest.place), &oid.as_slice()[deepest.depth..]),
+            Some(deepest) => (Some(deepest.id), &oid.as_slice()[deepest.depth..]),
             None => (None, oid.as_slice()),
         }
     }
@@ -197,7 +200,7 @@ impl Tree {
     /// number longer, in increasing order of that number. If several have the same identifier, it
     /// returns the first.
     pub fn children(&self, oid: &Oid) -> Children<'_>
-        ensures { AreChildren (oids_of self.now.nodes) oid.now (places_left result) }
+        ensures { AreChildren (oids_of self.now.nodes) oid.now (ids_left result) }
     {
         self.oids().children(oid)
     }
@@ -243,7 +246,7 @@ impl Tree {
     pub fn in_module(&self, home: &[u8], label: &[u8]) -> Option<&StoredOid>
         ensures { option_copied result ≡ oid_in_module self.now home.now label.now }
     {
-        self.found(self.find(home, label))
+        self.oid_of(self.find(home, label))
     }
 
     /// Returns the identifier of the first node with this label, the roots before all others.
@@ -251,16 +254,16 @@ impl Tree {
     pub fn anywhere(&self, label: &[u8]) -> Option<&StoredOid>
         ensures { option_copied result ≡ oid_anywhere self.now label.now }
     {
-        self.found(self.find_any(label))
+        self.oid_of(self.find_any(label))
     }
 
     /// Returns the identifier of the root with this label.
-    #[tactic(auto, using(crate::proofs::Sounding::roots_first), unfolding(crate::specs::Naming::oid_of_root))]
+    #[tactic(auto, using(crate::proofs::SoundNames::roots_first), unfolding(crate::specs::Naming::oid_of_root))]
     pub fn among_roots(&self, label: &[u8]) -> Option<&StoredOid>
         ensures { option_copied result ≡ oid_of_root label.now }
     {
         self.is_tree();
-        self.found(root_place(label))
+        self.oid_of(root_index(label))
     }
 
     /// Returns the identifier of the first child of `oid` with this label.
@@ -268,12 +271,12 @@ impl Tree {
     pub fn child_oid(&self, oid: &Oid, label: &[u8]) -> Option<&StoredOid>
         ensures { option_copied result ≡ oid_of_child self.now oid.now label.now }
     {
-        self.found(self.child(oid, label))
+        self.oid_of(self.child(oid, label))
     }
 
     /// Returns the node of the longest prefix of `oid` that has one.
     pub fn nearest(&self, oid: &Oid) -> Option<NearestNode<'_>>
-        ensures { option_map standing_of result ≡ nearest_node self.now oid.now }
+        ensures { option_map view_of result ≡ nearest_node self.now oid.now }
     {
         self.nearest_from(oid, &mut Near::new())
     }
@@ -282,7 +285,7 @@ impl Tree {
     /// begins at the node that was found last, if `oid` is below it.
     #[tactic(auto, unfolding(crate::specs::Naming::nearest_node))]
     pub fn nearest_from(&self, oid: &Oid, near: &mut Near) -> Option<NearestNode<'_>>
-        ensures { option_map standing_of result ≡ nearest_node self.now oid.now }
+        ensures { option_map view_of result ≡ nearest_node self.now oid.now }
     {
         let deepest = self.deepest_near(oid, near)?;
         self.seen(deepest)
@@ -295,7 +298,7 @@ impl Tree {
         ensures { option_copied result ≡ nearest_definition self.now oid.now }
     {
         let deepest = self.deepest_near(oid, &mut Near::new())?;
-        self.definition_of(deepest.place)
+        self.definition_of(deepest.id)
     }
 
     /// Returns the syntax of the node of the longest prefix of `oid` that has a node, if that is
@@ -305,7 +308,7 @@ impl Tree {
         ensures { result ≡ nearest_syntax self.now oid.now }
     {
         let deepest = self.deepest_near(oid, &mut Near::new())?;
-        self.value_syntax(deepest.place)
+        self.value_syntax(deepest.id)
     }
 
     /// Returns what [`Tree::nearest`] and [`Tree::nearest_syntax`] return, by one search, and an
@@ -318,8 +321,8 @@ impl Tree {
         match self.deepest_near(oid, near) {
             Some(deepest) => Found {
                 node: self.seen(deepest),
-                syntax: self.value_syntax(deepest.place),
-                below: self.last_on_way(deepest.place, near),
+                syntax: self.value_syntax(deepest.id),
+                below: self.last_on_way(deepest.id, near),
             },
             None => Found {
                 node: None,
@@ -342,7 +345,7 @@ impl Tree {
     /// that node.
     ///
     /// A law: the call does nothing, and its caller may use what it ensures.
-    #[tactic(auto, using(crate::proofs::Sounding::sound_by))]
+    #[tactic(auto, using(crate::proofs::SoundNames::sound_by))]
     pub fn is_sound(&self)
         ensures { IsSound self.now }
     {
@@ -366,18 +369,18 @@ impl Tree {
     }
 
     /// Returns the identifiers of the nodes.
-    #[tactic(auto, using(crate::proofs::Bridging::oids_nodes))]
+    #[tactic(auto, using(crate::proofs::Sources::oids_nodes))]
     fn oids(&self) -> &Identifiers
         ensures { result.now ≡ oids_of self.now.nodes }
     {
         &self.identifiers
     }
 
-    /// Returns the identifier of the node `place`, if one was found.
-    fn found(&self, place: Option<NodeId>) -> Option<&StoredOid>
-        ensures { option_copied result ≡ oid_of self.now.nodes place }
+    /// Returns the identifier of the node `id`, if one was found.
+    fn oid_of(&self, id: Option<NodeId>) -> Option<&StoredOid>
+        ensures { option_copied result ≡ oid_of self.now.nodes id }
     {
-        let node = self.node_at(place?)?;
+        let node = self.node_at(id?)?;
         Some(node.oid)
     }
 
@@ -413,14 +416,14 @@ impl Tree {
 
     /// Returns the node of the longest prefix of `oid` that has one, with the length of that
     /// prefix. The search begins at the node that was found last, if `oid` is below it.
-    #[tactic(auto, using(crate::proofs::Bridging::oids_nodes, crate::proofs::Reaching::longest_found))]
+    #[tactic(auto, using(crate::proofs::Sources::oids_nodes, crate::proofs::LongestPrefix::longest_found))]
     fn deepest_near(&self, oid: &Oid, near: &mut Near) -> Option<Deepest>
         ensures deepest { MatchOption result (HasNoBeginning (oids_of self.now.nodes) oid.now)
-            (λ deepest. IsDeepestAt (oids_of self.now.nodes) oid.now deepest.place
+            (λ deepest. IsDeepestAt (oids_of self.now.nodes) oid.now deepest.id
             deepest.depth) }
         ensures longest { option_map longest_of result ≡ longest self.now.nodes oid.now }
     {
-        self.identifiers.deepest_near(oid, &mut near.place)
+        self.identifiers.deepest_near(oid, &mut near.id)
     }
 
     /// Returns the identifier of a node if no node is below it. `near` is the value that
@@ -429,20 +432,20 @@ impl Tree {
         ensures at { IfSome result (λ o. o.now ≡ oid_at (oids_of self.now.nodes) id) }
         ensures last { IfSome result (λ o. HasNoneBelow (oids_of self.now.nodes) o.now) }
     {
-        self.oids().last_on_way(id, near.place)
+        self.oids().last_on_way(id, near.id)
     }
 
     /// Returns the node that was found, with its name, the length of its identifier and its index.
     fn seen(&self, deepest: Deepest) -> Option<NearestNode<'_>>
-        ensures { option_map standing_of result
-            ≡ standing_of_longest self.now (longest_of deepest) }
+        ensures { option_map view_of result
+            ≡ view_of_longest self.now (longest_of deepest) }
     {
-        let node = self.node_at(deepest.place)?;
+        let node = self.node_at(deepest.id)?;
         Some(NearestNode {
             home: home_name(node.home),
             label: node.label,
             depth: deepest.depth,
-            index: self.index_of(deepest.place),
+            index: self.index_of(deepest.id),
         })
     }
 }

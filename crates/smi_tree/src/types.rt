@@ -12,17 +12,17 @@ ghost use Rattle.smi_tree.specs.types.Kept.{AreFollowed, AreKeptOf, AreKeptOfAll
 ghost use Rattle.smi_tree.specs.types.Kept.{IsKept, base_or, def_of, facts_of, kept_syntax};
 ghost use Rattle.smi_tree.specs.types.Kept.{refined_by};
 
-use crate::node::kept;
+use crate::node::copy_at;
 use crate::syntax::{
     TypeSyntax, base_of, hint_of, name_of, names_in_definition, names_of, object_type_of,
     sizes_in_definition, sizes_of, type_of,
 };
-use smi_names::{Entries, Leads, Meaning, Names, TypeBase};
+use smi_names::{Entries, Meaning, Names, References, TypeBase};
 use smi_text::{Def, Module, Name, SimpleType};
 use std::alloc::{AllocError, Global};
 
 /// A syntax as it is stored, with the definitions that have its hint, its named numbers or bits,
-/// and its SIZE. Each definition is stored as the index of its module and its own index in that.
+/// and its SIZE. Each definition is stored as the index of its module and its index in the module.
 /// It is also what the name of a type means.
 #[derive(Clone, Copy)]
 pub(crate) struct KeptSyntax {
@@ -43,12 +43,12 @@ pub struct Types {
     objects: Vec<Vec<Option<KeptSyntax>>>,
 }
 
-impl Leads for KeptSyntax {
+impl References for KeptSyntax {
     ghost use Rattle.smi_tree.specs.types.Kept.{refines};
 
-    ghost leads = { refines };
+    ghost refers_to = { refines };
 
-    fn lead(def: &Def) -> Option<&Name> {
+    fn reference(def: &Def) -> Option<&Name> {
         name_of(type_of(&def.kind)?)
     }
 }
@@ -62,13 +62,13 @@ impl Meaning for KeptSyntax {
         ensures { result ≡ type_at at def.now far }
     {
         let simple = type_of(&def.kind)?;
-        refined(at, hint_of(&def.kind).is_some(), simple, far)
+        inherit_syntax(at, hint_of(&def.kind).is_some(), simple, far)
     }
 }
 
 impl Types {
     /// Returns the types of `modules`. Visits each name once, without recursion.
-    #[tactic(auto, using(crate::proofs::Refining::are_types))]
+    #[tactic(auto, using(crate::proofs::Refinements::are_types))]
     pub fn new<'a>(
         alloc: Global,
         names: &Names<'a>,
@@ -85,38 +85,38 @@ impl Types {
         })
     }
 
-    /// Returns the syntax of an OBJECT-TYPE, by the index of its module and its own index in that.
-    /// Returns `None` if it isn't one, or if its chain of types is broken, has no end, or ends at
-    /// something other than a type of values (RFC 2578, sections 7.1 and 9). The caller must pass
-    /// the modules that the types were made from.
-    #[tactic(auto, using(crate::proofs::Refining::by_facts))]
+    /// Returns the syntax of an OBJECT-TYPE, by the index of its module and its index in the
+    /// module. Returns `None` if it isn't one, or if its chain of types is broken, has no end, or
+    /// ends at something other than a type of values (RFC 2578, sections 7.1 and 9). The caller
+    /// must pass the modules that the types were made from.
+    #[tactic(auto, using(crate::proofs::Refinements::by_facts))]
     pub fn syntax<'m>(
         &self,
         modules: &'m [Module],
-        module_place: usize,
-        def_place: usize,
+        module_index: usize,
+        def_index: usize,
     ) -> Option<TypeSyntax<'m>>
         requires { AreTypesOf modules.now self.now }
         ensures { MatchOption result
-            (HasNoSyntax modules.now (object_origin modules.now module_place def_place))
-            (λ syntax. HasSyntax modules.now (object_origin modules.now module_place def_place)
+            (HasNoSyntax modules.now (object_origin modules.now module_index def_index))
+            (λ syntax. HasSyntax modules.now (object_origin modules.now module_index def_index)
             (facts_of syntax)) }
     {
-        self.kept(modules, module_place, def_place)
+        self.stored_syntax(modules, module_index, def_index)
     }
 
     /// Returns the syntax that is stored for an OBJECT-TYPE, as [`Types::syntax`] does. With other
     /// modules than those that the types were made from, this can be any syntax.
-    pub fn kept<'m>(
+    pub fn stored_syntax<'m>(
         &self,
         modules: &'m [Module],
-        module_place: usize,
-        def_place: usize,
+        module_index: usize,
+        def_index: usize,
     ) -> Option<TypeSyntax<'m>>
         ensures { option_map facts_of result
-            ≡ kept_syntax modules.now self.now module_place def_place }
+            ≡ kept_syntax modules.now self.now module_index def_index }
     {
-        let syntax = kept(self.objects.get(module_place)?, def_place)?;
+        let syntax = copy_at(self.objects.get(module_index)?, def_index)?;
         Some(TypeSyntax {
             base: syntax.base,
             names: definition(modules, syntax.names).and_then(names_in_definition),
@@ -126,8 +126,8 @@ impl Types {
     }
 }
 
-/// Returns the definition at `at`, the index of its module and its own index in that, if there is
-/// one.
+/// Returns the definition at `at`, the index of its module and its index in the module, if there
+/// is one.
 fn definition(modules: &[Module], at: Option<(usize, usize)>) -> Option<&Def>
     ensures { option_copied result ≡ def_of modules.now at }
 {
@@ -139,8 +139,8 @@ fn definition(modules: &[Module], at: Option<(usize, usize)>) -> Option<&Def>
 /// precedence; what it lacks is inherited from `far`, the syntax of the type that it refines. A
 /// type that refines a base type inherits nothing else. `hint` says whether the definition has a
 /// hint. Returns `None` if the type doesn't refine a base type and `far` is `None`.
-#[tactic(auto, using(crate::proofs::Refining::is_some_copied))]
-fn refined(
+#[tactic(auto, using(crate::proofs::Refinements::is_some_copied))]
+fn inherit_syntax(
     at: (usize, usize),
     hint: bool,
     simple: &SimpleType,
@@ -148,7 +148,7 @@ fn refined(
 ) -> Option<KeptSyntax>
     ensures { result ≡ refined_by at hint simple.now far }
 {
-    let far = based(simple, far)?;
+    let far = base_syntax_or(simple, far)?;
     Some(KeptSyntax {
         base: far.base,
         hint: nearer(hint, at, far.hint),
@@ -158,7 +158,7 @@ fn refined(
 }
 
 /// Returns the syntax of the base type that a type refines, or `far` if it refines another type.
-fn based(simple: &SimpleType, far: Option<KeptSyntax>) -> Option<KeptSyntax>
+fn base_syntax_or(simple: &SimpleType, far: Option<KeptSyntax>) -> Option<KeptSyntax>
     ensures { result ≡ base_or (base_in simple.now.base) far }
 {
     match base_of(simple) {
@@ -181,7 +181,7 @@ fn nearer(states: bool, at: (usize, usize), far: Option<(usize, usize)>) -> Opti
 
 /// Returns the syntax of the type that `simple` refines by name in the module named `home`.
 /// Returns `None` if that has no syntax, or `simple` refines a base type.
-fn named<'a>(
+fn parent_syntax<'a>(
     entries: &Entries<'_, 'a>,
     types: &[Option<KeptSyntax>],
     home: &'a [u8],
@@ -192,7 +192,7 @@ fn named<'a>(
         (type_origin entries.now.modules (record { home = home.now; name = x })) result }
 {
     let name = name_of(simple)?;
-    kept(types, entries.place(home, name.as_bytes()))
+    copy_at(types, entries.entry_index(home, name.as_bytes()))
 }
 
 /// Returns the syntax of `def`, which is in the module `home` and has the indices `at`, if it is
@@ -209,27 +209,27 @@ fn object<'a>(
     ensures { IsKept entries.now.modules (origin_of_object home.now.name.octets def.now) result }
 {
     let simple = object_type_of(&def.kind)?;
-    let far = named(entries, types, home.name.as_bytes(), simple);
-    refined(at, false, simple, far)
+    let far = parent_syntax(entries, types, home.name.as_bytes(), simple);
+    inherit_syntax(at, false, simple, far)
 }
 
-/// Returns the syntax of each definition of `module` that is an object. `place` is the index of
+/// Returns the syntax of each definition of `module` that is an object. `index` is the index of
 /// the module.
 fn module_objects<'a>(
     alloc: Global,
     entries: &Entries<'_, 'a>,
     types: &[Option<KeptSyntax>],
     module: &'a Module,
-    place: usize,
+    index: usize,
 ) -> Result<Vec<Option<KeptSyntax>>, AllocError>
     requires followed { AreFollowed entries.now types.now }
-    requires there { slice_get entries.now.modules place ≡ Some «module».now }
+    requires there { slice_get entries.now.modules index ≡ Some «module».now }
     ensures { IfOk result (λ kept. AreKeptOf entries.now.modules «module».now kept.items) }
 {
     let defs = module.defs.as_slice();
     let mut kept = Vec::with_capacity(alloc, defs.len())?;
     'defs: for (k, def) in defs.iter().enumerate() {
-        kept.push(object(entries, types, module, def, (place, k)))?;
+        kept.push(object(entries, types, module, def, (index, k)))?;
     }
     Ok(kept)
 }

@@ -101,7 +101,7 @@ fn assert_deepest(rt: &impl Abort, identifiers: &Identifiers) -> Result<(), Fail
 /// Returns the index and the depth of what was found.
 fn index_and_depth(deepest: Option<Deepest>) -> Option<(usize, usize)> {
     match deepest {
-        Some(deepest) => Some((deepest.place, deepest.depth)),
+        Some(deepest) => Some((deepest.id, deepest.depth)),
         None => None,
     }
 }

@@ -2,7 +2,7 @@
 //! names that refer into a ring or to nothing.
 
 use crate::reading::{modules_of, names_of, resolves_to};
-use smi_names::{Names, ordered};
+use smi_names::{Names, topological_order};
 use smi_text::Module;
 use std::alloc::Global;
 use std::process::Abort;
@@ -204,7 +204,7 @@ const SEVENS: &str = "\
 
 #[test]
 fn each_index_comes_after_the_one_it_refers_to(rt: HostRuntime) -> Result<(), Fail> {
-    let order = ordered(rt.alloc(), &NEXT)?;
+    let order = topological_order(rt.alloc(), &NEXT)?;
     assert!(rt; order.as_slice() == [2, 3, 0, 6, 7].as_slice());
     Ok(())
 }

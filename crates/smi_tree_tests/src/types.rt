@@ -150,7 +150,7 @@ static SYNTAXES: [Row<'static>; 15] = [
         Some((TypeBase::ObjectIdentifier, "", "", "")),
     ),
     ("BITS { x(0) }", Some((TypeBase::Bits, "", "x", ""))),
-    // Defined as another type by a module that it is imported from.
+    // Imported from a module that defines it as another type.
     ("Integer32", Some((TypeBase::Integer, "", "", ""))),
     ("Counter32", Some((TypeBase::Counter32, "", "", ""))),
     // Defined by the module itself, as a string and as nothing.

@@ -344,8 +344,8 @@ fn strings_are_shown_by_their_hint(rt: HostRuntime) {
 fn named_number(rt: &impl Abort, alloc: Global, name: &[u8], number: &[u8]) -> NamedNumber
     requires { is_word name.now ≡ true }
 {
-    let octets = Text::copied(alloc, name).expect(rt, "memory");
-    let number = Text::copied(alloc, number).expect(rt, "memory");
+    let octets = Text::from_slice(alloc, name).expect(rt, "memory");
+    let number = Text::from_slice(alloc, number).expect(rt, "memory");
     NamedNumber {
         name: Name { octets },
         number,

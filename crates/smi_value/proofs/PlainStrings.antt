@@ -6,9 +6,9 @@ use Rattle.std.specs.{Bool.◌==◌, Bool.OnTrue, List.flat_map, List.list_all}
 use Rattle.std.proofs.lemmas.Bool.{and_parts, and_from, not-true, eqb-true, OnTrue_from}
 use Rattle.std.proofs.lemmas.Simd.{length-chunk, bitmask_splat, tops_compared, zip2_splat_left, mask_l-mod, none_from_empty_mask}
 use lib.Lanes.{chunk, mask_l, zip2, top}
-use Rattle.smi_value.specs.{declared.letters.StringForm.StringForm, Texts.is_printable, Texts.escaped}
+use Rattle.smi_value.specs.{declared.letters.StringForm.StringForm, Texts.is_printable, Texts.escape_octet}
 use Rattle.smi_value.specs.declared.letters.StringForm.TheVariants as strings
-use Rattle.smi_value.specs.Pieces.{ArePlain, IsShownPlain, is_plain, dotted}
+use Rattle.smi_value.specs.Pieces.{ArePlain, IsShownPlain, is_plain, printable_or_dot}
 
 -- if lanes are tested against `y`, with `y` on the left, then the mask has one bit for each lane: the result of its test
 left_mask : (t : ℕ → ℕ → Bool) (lanes : List ℕ) (n y : ℕ) → length lanes ≡ n → n ≤ 64
@@ -54,7 +54,7 @@ plain_lanes octets at n room few low high quote =
     OnTrue_from (mask_equal octets at n 92 == 0) (ArePlain octets at (at + n)) all
 
 shown_same : (octets : List ℕ) → ArePlain octets 0 (length octets)
-    → (list_all is_printable octets ≡ true) × (flat_map (λ octet. escaped (dotted octet)) octets ≡ octets)
+    → (list_all is_printable octets ≡ true) × (flat_map (λ octet. escape_octet (printable_or_dot octet)) octets ≡ octets)
 shown_same [] h = (refl, refl)
 shown_same (octet ∷ more) h =
     let first : is_plain octet ≡ true = h 0 (omega arith) (omega arith) in

@@ -6,7 +6,7 @@ use Rattle.snmp_wire.specs.ber.Value.{Datum, integer_value, octet_string, object
 use Rattle.smi_text.specs.declared.trees.tree.NamedNumber.{NamedNumber}
 use Rattle.smi_value.specs.{declared.letters.Letters.Letters, Pieces.IsBitsText, Pieces.type_word, Syntax.ObjectSyntax}
 use Rattle.smi_value.specs.Value.{IsNumberText, IsTypedNumber, IsIntegerText, IsHintedString, IsStringText, IsOctetsText, ShowsValue}
-use Rattle.smi_value.proofs.{Bits.bits_once, Unique.same_shown, Unique.same_number}
+use Rattle.smi_value.proofs.{SetBits.bits_once, HintUnique.same_shown, HintUnique.same_number}
 
 number_once : (hint : Option (List ℕ)) (n : ℤ) (a b : List ℕ) → IsNumberText hint n a → IsNumberText hint n b → a ≡ b
 number_once None n a b h k = h ∙ sym k

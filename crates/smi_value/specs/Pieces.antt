@@ -9,7 +9,8 @@ use Rattle.smi_value.specs.declared.letters.TypeForm.TheVariants as types
 use Rattle.smi_value.specs.declared.letters.StringForm.{StringForm}
 use Rattle.smi_value.specs.declared.letters.StringForm.TheVariants as strings
 use Rattle.smi_text.specs.declared.trees.tree.NamedNumber.{NamedNumber}
-use Rattle.smi_value.specs.Texts.{clock_text, days_text, escaped, hexadecimal_text, is_printable}
+use Rattle.smi_value.specs.Texts.{clock_text, days_text, escape_octet, hexadecimal_text}
+use Rattle.smi_value.specs.Texts.{is_printable}
 
 -- whether values are shown after the words of their types: without q and Q they are
 abbrev pub is_typed : TypeForm → Bool
@@ -26,12 +27,12 @@ units_text letters None = []
 units_text letters (Some units) = if letters.no_units then [] else 32 ∷ units
 
 -- the octet, or a dot if it isn't printable
-abbrev pub dotted : ℕ → ℕ
-dotted octet = if is_printable octet then octet else 46
+abbrev pub printable_or_dot : ℕ → ℕ
+printable_or_dot octet = if is_printable octet then octet else 46
 
 -- the octets as characters between double quotes
 abbrev pub quoted : List ℕ → List ℕ
-quoted octets = codes "\"" ++ flat_map (λ octet. escaped (dotted octet)) octets ++ codes "\""
+quoted octets = codes "\"" ++ flat_map (λ octet. escape_octet (printable_or_dot octet)) octets ++ codes "\""
 
 -- whether a string that isn't empty is shown as text: if it is printable, or with a; never with x
 abbrev pub is_text : StringForm → List ℕ → Bool
@@ -75,7 +76,7 @@ bit_name letters (Some name) number =
 pub record IsBitSet (octets : List ℕ) (n : ℕ) : Type 0 where
   pub k : ℕ
   pub j : ℕ
-  pub place : n ≡ 8 * k + j
+  pub index : n ≡ 8 * k + j
   pub octet : k < length octets
   pub within : j < 8
   pub set : slice_index octets k / 2 ^ (7 - j) % 2 ≡ 1
@@ -112,20 +113,20 @@ ArePlain octets from to =
 -- the string `octets` is shown as text, with each octet unchanged
 pub record IsShownPlain (form : StringForm) (octets : List ℕ) : Type 0 where
   pub text : is_text form octets ≡ true
-  pub same : flat_map (λ octet. escaped (dotted octet)) octets ≡ octets
+  pub same : flat_map (λ octet. escape_octet (printable_or_dot octet)) octets ≡ octets
 
 -- the text of a bit, or nothing if it isn't set
 abbrev pub bit_text : Letters → List NamedNumber → ℕ → ℕ → List ℕ
 bit_text letters names bit set = if set == 1 then set_bit_text letters names bit else []
 
--- the bits that are set in the octet at index `place`, the most significant bit first
+-- the bits that are set in the octet at index `index`, the most significant bit first
 abbrev pub octet_bits : Letters → List NamedNumber → ℕ × ℕ → List ℕ
-octet_bits letters names (place, octet) =
-    bit_text letters names (8 * place) (octet / 128 % 2)
-    ++ bit_text letters names (8 * place + 1) (octet / 64 % 2)
-    ++ bit_text letters names (8 * place + 2) (octet / 32 % 2)
-    ++ bit_text letters names (8 * place + 3) (octet / 16 % 2)
-    ++ bit_text letters names (8 * place + 4) (octet / 8 % 2)
-    ++ bit_text letters names (8 * place + 5) (octet / 4 % 2)
-    ++ bit_text letters names (8 * place + 6) (octet / 2 % 2)
-    ++ bit_text letters names (8 * place + 7) (octet % 2)
+octet_bits letters names (index, octet) =
+    bit_text letters names (8 * index) (octet / 128 % 2)
+    ++ bit_text letters names (8 * index + 1) (octet / 64 % 2)
+    ++ bit_text letters names (8 * index + 2) (octet / 32 % 2)
+    ++ bit_text letters names (8 * index + 3) (octet / 16 % 2)
+    ++ bit_text letters names (8 * index + 4) (octet / 8 % 2)
+    ++ bit_text letters names (8 * index + 5) (octet / 4 % 2)
+    ++ bit_text letters names (8 * index + 6) (octet / 2 % 2)
+    ++ bit_text letters names (8 * index + 7) (octet % 2)

@@ -11,18 +11,18 @@ abbrev pub is_printable : ℕ → Bool
 is_printable octet = nat_le 32 octet && nat_le octet 126
 
 -- the octet, with a backslash before it if it is a double quote or a backslash
-abbrev pub escaped : ℕ → List ℕ
-escaped octet = if (octet == 34) || (octet == 92) then 92 ∷ octet ∷ [] else octet ∷ []
+abbrev pub escape_octet : ℕ → List ℕ
+escape_octet octet = if (octet == 34) || (octet == 92) then 92 ∷ octet ∷ [] else octet ∷ []
 
--- the octet at index `place` as two digits and a blank, on a new line after each 16 octets
-abbrev pub dumped : ℕ × ℕ → List ℕ
-dumped (place, octet) =
-    (if nat_lt 0 place && (place % 16 == 0) then 10 ∷ [] else [])
+-- the octet at index `index` as two digits and a blank, on a new line after each 16 octets
+abbrev pub hex_dump_octet : ℕ × ℕ → List ℕ
+hex_dump_octet (index, octet) =
+    (if nat_lt 0 index && (index % 16 == 0) then 10 ∷ [] else [])
     ++ hexadecimal_octet octet ++ codes " "
 
 -- the octets in hexadecimal, sixteen a line
 abbrev pub hexadecimal_text : List ℕ → List ℕ
-hexadecimal_text octets = flat_map dumped (enumerate_from 0 octets)
+hexadecimal_text octets = flat_map hex_dump_octet (enumerate_from 0 octets)
 
 -- the octets of an address as numbers, with dots between them
 abbrev pub address_text : List ℕ → List ℕ

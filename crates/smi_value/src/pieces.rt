@@ -4,10 +4,12 @@ ghost use Rattle.std.specs.Prelude.{if◌then◌else◌, ◌/◌, ◌^◌};
 ghost use Rattle.std.specs.{Fmt.signed_decimal, Option.option_copied};
 ghost use Rattle.std.specs.List.{flat_map, list_all, enumerate_from};
 ghost use Rattle.snmp_io.specs.Draft.{Adds};
-ghost use Rattle.smi_value.specs.Pieces.{is_typed, type_word, units_text, dotted, quoted, is_text};
+ghost use Rattle.smi_value.specs.Pieces.{is_typed, type_word, units_text, printable_or_dot};
+ghost use Rattle.smi_value.specs.Pieces.{quoted, is_text};
 ghost use Rattle.smi_value.specs.Pieces.{string_text, ticks_text, named_text, bit_name, octet_bits};
 ghost use Rattle.smi_value.specs.Pieces.{IsBitsText, bit_text, set_bit_text};
-ghost use Rattle.smi_value.specs.Texts.{is_printable, escaped, dumped, hexadecimal_text};
+ghost use Rattle.smi_value.specs.Texts.{is_printable, escape_octet, hex_dump_octet};
+ghost use Rattle.smi_value.specs.Texts.{hexadecimal_text};
 ghost use Rattle.smi_value.specs.Texts.{address_text, two_digits, days_text, clock_text};
 
 use crate::hint::append_marked_decimal;
@@ -19,7 +21,7 @@ use smi_text::NamedNumber;
 use snmp_io::Draft;
 
 /// Appends `word`, which is a type with its colon and blank. With `q` or `Q` it appends nothing.
-#[tactic(auto, using(crate::proofs::Growing::adds_none))]
+#[tactic(auto, using(crate::proofs::Drafts::adds_none))]
 pub(crate) fn append_word(draft: &mut Draft, letters: &Letters, word: &[u8])
     ensures { Adds draft.old (type_word letters.now word.now) draft.new }
 {
@@ -39,7 +41,7 @@ fn is_typed(form: TypeForm) -> bool
 }
 
 /// Appends a blank and the units. If there are none, or with `U`, it appends nothing.
-#[tactic(auto, using(crate::proofs::Growing::adds_none))]
+#[tactic(auto, using(crate::proofs::Drafts::adds_none))]
 pub(crate) fn append_units(draft: &mut Draft, letters: &Letters, units: Option<&[u8]>)
     ensures { Adds draft.old (units_text letters.now (option_copied units.entry)) draft.new }
 {
@@ -115,7 +117,8 @@ fn append_quoted(draft: &mut Draft, octets: &[u8])
 
 /// Appends each of the octets as [`append_character`] does.
 fn append_escaped(draft: &mut Draft, octets: &[u8])
-    ensures { Adds draft.old (flat_map (λ octet. escaped (dotted octet)) octets.now) draft.new }
+    ensures { Adds draft.old (flat_map (λ octet. escape_octet
+        (printable_or_dot octet)) octets.now) draft.new }
 {
     'octets: for octet in octets {
         append_character(draft, *octet);
@@ -125,7 +128,7 @@ fn append_escaped(draft: &mut Draft, octets: &[u8])
 /// Appends an octet as a character. A double quote or a backslash gets a backslash before it, and
 /// an octet that isn't printable is shown as a dot.
 fn append_character(draft: &mut Draft, octet: u8)
-    ensures { Adds draft.old (escaped (dotted octet)) draft.new }
+    ensures { Adds draft.old (escape_octet (printable_or_dot octet)) draft.new }
 {
     if octet == b'"' || octet == b'\\' {
         draft.octets(&[b'\\', octet]);
@@ -140,17 +143,17 @@ fn append_character(draft: &mut Draft, octet: u8)
 pub(crate) fn append_hexadecimal(draft: &mut Draft, octets: &[u8])
     ensures { Adds draft.old (hexadecimal_text octets.now) draft.new }
 {
-    'octets: for (place, octet) in octets.iter().enumerate() {
-        append_dumped(draft, place, *octet);
+    'octets: for (index, octet) in octets.iter().enumerate() {
+        append_dumped(draft, index, *octet);
     }
 }
 
-/// Appends the octet at index `place` in hexadecimal, and a blank. A new line begins at each index
+/// Appends the octet at index `index` in hexadecimal, and a blank. A new line begins at each index
 /// that is a multiple of 16, except 0.
-fn append_dumped(draft: &mut Draft, place: usize, octet: u8)
-    ensures { Adds draft.old (dumped (place, octet)) draft.new }
+fn append_dumped(draft: &mut Draft, index: usize, octet: u8)
+    ensures { Adds draft.old (hex_dump_octet (index, octet)) draft.new }
 {
-    if place > 0 && place % 16 == 0 {
+    if index > 0 && index % 16 == 0 {
         draft.octet(b'\n');
     }
     draft.hexadecimal_before(octet, b' ');
@@ -196,7 +199,7 @@ fn append_ticks_and_time(draft: &mut Draft, ticks: u32)
 }
 
 /// Appends a number of days with a comma and a blank, or nothing if it is 0.
-#[tactic(auto, using(crate::proofs::Growing::adds_none))]
+#[tactic(auto, using(crate::proofs::Drafts::adds_none))]
 fn append_days(draft: &mut Draft, days: u32)
     ensures { Adds draft.old (days_text days) draft.new }
 {
@@ -266,23 +269,23 @@ fn append_set_bits(draft: &mut Draft, letters: &Letters, names: &[NamedNumber], 
         in
         Adds draft.old bits draft.new }
 {
-    'octets: for (place, octet) in octets.iter().enumerate() {
-        append_octet_bits(draft, letters, names, place as u128, *octet);
+    'octets: for (index, octet) in octets.iter().enumerate() {
+        append_octet_bits(draft, letters, names, index as u128, *octet);
     }
 }
 
-/// Appends the bits that are set in the octet at index `place`, the most significant bit first.
+/// Appends the bits that are set in the octet at index `index`, the most significant bit first.
 fn append_octet_bits(
     draft: &mut Draft,
     letters: &Letters,
     names: &[NamedNumber],
-    place: u128,
+    index: u128,
     octet: u8,
 )
-    requires { place < 2 ^ 64 }
-    ensures { Adds draft.old (octet_bits letters.now names.now (place, octet)) draft.new }
+    requires { index < 2 ^ 64 }
+    ensures { Adds draft.old (octet_bits letters.now names.now (index, octet)) draft.new }
 {
-    let first = 8 * place;
+    let first = 8 * index;
     append_if_set(draft, letters, names, first, octet / 128 % 2);
     append_if_set(draft, letters, names, first + 1, octet / 64 % 2);
     append_if_set(draft, letters, names, first + 2, octet / 32 % 2);
@@ -294,7 +297,7 @@ fn append_octet_bits(
 }
 
 /// Appends the bit with the number `bit` if `set` is 1.
-#[tactic(auto, using(crate::proofs::Growing::adds_none))]
+#[tactic(auto, using(crate::proofs::Drafts::adds_none))]
 fn append_if_set(draft: &mut Draft, letters: &Letters, names: &[NamedNumber], bit: u128, set: u8)
     requires { bit < 2 ^ 68 }
     ensures { Adds draft.old (bit_text letters.now names.now bit set) draft.new }

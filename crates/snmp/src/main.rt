@@ -22,7 +22,7 @@ fn main(rt: HostRuntime) -> ExitCode {
     let mut err = MachineOutput::new(rt.stderr());
     let status = match run(&rt, &mut out, &mut err) {
         Ok(status) => status,
-        Err(error) => refused(&mut err, &error),
+        Err(error) => report_refusal(&mut err, &error),
     };
     ExitCode::from(status)
 }
@@ -68,7 +68,7 @@ fn texts_of(alloc: Global, words: &[String]) -> Result<Vec<&str>, AllocError>
 }
 
 // Reports on `err` why the arguments couldn't be read, and returns the exit status.
-fn refused<E: Output>(err: &mut E, error: &io::Error) -> u8 {
+fn report_refusal<E: Output>(err: &mut E, error: &io::Error) -> u8 {
     let text = match error.kind() {
         ErrorKind::OutOfMemory => "Out of memory.\n",
         _ => "error: invalid UTF-8 was detected in one or more arguments\n",

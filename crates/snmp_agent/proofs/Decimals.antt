@@ -11,7 +11,7 @@ pub record IsReadTo (text left : List ℕ) (number : ℕ) : Type 0 where
   pub value : number * 10 ^ length left + decimal_value left ≡ decimal_value text
   pub digits : all_ascii_digits left ≡ all_ascii_digits text
 
--- a number and its next digit, before the remaining digits
+-- the next digit may be counted with the number before it or with the digits after it: the value is the same
 shifted : (number digit power rest : ℕ) → (number * 10 + digit) * power + rest ≡ number * (power * 10) + (digit * power + rest)
 shifted number digit power rest = omega arith
 
@@ -22,26 +22,26 @@ value_more text rest digit number h =
     (length rest)) at h.value in
     shifted number (digit - 48) (10 ^ length rest) (decimal_value rest) ∙ e
 
-front_at : (text : List ℕ) (count : ℕ) → count < length text → drop count text ≡ get_or text count 0 ∷ drop (count + 1) text
-front_at text count low = rw (add-one, drop-cons text count 0) refl
+prefix_at : (text : List ℕ) (count : ℕ) → count < length text → drop count text ≡ get_or text count 0 ∷ drop (count + 1) text
+prefix_at text count low = rw (add-one, drop-cons text count 0) refl
 
-at_front : (text : List ℕ) (count number : ℕ) → count < length text → IsReadTo text (drop count text) number
+at_prefix : (text : List ℕ) (count number : ℕ) → count < length text → IsReadTo text (drop count text) number
     → IsReadTo text (get_or text count 0 ∷ drop (count + 1) text) number
-at_front text count number low h = rw (← front_at text count low) h
+at_prefix text count number low h = rw (← prefix_at text count low) h
 
--- after one more digit
+-- if a text is read up to a digit, then it is read up to the octet after it, with the digit appended to the number
 pub read_more : (text : List ℕ) (count number : ℕ) → count < length text → is_ascii_digit (get_or text count 0) ≡ true → IsReadTo text (drop count text) number
     → IsReadTo text (drop (count + 1) text) (number * 10 + (get_or text count 0 - 48))
-read_more text count number low is_digit h = grind (arith, common_steps, at_front, value_more)
+read_more text count number low is_digit h = grind (arith, common_steps, at_prefix, value_more)
 
--- after all digits
+-- if a text that isn't empty is read to its end, then it is decimal digits of the number
 pub read_all : (text : List ℕ) (number : ℕ) → text ≢ [] → IsReadTo text [] number → IsDecimal text number
 read_all text number some h = record { some = some; digits = sym h.digits; value = let e : number * 1 + 0 ≡ decimal_value text = h.value in omega arith }
 
--- the number has more than 64 bits
+-- if the next digit takes the number to 2^64 or above, then the text isn't a number of 64 bits
 pub read_large : (text : List ℕ) (count number : ℕ) → count < length text → 2 ^ 64 ≤ number * 10 + (get_or text count 0 - 48)
     → IsReadTo text (drop count text) number → (n : ℕ) → IsDecimal text n → n < 2 ^ 64 → ⊥
-read_large text count number low large h n decimal small = grind (arith, common_steps, at_front, le-mul_of_pos_right, one-le-pow, value_more)
+read_large text count number low large h n decimal small = grind (arith, common_steps, at_prefix, le-mul_of_pos_right, one-le-pow, value_more)
 
 -- a string is the digits of at most one number
 pub same_decimal : (text : List ℕ) (n m : ℕ) → IsDecimal text n → IsDecimal text m → m ≡ n
@@ -52,11 +52,11 @@ same_decimal text n m one other = sym other.value ∙ one.value
 digit_first : (text : List ℕ) (n : ℕ) → IsNumeral text n → get_or text 0 0 ≡ 46 → ⊥
 digit_first text n h first = grind (arith, common_steps)
 
-front_first : (front rest : List ℕ) → front ≢ [] → get_or (front ++ rest) 0 0 ≡ get_or front 0 0
-front_first front rest some = grind (arith, common_steps)
+prefix_first : (prefix rest : List ℕ) → prefix ≢ [] → get_or (prefix ++ rest) 0 0 ≡ get_or prefix 0 0
+prefix_first prefix rest some = grind (arith, common_steps)
 
 -- dotted numerals don't begin with a dot
 pub no_dot_first : (text o : List ℕ) → IsDotted text o → get_or text 0 0 ≡ 46 → ⊥
 no_dot_first text [] h first = h
 no_dot_first text (n ∷ []) h first = digit_first text n h first
-no_dot_first text (n ∷ m ∷ o) h first = grind (arith, common_steps, digit_first, front_first)
+no_dot_first text (n ∷ m ∷ o) h first = grind (arith, common_steps, digit_first, prefix_first)

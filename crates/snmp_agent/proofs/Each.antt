@@ -6,11 +6,11 @@ use Rattle.std.proofs.Common.{Greater, Ordering, refl, sym, ap, subst, ◌∙◌
 use Rattle.std.specs.{Ordering.nat_cmp, Cmp.Lexicographic.slice_cmp, FinMap.get, FinMap.entries, FinSet.contains}
 use Rattle.std.proofs.lemmas.Bool.{cases_lt, false≢true, or_cases, or_parts}
 use Rattle.snmp_wire.specs.Message.{Datum, no_such_object, no_such_instance, VarBind}
-use Rattle.snmp_agent.specs.{table.Exact.HasOne, table.Pages.entries_after, table.Places.var_of}
+use Rattle.snmp_agent.specs.{table.Exact.HasOne, table.Pages.entries_after, table.Entries.var_of}
 use Rattle.snmp_agent.specs.table.Table.{MibView, IsRow, HasObject, IsGet, variable, unknown_object, unknown_instance, IsSuccessor, IsNext, successor}
 use Rattle.snmp_agent.specs.table.Table.{end_of_view, IsNextAfter}
 use Rattle.snmp_agent.specs.table.Listing.{first_or_end, got_at, has_prefix}
-use Rattle.snmp_agent.proofs.{Rising.same_name, Rising.turned, Following.IsOrder, Following.behind_name, Following.is_next}
+use Rattle.snmp_agent.proofs.{SortedEntries.same_name, SortedEntries.turned, NextEntries.IsOrder, NextEntries.after_name, NextEntries.is_next}
 
 same_binding : (p q : VarBind) → p.name ≡ q.name → p.value ≡ q.value → p ≡ q
 same_binding p q name value = λ i. record { name = name i; value = value i }
@@ -51,9 +51,9 @@ is_got view o = by_value (get view.rows o) refl
         → IsGet view o (record { name = o; value = cond b no_such_instance no_such_object })
     by_prefix e true has = unknown_instance e (prefix_found view o (length o) has) refl
     by_prefix e false none = unknown_object e (λ has.
-        let front : take (length has.0) o ≡ has.0 = ap (take (length has.0)) has.3 ∙ take-append_seam has.0 has.1 in
+        let prefix : take (length has.0) o ≡ has.0 = ap (take (length has.0)) has.3 ∙ take-append_seam has.0 has.1 in
         let long : length o ≡ length has.0 + length has.1 = ap length has.3 ∙ length-append has.0 has.1 in
-        no_prefix view o (length o) (length has.0) none (omega (arith, long)) (ap (contains view.objects) front ∙ has.2)) refl
+        no_prefix view o (length o) (length has.0) none (omega (arith, long)) (ap (contains view.objects) prefix ∙ has.2)) refl
 
     by_value : (found : Option Datum) → get view.rows o ≡ found
         → IsGet view o (record { name = o; value = unwrap_or found (cond (has_prefix view o (length o)) no_such_instance no_such_object) })
@@ -78,7 +78,7 @@ one_get view o = (got_at view o, is_got view o, λ q is. same_get view o q (got_
 module _ (order : IsOrder) where
   next : (view : MibView) (o : List ℕ) → (p : VarBind) × IsNext view o p
   next view o =
-      let back = behind_name view o in
+      let back = after_name view o in
       (first_or_end o (map var_of (entries_after o (entries view.rows))), is_next order view o back.0 (entries_after o (entries view.rows)) back.1)
 
   -- two successors have the same name, since neither is between the name and the other
@@ -86,16 +86,16 @@ module _ (order : IsOrder) where
   same_successor view o p q h k = by_order (slice_cmp nat_cmp p.name q.name) refl
     where
       by_order : (r : Ordering) → slice_cmp nat_cmp p.name q.name ≡ r → p ≡ q
-      by_order Less e = absurd (k.nearest p h.row h.behind ((order p.name q.name).0 e))
-      by_order Greater e = absurd (h.nearest q k.row k.behind ((order q.name p.name).0 (turned p.name q.name Greater e)))
+      by_order Less e = absurd (k.nearest p h.row h.after ((order p.name q.name).0 e))
+      by_order Greater e = absurd (h.nearest q k.row k.after ((order q.name p.name).0 (turned p.name q.name Greater e)))
       by_order Equal e =
           let name : p.name ≡ q.name = same_name p.name q.name e in
           same_binding p q name (some_once p.value q.value (sym h.row ∙ ap (get view.rows) name ∙ k.row))
 
   same_next : (view : MibView) (o : List ℕ) (p q : VarBind) → IsNext view o p → IsNext view o q → p ≡ q
   same_next view o p q (successor h) (successor k) = same_successor view o p q h k
-  same_next view o p q (successor h) (end_of_view none same) = absurd (none p h.row h.behind)
-  same_next view o p q (end_of_view none same) (successor k) = absurd (none q k.row k.behind)
+  same_next view o p q (successor h) (end_of_view none same) = absurd (none p h.row h.after)
+  same_next view o p q (end_of_view none same) (successor k) = absurd (none q k.row k.after)
   same_next view o p q (end_of_view none same) (end_of_view nothing other) = same ∙ sym other
 
   pub one_next : (view : MibView) (o : List ℕ) → HasOne (IsNext view o)

@@ -33,19 +33,19 @@ good_value format line (a_row p h) bad =
     bad.5 p.value (subst (λ (t : List ℕ). IsValueText format bad.1 t p.value) same.2
     (subst (λ (t : List ℕ). IsValueText format t h.text p.value) same.1 h.valued))
 
-pub line_good : (format : Format) (front : List (List ℕ)) (line : List ℕ) (back : List (List ℕ))
-    → All (IsGoodLine format) (front ++ line ∷ back) → IsGoodLine format line
-line_good format front line back h =
-    All-contains (IsGoodLine format) (front ++ line ∷ back) line h (Contains-append_right front (line ∷ back) line (0, omega arith, refl))
+pub line_good : (format : Format) (prefix : List (List ℕ)) (line : List ℕ) (back : List (List ℕ))
+    → All (IsGoodLine format) (prefix ++ line ∷ back) → IsGoodLine format line
+line_good format prefix line back h =
+    All-contains (IsGoodLine format) (prefix ++ line ∷ back) line h (Contains-append_right prefix (line ∷ back) line (0, omega arith, refl))
 
 -- a line differs in name from each line before it
-pub earlier_differs : (format : Format) (front : List (List ℕ)) (line : List ℕ) (back : List (List ℕ)) (other : List ℕ)
-    → AllPairs (DifferInName format) (front ++ line ∷ back)
-    → Contains front other → DifferInName format other line
-earlier_differs format front line back other h at =
-    let low : length front < length (front ++ line ∷ back) = omega (arith, length-append front (line ∷ back)) in
-    let here = h at.0 (length front) other at.1 low in
-    rw (get_or-append front (line ∷ back) other at.0 at.1, at.2, get_or-append_seam front line back other) at here
+pub earlier_differs : (format : Format) (prefix : List (List ℕ)) (line : List ℕ) (back : List (List ℕ)) (other : List ℕ)
+    → AllPairs (DifferInName format) (prefix ++ line ∷ back)
+    → Contains prefix other → DifferInName format other line
+earlier_differs format prefix line back other h at =
+    let low : length prefix < length (prefix ++ line ∷ back) = omega (arith, length-append prefix (line ∷ back)) in
+    let here = h at.0 (length prefix) other at.1 low in
+    rw (get_or-append prefix (line ∷ back) other at.0 at.1, at.2, get_or-append_seam prefix line back other) at here
 
 pub no_fault_in : (format : Format) (lines : List (List ℕ)) (fault : TableError) → AreTable format lines
     → IsFirstFaultIn format lines fault → fault ≡ error.Memory

@@ -3,13 +3,13 @@ use Rattle.std.proofs.Common.{arith, ◌≡◌, ◌↔◌, ℕ, List, [], ◌∷
 use Rattle.std.proofs.lemmas.Grind.{common_steps}
 use Rattle.snmp_io.specs.Quotes.{HasNoneOutside}
 use Rattle.snmp_agent.specs.table.Exact.{IsOnly}
-use Rattle.snmp_agent.specs.table.Format.{HasNoEnd, IsFrontRead, IsMarked, IsNameIn, Names, bar, first_format, second_format}
+use Rattle.snmp_agent.specs.table.Format.{HasNoEnd, IsLeadingName, IsMarked, IsNameIn, Names, bar, first_format, second_format}
 use Rattle.snmp_agent.proofs.Cuts.{HasNoBar, no_cut}
 
 -- ---- names of a reader
 
 -- if a reader of names finds nothing, the string isn't a name
-pub no_name : (names : Names) (text : List ℕ) → IsFrontRead names text None → IsOnly (IsNameIn (second_format names) text) None
+pub no_name : (names : Names) (text : List ℕ) → IsLeadingName names text None → IsOnly (IsNameIn (second_format names) text) None
 no_name names text h = grind (arith, common_steps)
 
 -- ---- the end of a name

@@ -10,9 +10,9 @@ module _ {X : Type 0} (P : X → Type 0) where
   all_both [] ys h k = k
   all_both (x ∷ xs) ys h k = (h.0, all_both xs ys h.1 k)
 
-  pub all_front : (xs ys : List X) → AllByRecursion P (xs ++ ys) → AllByRecursion P xs
-  all_front [] ys h = tt
-  all_front (x ∷ xs) ys h = (h.0, all_front xs ys h.1)
+  pub all_prefix : (xs ys : List X) → AllByRecursion P (xs ++ ys) → AllByRecursion P xs
+  all_prefix [] ys h = tt
+  all_prefix (x ∷ xs) ys h = (h.0, all_prefix xs ys h.1)
 
   pub all_back : (xs ys : List X) → AllByRecursion P (xs ++ ys) → AllByRecursion P ys
   all_back [] ys h = h
@@ -26,31 +26,31 @@ module _ {X : Type 0} (P : X → Type 0) where
 
 module _ {X : Type 0} where
   -- prefixes with the same length are the same
-  pub same_front : (xs ys more rest : List X) → xs ++ more ≡ ys ++ rest → length xs ≡ length ys → xs ≡ ys
-  same_front xs ys more rest e long =
+  pub same_prefix : (xs ys more rest : List X) → xs ++ more ≡ ys ++ rest → length xs ≡ length ys → xs ≡ ys
+  same_prefix xs ys more rest e long =
       sym (take_at xs more (length xs) refl) ∙ ap (take (length xs)) e ∙ take_at ys rest (length xs) (sym long)
 
   -- of two prefixes of a list, the longer one contains the element that follows the shorter one
-  pub inside : (front : List X) (x : X) (back other rest : List X) → front ++ x ∷ back ≡ other ++ rest → length front < length other
-      → (more : List X) × (other ≡ front ++ x ∷ more)
-  inside front x back [] rest e low = absurd (omega (arith, low))
+  pub inside : (prefix : List X) (x : X) (back other rest : List X) → prefix ++ x ∷ back ≡ other ++ rest → length prefix < length other
+      → (more : List X) × (other ≡ prefix ++ x ∷ more)
+  inside prefix x back [] rest e low = absurd (omega (arith, low))
   inside [] x back (y ∷ other) rest e low = (other, cc)
-  inside (z ∷ front) x back (y ∷ other) rest e low =
-      let later = inside front x back other rest (cc) (omega (arith, low)) in (later.0, cc (later.1))
+  inside (z ∷ prefix) x back (y ∷ other) rest e low =
+      let later = inside prefix x back other rest (cc) (omega (arith, low)) in (later.0, cc (later.1))
 
-  -- a list is the elements before index `place`, the one at it, and those after it
-  pub around : (xs : List X) (place : ℕ) (x : X) → slice_get xs place ≡ Some x → xs ≡ take place xs ++ x ∷ drop (suc place) xs
-  around [] place x at = cc
+  -- a list is the elements before index `index`, the one at it, and those after it
+  pub around : (xs : List X) (index : ℕ) (x : X) → slice_get xs index ≡ Some x → xs ≡ take index xs ++ x ∷ drop (suc index) xs
+  around [] index x at = cc
   around (first ∷ xs) zero x at = let same : first ≡ x = cc in ap (λ y. y ∷ xs) same
-  around (first ∷ xs) (suc place) x at = ap (λ ys. first ∷ ys) (around xs place x at)
+  around (first ∷ xs) (suc index) x at = ap (λ ys. first ∷ ys) (around xs index x at)
 
   -- an element of a prefix is at the same index of the list
-  pub in_front : (xs : List X) (place k : ℕ) (x : X) → slice_get (take place xs) k ≡ Some x → slice_get xs k ≡ Some x
-  in_front [] zero k x at = at
-  in_front [] (suc place) k x at = at
-  in_front (first ∷ xs) zero k x at = cc
-  in_front (first ∷ xs) (suc place) zero x at = at
-  in_front (first ∷ xs) (suc place) (suc k) x at = in_front xs place k x at
+  pub in_prefix : (xs : List X) (index k : ℕ) (x : X) → slice_get (take index xs) k ≡ Some x → slice_get xs k ≡ Some x
+  in_prefix [] zero k x at = at
+  in_prefix [] (suc index) k x at = at
+  in_prefix (first ∷ xs) zero k x at = cc
+  in_prefix (first ∷ xs) (suc index) zero x at = at
+  in_prefix (first ∷ xs) (suc index) (suc k) x at = in_prefix xs index k x at
 
   -- `x` is the last element of the list
   abbrev pub IsLast : List X → X → Type 0
@@ -61,8 +61,8 @@ module _ {X : Type 0} where
       around xs (length xs - 1) x at ∙ ap (λ rest. take (length xs - 1) xs ++ x ∷ rest) (drop_all (suc (length xs - 1)) xs (omega (arith, some)))
 
   -- the last element of a prefix of `n` elements is at index `n - 1`
-  pub last_in_front : (xs : List X) (n : ℕ) (x : X) → n ≤ length xs → IsLast (take n xs) x → slice_get xs (n - 1) ≡ Some x
-  last_in_front xs n x within last = grind (arith, common_steps, in_front, length-take-le)
+  pub last_in_prefix : (xs : List X) (n : ℕ) (x : X) → n ≤ length xs → IsLast (take n xs) x → slice_get xs (n - 1) ≡ Some x
+  last_in_prefix xs n x within last = grind (arith, common_steps, in_prefix, length-take-le)
 
   pub nothing_left : (xs : List X) → length xs ≡ 0 → xs ≡ []
   nothing_left xs h = grind (arith, common_steps)

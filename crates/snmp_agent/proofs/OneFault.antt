@@ -4,9 +4,9 @@ use Rattle.std.proofs.Common.{arith, ◌≡◌, ◌≢◌, inl, inr, ℕ, List, 
 use Rattle.snmp_agent.specs.{declared.table.error.TableError.TableError, table.Text.IsGoodLine, table.Text.a_row, table.Format.Format}
 use Rattle.snmp_agent.specs.{table.Format.Names, table.Form.IsBadLine, table.Form.IsBadName, table.Form.IsBadValue}
 use Rattle.snmp_agent.specs.declared.table.error.TableError.TheVariants as error
-use Rattle.snmp_agent.specs.table.Stated.{IsBehindGood, IsDouble, IsFirstFault, IsFirstFaultIn, IsWrong, number_of}
+use Rattle.snmp_agent.specs.table.Stated.{IsAfterGoodLines, IsDouble, IsFirstFault, IsFirstFaultIn, IsWrong, number_of}
 use Rattle.snmp_agent.proofs.Faultless.{good_line, good_name, good_value, no_fault_in}
-use Rattle.snmp_agent.proofs.{Lists.inside, Lists.same_front, Statements.same_rows, Unique.one_format}
+use Rattle.snmp_agent.proofs.{Lists.inside, Lists.same_prefix, Statements.same_rows, Unique.one_format}
 
 -- ---- what is wrong with one line
 
@@ -23,13 +23,13 @@ module _ (format : Format) (line : List ℕ) where
       let same = same_rows format line name.0 name.1 name.2 value.0 value.1 value.2 name.3 value.3 in
       name.4 value.4.0 (rw (← same.0) value.4.1)
 
-  module _ (front : List (List ℕ)) where
-    stated : IsDouble format front line → IsGoodLine format line
+  module _ (prefix : List (List ℕ)) where
+    stated : IsDouble format prefix line → IsGoodLine format line
     stated double = a_row double.0 double.2
 
     -- at most one thing is wrong with a line
     one_wrong : (fault other : TableError) → number_of fault ≡ number_of other
-        → IsWrong format front line fault → IsWrong format front line other → fault ≡ other
+        → IsWrong format prefix line fault → IsWrong format prefix line other → fault ≡ other
     one_wrong (error.BadLine n) (error.BadLine m) e h k = ap error.BadLine e
     one_wrong (error.BadName n) (error.BadName m) e h k = ap error.BadName e
     one_wrong (error.BadValue n) (error.BadValue m) e h k = ap error.BadValue e
@@ -42,8 +42,8 @@ module _ (format : Format) (line : List ℕ) where
 
 -- what a fault says of lines, if it isn't a lack of memory
 abbrev IsFaulty : Format → List (List ℕ) → TableError → Type 0
-IsFaulty format lines fault = (front : List (List ℕ)) × (line : List ℕ)
-    × IsBehindGood format lines (number_of fault) front line × IsWrong format front line fault
+IsFaulty format lines fault = (prefix : List (List ℕ)) × (line : List ℕ)
+    × IsAfterGoodLines format lines (number_of fault) prefix line × IsWrong format prefix line fault
 
 faulty : (format : Format) (lines : List (List ℕ)) (fault : TableError)
     → IsFirstFaultIn format lines fault → fault ≢ error.Memory → IsFaulty format lines fault
@@ -60,9 +60,9 @@ module _ (format : Format) (lines : List (List ℕ)) where
       → fault ≢ error.Memory → length h.0 < length k.0 → ⊥
   not_before fault other h k known low =
       let there = inside h.0 h.1 h.2.back k.0 (k.1 ∷ k.2.back) (sym h.2.parts ∙ k.2.parts) low in
-      let behind : IsBehindGood format k.0 (number_of fault) h.0 h.1 =
-      record { back = there.0; parts = there.1; place = h.2.place; good = h.2.good } in
-      known (no_fault_in format k.0 fault k.2.good (first format k.0 fault (h.0, h.1, behind, h.3)))
+      let after : IsAfterGoodLines format k.0 (number_of fault) h.0 h.1 =
+      record { back = there.0; parts = there.1; line_number = h.2.line_number; good = h.2.good } in
+      known (no_fault_in format k.0 fault k.2.good (first format k.0 fault (h.0, h.1, after, h.3)))
 
   same_fault : (fault other : TableError) → IsFaulty format lines fault → IsFaulty format lines other
       → fault ≢ error.Memory → other ≢ error.Memory → fault ≡ other
@@ -71,10 +71,10 @@ module _ (format : Format) (lines : List (List ℕ)) where
       let late = not_before other fault k h two in
       let long : length h.0 ≡ length k.0 = omega (arith, early, late) in
       let parts : h.0 ++ h.1 ∷ h.2.back ≡ k.0 ++ k.1 ∷ k.2.back = sym h.2.parts ∙ k.2.parts in
-      let front : h.0 ≡ k.0 = same_front h.0 k.0 (h.1 ∷ h.2.back) (k.1 ∷ k.2.back) parts long in
-      let back : h.1 ∷ h.2.back ≡ k.1 ∷ k.2.back = append_cancel_left k.0 _ _ (rw front at parts) in
+      let prefix : h.0 ≡ k.0 = same_prefix h.0 k.0 (h.1 ∷ h.2.back) (k.1 ∷ k.2.back) parts long in
+      let back : h.1 ∷ h.2.back ≡ k.1 ∷ k.2.back = append_cancel_left k.0 _ _ (rw prefix at parts) in
       let line : h.1 ≡ k.1 = cc in
-      one_wrong format h.1 h.0 fault other (omega (arith, h.2.place, k.2.place, long)) h.3 (rw (front, line) k.3)
+      one_wrong format h.1 h.0 fault other (omega (arith, h.2.line_number, k.2.line_number, long)) h.3 (rw (prefix, line) k.3)
 
 pub one_fault : (names : Names) (lines : List (List ℕ)) (fault other : TableError)
     → IsFirstFault names lines fault → IsFirstFault names lines other

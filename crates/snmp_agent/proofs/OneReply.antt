@@ -5,13 +5,13 @@ use Rattle.std.proofs.Common.{◌≡◌, ℕ, pos, ◌≤◌, List, [], ◌∷�
 use Rattle.std.proofs.Common.{append_assoc, append-nil, arith, length-append}
 use Rattle.snmp_wire.specs.declared.kind.Kind.TheVariants as kind
 use Rattle.snmp_wire.specs.{Message.VarBind, Message.Message, Spelling.Spells, Canon.canon}
-use Rattle.snmp_agent.specs.{table.Table.MibView, table.Table.IsGet, table.Table.IsNext, table.Table.IsNextAfter, declared.config.Why.Why}
-use Rattle.snmp_agent.specs.declared.config.Why.TheVariants as why
+use Rattle.snmp_agent.specs.{table.Table.MibView, table.Table.IsGet, table.Table.IsNext, table.Table.IsNextAfter, declared.config.DropReason.DropReason}
+use Rattle.snmp_agent.specs.declared.config.DropReason.TheVariants as why
 use Rattle.snmp_agent.specs.declared.config.Outcome.TheVariants.{Reply}
 use Rattle.snmp_agent.specs.Reply.{Agent, response, AreAnswers, no_error, IsWhole, Fits, or_zero}
-use Rattle.snmp_agent.specs.Reply.{AreRounds, IsBulk, IsLongestFront, IsResponse, whole, shortened, bulk, IsReply, IsDropped, IsRefused}
+use Rattle.snmp_agent.specs.Reply.{AreRounds, IsBulk, IsLongestPrefix, IsResponse, whole, shortened, bulk, IsReply, IsDropped, IsRefused}
 use Rattle.snmp_agent.specs.table.Exact.{HasOne}
-use Rattle.snmp_agent.proofs.Lists.{same_front}
+use Rattle.snmp_agent.proofs.Lists.{same_prefix}
 
 abbrev OneSpelling : Type 0
 OneSpelling = (m n : Message) (b c rest more : List ℕ) → Spells m b → Spells n c → b ++ rest ≡ c ++ more → (m ≡ n) × (b ≡ c)
@@ -29,8 +29,8 @@ HasNexts = (view : MibView) (o : List ℕ) → HasOne (IsNext view o)
 abbrev pub HasNextsAfter : Type 0
 HasNextsAfter = (view : MibView) (rounds : ℕ) (o : List ℕ) → HasOne (IsNextAfter view rounds o)
 
-pub same_answers : (R : VarBind → VarBind → Type 0) → ((asked : VarBind) → HasOne (R asked)) → (asked given other : List VarBind)
-    → AreAnswers R asked given → AreAnswers R asked other → given ≡ other
+pub same_answers : (R : VarBind → VarBind → Type 0) → ((asked : VarBind) → HasOne (R asked)) → (asked returned other : List VarBind)
+    → AreAnswers R asked returned → AreAnswers R asked other → returned ≡ other
 same_answers R one [] [] [] h k = refl
 same_answers R one (a ∷ more) (p ∷ ps) (q ∷ qs) h k =
     let first : p ≡ q = (one a).2 p h.0 ∙ sym ((one a).2 q k.0) in
@@ -43,12 +43,12 @@ same_answers R one _ _ other h k = absurd h
 -- ---- longest prefixes
 
 -- a longest prefix is no longer than another
-no_longer : (max_size : ℕ) (q : Message) (all a b : List VarBind) → IsLongestFront max_size q all a → IsLongestFront max_size q all b → length a ≤ length b
+no_longer : (max_size : ℕ) (q : Message) (all a b : List VarBind) → IsLongestPrefix max_size q all a → IsLongestPrefix max_size q all b → length a ≤ length b
 no_longer max_size q all a b h k = grind (arith, common_steps)
 
-one_front : (max_size : ℕ) (q : Message) (all a b : List VarBind) → IsLongestFront max_size q all a → IsLongestFront max_size q all b → a ≡ b
-one_front max_size q all a b h k =
-    same_front a b h.more k.more (sym h.front ∙ k.front) (omega (arith, no_longer max_size q all a b h k, no_longer max_size q all b a k h))
+one_prefix : (max_size : ℕ) (q : Message) (all a b : List VarBind) → IsLongestPrefix max_size q all a → IsLongestPrefix max_size q all b → a ≡ b
+one_prefix max_size q all a b h k =
+    same_prefix a b h.more k.more (sym h.prefix ∙ k.prefix) (omega (arith, no_longer max_size q all a b h k, no_longer max_size q all b a k h))
 
 -- ---- rounds
 
@@ -69,7 +69,7 @@ module _ (nexts : HasNextsAfter) (view : MibView) (repetitions : ℕ) (names : L
   same_rounds before (r ∷ a) [] h k = absurd (no_more before a r (rw (append-nil before) at k) h)
   same_rounds before (r ∷ a) (s ∷ b) h k =
       let first : r ≡ s =
-      same_answers (λ asked given. IsNextAfter view (length before) asked.name given) (λ asked. nexts view (length before) asked.name)
+      same_answers (λ asked returned. IsNextAfter view (length before) asked.name returned) (λ asked. nexts view (length before) asked.name)
       names r s (h.successors before a r refl) (k.successors before b s refl) in
       let rest : a ≡ b = same_rounds (before ++ r ∷ []) a b (rw (append_assoc before (r ∷ []) a) h) (rw (append_assoc before (r ∷ []) b, first) k) in
       λ i. first i ∷ rest i
@@ -80,19 +80,19 @@ module _ (gets : HasGets) (nexts : HasNexts) (later_nexts : HasNextsAfter) (view
   same_bulk : (a b : List VarBind) → IsBulk view q a → IsBulk view q b → a ≡ b
   same_bulk a b h k =
       let singles : h.singles ≡ k.singles =
-      same_answers (λ asked given. IsNext view asked.name given) (λ asked. nexts view asked.name)
+      same_answers (λ asked returned. IsNext view asked.name returned) (λ asked. nexts view asked.name)
       (take (or_zero q.a) q.bindings) h.singles k.singles h.are_singles k.are_singles in
       let rounds : h.rounds ≡ k.rounds =
       same_rounds later_nexts view (or_zero q.b) (drop (or_zero q.a) q.bindings) [] h.rounds k.rounds h.are_rounds k.are_rounds in
       cc (h.parts, k.parts)
 
-  same_got : (a b : List VarBind) → AreAnswers (λ asked given. IsGet view asked.name given) q.bindings a
-      → AreAnswers (λ asked given. IsGet view asked.name given) q.bindings b → a ≡ b
-  same_got a b = same_answers (λ asked given. IsGet view asked.name given) (λ asked. gets view asked.name) q.bindings a b
+  same_got : (a b : List VarBind) → AreAnswers (λ asked returned. IsGet view asked.name returned) q.bindings a
+      → AreAnswers (λ asked returned. IsGet view asked.name returned) q.bindings b → a ≡ b
+  same_got a b = same_answers (λ asked returned. IsGet view asked.name returned) (λ asked. gets view asked.name) q.bindings a b
 
-  same_next : (a b : List VarBind) → AreAnswers (λ asked given. IsNext view asked.name given) q.bindings a
-      → AreAnswers (λ asked given. IsNext view asked.name given) q.bindings b → a ≡ b
-  same_next a b = same_answers (λ asked given. IsNext view asked.name given) (λ asked. nexts view asked.name) q.bindings a b
+  same_next : (a b : List VarBind) → AreAnswers (λ asked returned. IsNext view asked.name returned) q.bindings a
+      → AreAnswers (λ asked returned. IsNext view asked.name returned) q.bindings b → a ≡ b
+  same_next a b = same_answers (λ asked returned. IsNext view asked.name returned) (λ asked. nexts view asked.name) q.bindings a b
 
   same_whole : (r s : Message) → IsWhole view q r → IsWhole view q s → r ≡ s
   same_whole r s h k = grind (arith, common_steps, same_got, same_next)
@@ -103,15 +103,15 @@ module _ (gets : HasGets) (nexts : HasNexts) (later_nexts : HasNextsAfter) (view
   same_response : (limit : ℕ) (r s : Message) → IsResponse view limit q r → IsResponse view limit q s → r ≡ s
   same_response limit r s (whole h fits) (whole k fit) = same_whole r s h k
   same_response limit r s (whole h fits) (shortened large k no_fit e) = absurd (no_fit (subst (Fits limit) (same_whole r large h k) fits))
-  same_response limit r s (whole h fits) (bulk all bindings is k front e) = absurd (no_bulk r h is)
+  same_response limit r s (whole h fits) (bulk all bindings is k prefix e) = absurd (no_bulk r h is)
   same_response limit r s (shortened large h no_fit e) (whole k fits) = absurd (no_fit (subst (Fits limit) (same_whole s large k h) fits))
   same_response limit r s (shortened large h no_fit e) (shortened other k none f) = e ∙ sym f
-  same_response limit r s (shortened large h no_fit e) (bulk all bindings is k front f) = absurd (no_bulk large h is)
-  same_response limit r s (bulk all bindings is h front e) (whole k fits) = absurd (no_bulk s k is)
-  same_response limit r s (bulk all bindings is h front e) (shortened large k no_fit f) = absurd (no_bulk large k is)
-  same_response limit r s (bulk all a is h front e) (bulk others b same k other f) =
-      let here : IsLongestFront limit q others a = subst (λ (ps : List VarBind). IsLongestFront limit q ps a) (same_bulk all others h k) front in
-      e ∙ ap (response q no_error (pos 0)) (one_front limit q others a b here other) ∙ sym f
+  same_response limit r s (shortened large h no_fit e) (bulk all bindings is k prefix f) = absurd (no_bulk large h is)
+  same_response limit r s (bulk all bindings is h prefix e) (whole k fits) = absurd (no_bulk s k is)
+  same_response limit r s (bulk all bindings is h prefix e) (shortened large k no_fit f) = absurd (no_bulk large k is)
+  same_response limit r s (bulk all a is h prefix e) (bulk others b same k other f) =
+      let here : IsLongestPrefix limit q others a = subst (λ (ps : List VarBind). IsLongestPrefix limit q ps a) (same_bulk all others h k) prefix in
+      e ∙ ap (response q no_error (pos 0)) (one_prefix limit q others a b here other) ∙ sym f
 
 -- ---- replies
 
@@ -129,7 +129,7 @@ module _ (gets : HasGets) (nexts : HasNexts) (later_nexts : HasNextsAfter) (spel
       let same : h.request ≡ k.request = same_request datagram h.request k.request h.is_request.spelt k.is_request.spelt in
       h.encoding ∙ ap canon (responses agent h.request k.request h.response k.response same h.is_response k.is_response) ∙ sym k.encoding
 
-  pub no_reply : (agent : Agent) (datagram reply : List ℕ) (reason : Why) → IsReply agent datagram reply → IsDropped agent datagram reason → ⊥
+  pub no_reply : (agent : Agent) (datagram reply : List ℕ) (reason : DropReason) → IsReply agent datagram reply → IsDropped agent datagram reason → ⊥
   no_reply agent datagram reply why.Undecodable h none = none h.request h.is_request.spelt
   no_reply agent datagram reply why.Version h (p, spelt, other) =
       other (rw (← same_request datagram h.request p h.is_request.spelt spelt) h.is_request.version)
@@ -149,7 +149,7 @@ is_replied size out octets long taken =
     let same : size ≡ length octets = long ∙ ap length taken in
     (ap Reply same, subst (λ (n : ℕ). take n out ≡ octets) same taken)
 
-pub refused_is_dropped : (agent : Agent) (octets : List ℕ) (reason : Why) → IsRefused agent.community octets reason → IsDropped agent octets reason
+pub refused_is_dropped : (agent : Agent) (octets : List ℕ) (reason : DropReason) → IsRefused agent.community octets reason → IsDropped agent octets reason
 refused_is_dropped agent octets why.Undecodable is = is
 refused_is_dropped agent octets why.Version is = is
 refused_is_dropped agent octets why.Community is = is

@@ -5,12 +5,12 @@ use Rattle.std.proofs.Common.{refl, ap, subst, arith, append_assoc, Some, Less}
 use Rattle.std.specs.{Ordering.nat_cmp, Ordering.is_le, Cmp.Lexicographic.slice_cmp, List.AllWithin, List.slice_get, List.Sorted.IsPartitionedBy}
 use Rattle.std.proofs.{lemmas.List.map-append, lemmas.List.set_split, lemmas.List.take-append-drop, lemmas.Option.slice_get-get_or}
 use Rattle.snmp_wire.specs.Message.{Datum, VarBind}
-use Rattle.snmp_agent.specs.{declared.table.page.Page.Page, private.table.Halving.IsHalvedTo}
-use Rattle.snmp_agent.specs.table.Places.{IsAfterAll, IsBeforeNone, IsBeforeAll, entry_of}
-use Rattle.snmp_agent.specs.table.Pages.{ArePages, IsPageOf, IsPlaceAfter, IsRising, IsSorted, begins_up_to, entries_in, entries_of, is_up_to}
+use Rattle.snmp_agent.specs.{declared.table.page.Page.Page, private.table.BinarySearch.IsHalvedTo}
+use Rattle.snmp_agent.specs.table.Entries.{IsAfterAll, IsBeforeNone, IsBeforeAll, entry_of}
+use Rattle.snmp_agent.specs.table.Pages.{ArePages, IsPageOf, IsIndexAfter, IsIncreasing, IsSorted, begins_up_to, entries_in, entries_of, is_up_to}
 use Rattle.snmp_agent.proofs.Lists.{all_back, around}
-use Rattle.snmp_agent.proofs.Rising.{after_up_to, before_all, before_from, before_up_to, first_of_both, is_behind, not_behind, rising_rest}
-use Rattle.snmp_agent.proofs.Rising.{second_of_both, turned}
+use Rattle.snmp_agent.proofs.SortedEntries.{after_up_to, before_all, before_from, before_up_to, first_of_both, is_after, none_before, rising_rest}
+use Rattle.snmp_agent.proofs.SortedEntries.{second_of_both, turned}
 
 -- ---- rows
 
@@ -20,7 +20,7 @@ before_at o [] h j d low = absurd (omega (arith, low))
 before_at o (row ∷ rows) h zero d low = h.0
 before_at o (row ∷ rows) h (suc j) d low = before_at o rows h.1 j d (omega (arith, low))
 
-pub partitioned : (o : List ℕ) (rows : List VarBind) → IsRising rows → IsPartitionedBy (is_up_to o) rows
+pub partitioned : (o : List ℕ) (rows : List VarBind) → IsIncreasing rows → IsPartitionedBy (is_up_to o) rows
 partitioned o [] rising i j d order low h = absurd (omega (arith, low))
 partitioned o (row ∷ rows) rising zero zero d order low h = h
 partitioned o (row ∷ rows) rising zero (suc j) d order low h =
@@ -30,28 +30,28 @@ partitioned o (row ∷ rows) rising (suc i) zero d order low h = absurd (omega (
 partitioned o (row ∷ rows) rising (suc i) (suc j) d order low h = partitioned o rows (second_of_both _ _ rising) i j d (omega (arith, order)) (omega
     (arith, low)) h
 
-passed_front : (o : List ℕ) (rows : List VarBind) (place : ℕ) → AllWithin (λ row. is_up_to o row ≡ true) rows 0 place
-    → IsBeforeNone o (entries_of (take place rows))
-passed_front o [] zero h = tt
-passed_front o [] (suc place) h = tt
-passed_front o (row ∷ rows) zero h = tt
-passed_front o (row ∷ rows) (suc place) h = (
-  not_behind o row.name (h 0 row (omega arith) (omega arith)),
-  passed_front o rows place (λ k d from below. h (suc k) d (omega arith) (omega (arith, below))),
+passed_prefix : (o : List ℕ) (rows : List VarBind) (index : ℕ) → AllWithin (λ row. is_up_to o row ≡ true) rows 0 index
+    → IsBeforeNone o (entries_of (take index rows))
+passed_prefix o [] zero h = tt
+passed_prefix o [] (suc index) h = tt
+passed_prefix o (row ∷ rows) zero h = tt
+passed_prefix o (row ∷ rows) (suc index) h = (
+  none_before o row.name (h 0 row (omega arith) (omega arith)),
+  passed_prefix o rows index (λ k d from below. h (suc k) d (omega arith) (omega (arith, below))),
 )
 
-ahead_back : (o : List ℕ) (rows : List VarBind) (place : ℕ) → AllWithin (λ row. is_up_to o row ≡ false) rows place (length rows)
-    → IsBeforeAll o (entries_of (drop place rows))
+ahead_back : (o : List ℕ) (rows : List VarBind) (index : ℕ) → AllWithin (λ row. is_up_to o row ≡ false) rows index (length rows)
+    → IsBeforeAll o (entries_of (drop index rows))
 ahead_back o [] zero h = tt
-ahead_back o [] (suc place) h = tt
+ahead_back o [] (suc index) h = tt
 ahead_back o (row ∷ rows) zero h = (
-  is_behind o row.name (h 0 row (omega arith) (omega arith)),
+  is_after o row.name (h 0 row (omega arith) (omega arith)),
   ahead_back o rows zero (λ k d from below. h (suc k) d (omega arith) (omega (arith, below))),
 )
-ahead_back o (row ∷ rows) (suc place) h = ahead_back o rows place (λ k d from below. h (suc k) d (omega (arith, from)) (omega (arith, below)))
+ahead_back o (row ∷ rows) (suc index) h = ahead_back o rows index (λ k d from below. h (suc k) d (omega (arith, from)) (omega (arith, below)))
 
-pub place_found : (o : List ℕ) (rows : List VarBind) (place : ℕ) → IsHalvedTo (is_up_to o) rows place place → IsPlaceAfter o rows place
-place_found o rows place h = record { bound = h.bound; passed = passed_front o rows place h.front; ahead = ahead_back o rows place h.back }
+pub index_found : (o : List ℕ) (rows : List VarBind) (index : ℕ) → IsHalvedTo (is_up_to o) rows index index → IsIndexAfter o rows index
+index_found o rows index h = record { bound = h.bound; passed = passed_prefix o rows index h.prefix; ahead = ahead_back o rows index h.back }
 
 -- ---- the rows of all pages
 
@@ -63,18 +63,18 @@ pages-append [] ys = refl
 pages-append (page ∷ xs) ys = grind (arith, common_steps, pages-append xs ys, append_assoc)
 
 -- the rows before a page, on it and after it
-module _ (pages : List Page) (place : ℕ) where
-  abbrev pub front : List (List ℕ × Datum)
-  front = entries_in (take place pages)
+module _ (pages : List Page) (index : ℕ) where
+  abbrev pub prefix : List (List ℕ × Datum)
+  prefix = entries_in (take index pages)
 
   abbrev pub back : List (List ℕ × Datum)
-  back = entries_in (drop (suc place) pages)
+  back = entries_in (drop (suc index) pages)
 
-  pub parts : (page : Page) → slice_get pages place ≡ Some page → entries_in pages ≡ front ++ (entries_of page.rows.items ++ back)
-  parts page at = ap entries_in (around pages place page at) ∙ pages-append (take place pages) (page ∷ drop (suc place) pages)
+  pub parts : (page : Page) → slice_get pages index ≡ Some page → entries_in pages ≡ prefix ++ (entries_of page.rows.items ++ back)
+  parts page at = ap entries_in (around pages index page at) ∙ pages-append (take index pages) (page ∷ drop (suc index) pages)
 
-  pub set-parts : (page : Page) → place < length pages → entries_in (slice_set pages place page) ≡ front ++ (entries_of page.rows.items ++ back)
-  set-parts page low = ap entries_in (set_split pages place page low) ∙ pages-append (take place pages) (page ∷ drop (suc place) pages)
+  pub set-parts : (page : Page) → index < length pages → entries_in (slice_set pages index page) ≡ prefix ++ (entries_of page.rows.items ++ back)
+  set-parts page low = ap entries_in (set_split pages index page low) ∙ pages-append (take index pages) (page ∷ drop (suc index) pages)
 
 -- ---- pages
 
@@ -87,7 +87,7 @@ pages_passed : (o : List ℕ) (pages : List Page) → ArePages pages → (n : �
     → begins_up_to o (slice_index_or pages n d).rows.items ≡ true → IsAfterAll o (entries_in (take n pages))
 pages_passed o pages rising n d low begins =
     let page : Page = slice_index_or pages n d in
-    rows_passed o (front pages n) page.rows.items (back pages n) page.some
+    rows_passed o (prefix pages n) page.rows.items (back pages n) page.some
     (subst IsSorted (parts pages n page (slice_get-get_or pages n d low)) rising) begins
 
 begins_passed : (o : List ℕ) (rows : List VarBind) (more : List (List ℕ × Datum)) → IsAfterAll o (entries_of rows ++ more) → begins_up_to o rows ≡ true
@@ -135,6 +135,6 @@ page_before o (page ∷ pages) (suc n) rising h =
     subst (IsPageOf o (page ∷ pages)) one_less record {
       bound = omega (arith, low);
       within = λ _. low;
-      passed = pages_passed o (page ∷ pages) rising n page low (h.front n page (omega arith) (omega arith));
+      passed = pages_passed o (page ∷ pages) rising n page low (h.prefix n page (omega arith) (omega arith));
       ahead = pages_ahead o (page ∷ pages) (suc n) rising h.back;
     }

@@ -7,15 +7,15 @@ use Rattle.std.proofs.Common.{◌≡◌, ℕ, ℤ, pos, Bool, true, false, not, 
 use Rattle.std.proofs.Common.{sym, ap, ◌∙◌, ◌↔◌, ⊎_elim, arith, Option, IsSome, IfSome}
 use Rattle.snmp_wire.specs.{declared.kind.Kind.Kind, Message.VarBind, Message.Message, Laws.HasPieces, Sizes.MessageSizes}
 use Rattle.snmp_wire.specs.declared.kind.Kind.TheVariants as kind
-use Rattle.snmp_wire.specs.Canon.{canon, canon_bindings, canon_fields, canon_front, canon_head, canon_opening}
+use Rattle.snmp_wire.specs.Canon.{canon, canon_bindings, canon_fields, canon_prefix, canon_head, canon_opening}
 use Rattle.snmp_agent.specs.table.Table.{MibView, IsGet, IsNext}
-use Rattle.snmp_agent.specs.Reply.{IsServed, AreAnswers, IsWhole, got, got_next, unwritten, response, not_writable, failed_place}
+use Rattle.snmp_agent.specs.Reply.{IsServed, AreAnswers, IsWhole, got, got_next, unwritten, response, not_writable, failed_index}
 use Rattle.snmp_agent.specs.private.Answering.{IsWritten, answer_to, answers_to, whole_size, whole_status, whole_index}
-use Rattle.snmp_agent.proofs.{Each.is_got, Following.IsOrder, Standing.given_there}
+use Rattle.snmp_agent.proofs.{Each.is_got, NextEntries.IsOrder, Cursors.returned_there}
 
 -- the head of a message doesn't depend on its bindings
 same_head : (m : Message) (total : ℕ) → canon_head (record m { bindings = [] }) total ≡ canon_head m total
-unfolding canon_head canon_front canon_opening canon_fields
+unfolding canon_head canon_prefix canon_opening canon_fields
 same_head m total = refl
 
 -- `f` computes an answer to each binding
@@ -32,12 +32,12 @@ own view (p ∷ asked) = ap (λ ps. p ∷ ps) (own view asked)
 by_kind : IsOrder → (view : MibView) (q : Message) (k : Kind) → q.kind ≡ k → IsServed k → (k ≡ kind.GetBulkRequest → ⊥)
     → IsWhole view q (response q (whole_status k) (whole_index k q.bindings) (answers_to view k q.bindings))
 by_kind order view q kind.GetRequest e h other =
-    got (answers_to view kind.GetRequest q.bindings) e (each (λ asked given. IsGet view asked.name given) (answer_to view kind.GetRequest)
+    got (answers_to view kind.GetRequest q.bindings) e (each (λ asked returned. IsGet view asked.name returned) (answer_to view kind.GetRequest)
     (λ (asked : VarBind). is_got view asked.name) q.bindings) refl
 by_kind order view q kind.GetNextRequest e h other =
-    got_next (answers_to view kind.GetNextRequest q.bindings) e (each (λ asked given. IsNext view asked.name given) (answer_to view kind.GetNextRequest)
-    (λ (asked : VarBind). given_there order view 0 asked.name) q.bindings) refl
-by_kind order view q kind.SetRequest e h other = unwritten e (ap (λ bs. response q not_writable (failed_place q.bindings) bs) (own view q.bindings))
+    got_next (answers_to view kind.GetNextRequest q.bindings) e (each (λ asked returned. IsNext view asked.name returned) (answer_to view kind.GetNextRequest)
+    (λ (asked : VarBind). returned_there order view 0 asked.name) q.bindings) refl
+by_kind order view q kind.SetRequest e h other = unwritten e (ap (λ bs. response q not_writable (failed_index q.bindings) bs) (own view q.bindings))
 by_kind order view q kind.GetBulkRequest e h other = absurd (other refl)
 by_kind order view q _ e h other = absurd h
 
@@ -48,12 +48,12 @@ whole_response order view q h other = by_kind order view q q.kind refl h other
 
 -- ---- sizes
 
--- the length of a Response
-pub response_size : MessageSizes → (q : Message) (status index : ℤ) (given : List VarBind)
-    → whole_size (response q status index []) (length (canon_bindings given)) ≡ length (canon (response q status index given))
-response_size sizes q status index given =
-    ap (λ head. length head + length (canon_bindings given)) (same_head (response q status index given) (length (canon_bindings given)))
-    ∙ sym (sizes.whole (response q status index given))
+-- the computed length of a Response is the length of its encoding
+pub response_size : MessageSizes → (q : Message) (status index : ℤ) (returned : List VarBind)
+    → whole_size (response q status index []) (length (canon_bindings returned)) ≡ length (canon (response q status index returned))
+response_size sizes q status index returned =
+    ap (λ head. length head + length (canon_bindings returned)) (same_head (response q status index returned) (length (canon_bindings returned)))
+    ∙ sym (sizes.whole (response q status index returned))
 
 -- a message of parts `m` whose bindings are the first octets of the output, written to `part`, the
 -- part of the output that a message may take

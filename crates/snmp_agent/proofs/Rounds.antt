@@ -5,9 +5,9 @@ use Rattle.std.proofs.Common.{sym, ap, subst, ◌∙◌, arith}
 use Rattle.std.specs.List.{list_all}
 use Rattle.snmp_wire.specs.Message.{VarBind, Message}
 use Rattle.snmp_agent.specs.{table.Table.MibView, table.Table.IsMibView, Reply.AreEnds, Reply.AreRounds, Reply.IsBulk, Reply.joined, Reply.or_zero}
-use Rattle.snmp_agent.specs.{private.Standing.given_in, private.Standing.is_over, private.Standing.places_of}
-use Rattle.snmp_agent.specs.private.Answering.{AreGiven, Held, bulk_of, fill, rounds_from}
-use Rattle.snmp_agent.proofs.{Following.IsOrder, Fronts.fill_both, Fronts.fill_full, Standing.all_end, Standing.are_given}
+use Rattle.snmp_agent.specs.{private.Cursor.bindings_in_round, private.Cursor.is_over, private.Cursor.cursors_of}
+use Rattle.snmp_agent.specs.private.Answering.{AreInRound, Held, bulk_of, fill, rounds_from}
+use Rattle.snmp_agent.proofs.{NextEntries.IsOrder, ReplyBindings.fill_both, ReplyBindings.fill_full, Cursors.all_end, Cursors.are_returned}
 
 not_empty : (before later : List (List VarBind)) (round : List VarBind) → [] ≡ before ++ round ∷ later → ⊥
 not_empty [] later round e = cc
@@ -29,54 +29,56 @@ module _ (view : MibView) (names : List VarBind) (repetitions : ℕ) (old : Held
     pub rounds_done : round + 0 ≡ repetitions → now ≡ fill old (joined (rounds_from view names 0 repetitions))
     rounds_done e = sym (are_left 0 e)
 
-    module _ (added : new ≡ fill now (given_in view round names)) where
-      pub rounds_next : list_all is_over (places_of view round names) ≡ false → AreLeft view names repetitions old (round + 1) new
+    module _ (added : new ≡ fill now (bindings_in_round view round names)) where
+      pub rounds_next : list_all is_over (cursors_of view round names) ≡ false → AreLeft view names repetitions old (round + 1) new
       rounds_next goes left e =
           let rest = rounds_from view names (round + 1) left in
           are_left (suc left) (omega (arith, e))
-          ∙ ap (λ over. fill now (given_in view round names ++ joined (cond over [] rest))) goes ∙ fill_both now (given_in view round names) (joined rest)
+          ∙ ap (λ over. fill now (bindings_in_round view round names ++ joined (cond over [] rest))) goes
+          ∙ fill_both now (bindings_in_round view round names) (joined rest)
           ∙ ap (λ (h : Held). fill h (joined rest)) (sym added)
 
       -- no room is left for other rounds, or none follows
-      pub rounds_over : round < repetitions → (new.left ≡ 0) ⊎ (list_all is_over (places_of view round names) ≡ true)
+      pub rounds_over : round < repetitions → (new.left ≡ 0) ⊎ (list_all is_over (cursors_of view round names) ≡ true)
           → new ≡ fill old (joined (rounds_from view names 0 repetitions))
       rounds_over below (inl full) =
           let left = repetitions - (round + 1) in
-          let rest = joined (cond (list_all is_over (places_of view round names)) [] (rounds_from view names (round + 1) left)) in
-          sym (are_left (suc left) (omega (arith, below)) ∙ fill_both now (given_in view round names) rest ∙ ap (λ (h : Held). fill h rest) (sym added)
+          let rest = joined (cond (list_all is_over (cursors_of view round names)) [] (rounds_from view names (round + 1) left)) in
+          sym (are_left (suc left) (omega (arith, below)) ∙ fill_both now (bindings_in_round view round names) rest ∙ ap (λ (h : Held). fill h rest) (sym added)
           ∙ fill_full new rest full)
       rounds_over below (inr over) =
           let left = repetitions - (round + 1) in
           sym (are_left (suc left) (omega (arith, below))
-          ∙ ap (λ over. fill now (given_in view round names ++ joined (cond over [] (rounds_from view names (round + 1) left)))) over
-          ∙ ap (fill now) (append-nil (given_in view round names)) ∙ sym added)
+          ∙ ap (λ over. fill now (bindings_in_round view round names ++ joined (cond over [] (rounds_from view names (round + 1) left)))) over
+          ∙ ap (fill now) (append-nil (bindings_in_round view round names)) ∙ sym added)
 
 -- ---- the rounds are those of the standard
 
 module _ (order : IsOrder) (view : MibView) (mib : IsMibView view) (names : List VarBind) where
   -- the round at an index has what the names are given, and no round follows one that is
   -- endOfMibView throughout
-  at_place : (i left : ℕ) (before later : List (List VarBind)) (round : List VarBind) → rounds_from view names i left ≡ before ++ round ∷ later
-      → AreGiven view (i + length before) names round × (AreEnds round → later ≡ [])
-  at_place i zero before later round e = absurd (not_empty before later round e)
-  at_place i (suc left) [] later round e =
-      let same : given_in view i names ≡ round = cc in
-      let rest : cond (list_all is_over (places_of view i names)) [] (rounds_from view names (i + 1) left) ≡ later = cc in
-      let place : i ≡ i + length {A = List VarBind} [] = omega arith in (
-        subst (λ (k : ℕ). AreGiven view k names round) place (subst (λ (ps : List VarBind). AreGiven view i names ps) same (are_given order view i names)),
+  at_index : (i left : ℕ) (before later : List (List VarBind)) (round : List VarBind) → rounds_from view names i left ≡ before ++ round ∷ later
+      → AreInRound view (i + length before) names round × (AreEnds round → later ≡ [])
+  at_index i zero before later round e = absurd (not_empty before later round e)
+  at_index i (suc left) [] later round e =
+      let same : bindings_in_round view i names ≡ round = cc in
+      let rest : cond (list_all is_over (cursors_of view i names)) [] (rounds_from view names (i + 1) left) ≡ later = cc in
+      let cursor : i ≡ i + length {A = List VarBind} [] = omega arith in (
+        subst (λ (k : ℕ). AreInRound view k names round) cursor (subst (λ (ps : List VarBind). AreInRound view i names ps) same
+            (are_returned order view i names)),
         λ ends.
             sym rest ∙ ap (λ over. cond over [] (rounds_from view names (i + 1) left))
             ((all_end view mib i names).1 (subst (λ (ps : List VarBind). AreEnds ps) (sym same) ends)),
       )
-  at_place i (suc left) (b ∷ before) later round e =
-      let rest : cond (list_all is_over (places_of view i names)) [] (rounds_from view names (i + 1) left) ≡ before ++ round ∷ later = cc in
-      elim (list_all is_over (places_of view i names)) as (λ over. cond over [] (rounds_from view names (i + 1) left) ≡ before ++ round ∷ later
-      → AreGiven view (i + length (b ∷ before)) names round × (AreEnds round → later ≡ [])) [
+  at_index i (suc left) (b ∷ before) later round e =
+      let rest : cond (list_all is_over (cursors_of view i names)) [] (rounds_from view names (i + 1) left) ≡ before ++ round ∷ later = cc in
+      elim (list_all is_over (cursors_of view i names)) as (λ over. cond over [] (rounds_from view names (i + 1) left) ≡ before ++ round ∷ later
+      → AreInRound view (i + length (b ∷ before)) names round × (AreEnds round → later ≡ [])) [
         | true ↦ λ none. absurd (not_empty before later round none)
         | false ↦ λ goes.
-            let there = at_place (i + 1) left before later round goes in
-            let place : (i + 1) + length before ≡ i + length (b ∷ before) = omega arith in
-            (subst (λ (k : ℕ). AreGiven view k names round) place there.0, there.1)
+            let there = at_index (i + 1) left before later round goes in
+            let cursor : (i + 1) + length before ≡ i + length (b ∷ before) = omega arith in
+            (subst (λ (k : ℕ). AreInRound view k names round) cursor there.0, there.1)
       ] rest
 
   -- if there are fewer rounds than repetitions, the last one is endOfMibView throughout
@@ -85,17 +87,17 @@ module _ (order : IsOrder) (view : MibView) (mib : IsMibView view) (names : List
       → (before : List (List VarBind)) × (round : List VarBind) × (rounds_from view names i left ≡ before ++ round ∷ []) × AreEnds round)
   early i zero = (omega arith, λ short. absurd (omega (arith, short)))
   early i (suc left) =
-      let given = given_in view i names in
-      elim (list_all is_over (places_of view i names)) as (λ over. list_all is_over (places_of view i names) ≡ over
-      → (length (given ∷ cond over [] (rounds_from view names (i + 1) left)) ≤ suc left)
-      × (length (given ∷ cond over [] (rounds_from view names (i + 1) left)) < suc left
-      → (before : List (List VarBind)) × (round : List VarBind) × (given ∷ cond over [] (rounds_from view names (i + 1) left) ≡ before ++ round ∷ [])
+      let returned = bindings_in_round view i names in
+      elim (list_all is_over (cursors_of view i names)) as (λ over. list_all is_over (cursors_of view i names) ≡ over
+      → (length (returned ∷ cond over [] (rounds_from view names (i + 1) left)) ≤ suc left)
+      × (length (returned ∷ cond over [] (rounds_from view names (i + 1) left)) < suc left
+      → (before : List (List VarBind)) × (round : List VarBind) × (returned ∷ cond over [] (rounds_from view names (i + 1) left) ≡ before ++ round ∷ [])
       × AreEnds round)) [
-        | true ↦ λ over. (omega arith, λ short. ([], given, refl, (all_end view mib i names).0 over))
+        | true ↦ λ over. (omega arith, λ short. ([], returned, refl, (all_end view mib i names).0 over))
         | false ↦ λ goes.
             let rest = early (i + 1) left in (
               omega (arith, rest.0),
-              λ short. let last = rest.1 (omega (arith, short)) in (given ∷ last.0, last.1, ap (λ rs. given ∷ rs) last.2, last.3),
+              λ short. let last = rest.1 (omega (arith, short)) in (returned ∷ last.0, last.1, ap (λ rs. returned ∷ rs) last.2, last.3),
             )
       ] refl
 
@@ -103,18 +105,18 @@ module _ (order : IsOrder) (view : MibView) (mib : IsMibView view) (names : List
   are_rounds repetitions = record {
     few = (early 0 repetitions).0;
     successors = λ before later round e.
-        let place : 0 + length before ≡ length before = omega arith in
-        subst (λ (k : ℕ). AreGiven view k names round) place (at_place 0 repetitions before later round e).0;
-    last = λ before later round e. (at_place 0 repetitions before later round e).1;
+        let cursor : 0 + length before ≡ length before = omega arith in
+        subst (λ (k : ℕ). AreInRound view k names round) cursor (at_index 0 repetitions before later round e).0;
+    last = λ before later round e. (at_index 0 repetitions before later round e).1;
     closed = (early 0 repetitions).1;
   }
 
 -- the bindings that are computed for a GetBulk are those that it asks for
 pub is_bulk : IsOrder → (view : MibView) → IsMibView view → (q : Message) → IsBulk view q (bulk_of view q)
 is_bulk order view mib q = record {
-  singles = given_in view 0 (take (or_zero q.a) q.bindings);
+  singles = bindings_in_round view 0 (take (or_zero q.a) q.bindings);
   rounds = rounds_from view (drop (or_zero q.a) q.bindings) 0 (or_zero q.b);
   parts = refl;
-  are_singles = are_given order view 0 (take (or_zero q.a) q.bindings);
+  are_singles = are_returned order view 0 (take (or_zero q.a) q.bindings);
   are_rounds = are_rounds order view mib (drop (or_zero q.a) q.bindings) (or_zero q.b);
 }

@@ -5,7 +5,7 @@ use Rattle.std.specs.Cmp.Lexicographic.{nat_list_cmp_total}
 use Rattle.std.specs.FinMap.{FinMap, get, insert, remove, get-insert, get-remove, same_map, nat_cmp-IsAntisymmetric, slice_cmp-IsAntisymmetric}
 use Rattle.snmp_wire.specs.Message.{Datum, VarBind}
 use Rattle.snmp_agent.specs.table.Table.{IsGet, IsRow, MibView, variable, unknown_instance, unknown_object, with_row, without_row}
-use Rattle.snmp_agent.proofs.Changing.{tied}
+use Rattle.snmp_agent.proofs.ChangedEntries.{tied}
 
 abbrev cmp : List ℕ → List ℕ → Ordering
 cmp = slice_cmp nat_cmp
@@ -59,7 +59,7 @@ still_got view o q p other =
     get-remove nat_list_cmp_total view.rows o q ∙ ap (λ b. cond b None (get view.rows q)) (other_name o q other) in
     (same_get (without_row view o) view.rows q p same, same_get view (remove view.rows o) q p (sym same))
 
--- ---- two changes
+-- ---- two changes of a table, one after the other
 
 same_view : (view : MibView) (m n : Rows) → ((q : List ℕ) → get m q ≡ get n q)
     → ◌≡◌ {A = MibView} (record { rows = m; objects = view.objects }) (record { rows = n; objects = view.objects })

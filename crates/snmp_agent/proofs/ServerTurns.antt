@@ -3,12 +3,12 @@ use Rattle.std.proofs.{lemmas.Grind.common_steps, lemmas.List.flat_map_more, lem
 use Rattle.std.proofs.Common.{◌≡◌, ℕ, ◌+◌, List, [], ◌∷◌, ◌++◌, ap, ◌∙◌, subst, arith}
 use Rattle.std.specs.Prelude.{cond, count_by}
 use Rattle.std.proofs.lemmas.List.Elements.{All-nil, All-push}
-use Rattle.snmp_io.specs.Count.{HasRisenBy}
+use Rattle.snmp_io.specs.Count.{HasIncreasedBy}
 use Rattle.snmp_agent.specs.{declared.server.Served.Served, declared.server.Turn.Turn, Reply.Agent, Event.Event, Event.InTurn}
 use Rattle.snmp_agent.specs.declared.server.Turn.TheVariants as turn
 use Rattle.snmp_agent.specs.Serving.{AreTurns, IsTurn, TurnDone, same_turn, tally}
 
--- some steps, and then others
+-- if steps lead from `old` to `between`, and others from there to `new`, then all of them in turn lead from `old` to `new`
 pub in_turn-append : {L X : Type 0} (step : L → X → L → Type 0) (xs ys : List X) (old between new : L) → InTurn step old xs between
     → InTurn step between ys new → InTurn step old (xs ++ ys) new
 in_turn-append step [] ys old between new h k = subst (λ l. InTurn step l ys new) h k
@@ -42,11 +42,11 @@ module _ {Peer : Type 0} where
   one_more_counts : (done : List (TurnDone Peer)) (d : TurnDone Peer) → one_more d.turn (tally done) ≡ tally (done ++ d ∷ [])
   one_more_counts done d = grind (arith, common_steps, one_more_of, count_push)
 
-  -- before the first turn
+  -- if nothing was counted, then the counts are those of no turns
   pub no_turns : (agent : Agent) (s : Served) → s ≡ record { replies = 0; dropped = 0; idle = 0; faults = 0 } → AreTurns {Peer = Peer} agent 0 s []
   no_turns agent s none = grind (arith, common_steps, All-nil)
 
-  -- after one more turn
+  -- if one more turn is counted after n turns, then the counts are those of n + 1 turns
   pub more_turns : (agent : Agent) (n : ℕ) (s more : Served) (events : List (Event Peer)) (t : Turn) (now : List (Event Peer)) → more ≡ one_more t s
       → AreTurns agent n s events → IsTurn agent t now → AreTurns agent (n + 1) more (events ++ now)
   more_turns agent n s more events t now counted so_far is =
@@ -64,13 +64,13 @@ one_more_turn t s = grind (arith, common_steps)
 
 -- ---- the fault count of the endpoint
 
-risen_more : (n m a b c : ℕ) → HasRisenBy n a b → HasRisenBy m b c → HasRisenBy (n + m) a c
+risen_more : (n m a b c : ℕ) → HasIncreasedBy n a b → HasIncreasedBy m b c → HasIncreasedBy (n + m) a c
 risen_more n m a b c h k = grind (arith, common_steps)
 
 faults_with : (t : Turn) (s : Served) → s.faults + cond (same_turn turn.Failed t) 1 0 ≡ (one_more t s).faults
 faults_with t s = grind (arith, common_steps)
 
--- the fault count after one more turn
-pub risen_in_turn : (t : Turn) (s more : Served) (a b c : ℕ) → more ≡ one_more t s → HasRisenBy s.faults a b
-    → HasRisenBy (cond (same_turn turn.Failed t) 1 0) b c → HasRisenBy more.faults a c
+-- if the faults counted are those by which the count increased, then so they are after one more turn, which counts as a fault if it failed
+pub risen_in_turn : (t : Turn) (s more : Served) (a b c : ℕ) → more ≡ one_more t s → HasIncreasedBy s.faults a b
+    → HasIncreasedBy (cond (same_turn turn.Failed t) 1 0) b c → HasIncreasedBy more.faults a c
 risen_in_turn t s more a b c is h k = grind (arith, common_steps, faults_with, risen_more)

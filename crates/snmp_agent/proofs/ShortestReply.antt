@@ -6,13 +6,13 @@ use Rattle.std.proofs.Common.{length-append, append_assoc}
 use Rattle.std.specs.{List.AllByRecursion, Int.w32}
 use mir.Val.{SFits}
 use Rattle.snmp_wire.specs.Canon.{canon, canon_binding, canon_bindings, canon_content, canon_head, canon_opening, canon_value}
-use Rattle.snmp_wire.specs.{Laws.OneShortestEncoding, Laws.SpeltIsOfType, Shortest.IsShortestEncoding, Sizes.MessageSizes, ber.Sizes.ElementSizes}
+use Rattle.snmp_wire.specs.{Laws.OneShortestEncoding, Laws.EncodingIsOfType, Shortest.IsShortestEncoding, Sizes.MessageSizes, ber.Sizes.ElementSizes}
 use Rattle.snmp_wire.specs.Message.{Datum, VarBind, Message, integer_value, object_id, octet_string}
 use Rattle.snmp_wire.specs.Range.{IsBindingInRange, IsBindingOfType, IsInRange, IsMessageInRange, IsMessageOfType, IsOfType}
 use Rattle.snmp_agent.specs.table.Table.{MibView, IsMibView, IsRow, IsGet, IsNext, IsNextAfter}
-use Rattle.snmp_agent.specs.Reply.{Agent, AreAnswers, AreRounds, IsBulk, IsReply, IsResponse, IsWhole, bulk, failed_place, got, got_next, joined}
+use Rattle.snmp_agent.specs.Reply.{Agent, AreAnswers, AreRounds, IsBulk, IsReply, IsResponse, IsWhole, bulk, failed_index, got, got_next, joined}
 use Rattle.snmp_agent.specs.Reply.{no_error, not_writable, or_zero, response, shortened, too_big, unwritten, whole}
-use Rattle.snmp_agent.proofs.{Lists.all_back, Lists.all_both, Lists.all_front, Keeping.name_in_range, Keeping.value_in_range}
+use Rattle.snmp_agent.proofs.{Lists.all_back, Lists.all_both, Lists.all_prefix, ValidRows.name_in_range, ValidRows.value_in_range}
 use Rattle.snmp_agent.proofs.Encodings.{longer_binding, longer_value}
 
 -- ---- bindings of a request: those that a Response has room for are in range
@@ -44,11 +44,11 @@ module _ (sizes : ElementSizes) where
 -- ---- answers
 
 answers_in_range : (IsAnswer : VarBind → VarBind → Type 0)
-    → ((asked given : VarBind) → IsInRange (object_id asked.name) → IsAnswer asked given → IsBindingInRange given)
-    → (names given : List VarBind) → AllByRecursion IsBindingOfType names → AreAnswers IsAnswer names given
-    → AllByRecursion IsBindingInRange given
+    → ((asked returned : VarBind) → IsInRange (object_id asked.name) → IsAnswer asked returned → IsBindingInRange returned)
+    → (names returned : List VarBind) → AllByRecursion IsBindingOfType names → AreAnswers IsAnswer names returned
+    → AllByRecursion IsBindingInRange returned
 answers_in_range IsAnswer one [] [] h answers = tt
-answers_in_range IsAnswer one (asked ∷ more) (given ∷ rest) h answers =
+answers_in_range IsAnswer one (asked ∷ more) (returned ∷ rest) h answers =
     grind (arith, common_steps, answers_in_range IsAnswer one more rest h.1 answers.1)
 answers_in_range IsAnswer one _ _ h answers = absurd answers
 
@@ -72,8 +72,8 @@ module _ (view : MibView) (is_view : IsMibView view) where
   rounds_in_range repetitions names rounds h are before [] e = tt
   rounds_in_range repetitions names rounds h are before (round ∷ later) e =
       all_both IsBindingInRange round (joined later)
-      (answers_in_range (λ asked given. IsNextAfter view (length before) asked.name given)
-      (λ asked given. next_after_in_range (length before) asked.name given) names round h (are.successors before later round e))
+      (answers_in_range (λ asked returned. IsNextAfter view (length before) asked.name returned)
+      (λ asked returned. next_after_in_range (length before) asked.name returned) names round h (are.successors before later round e))
       (rounds_in_range repetitions names rounds h are (before ++ round ∷ []) later (e ∙ sym (append_assoc before (round ∷ []) later)))
 
   bulk_in_range : (q : Message) (all : List VarBind) → AllByRecursion IsBindingOfType q.bindings → IsBulk view q all
@@ -83,8 +83,8 @@ module _ (view : MibView) (is_view : IsMibView view) where
       let others = drop (or_zero q.a) q.bindings in
       let parts : AllByRecursion IsBindingOfType (first ++ others) = rw (take-append-drop (or_zero q.a) q.bindings) h in
       subst (AllByRecursion IsBindingInRange) (sym is.parts) (all_both IsBindingInRange is.singles (joined is.rounds)
-      (answers_in_range (λ asked given. IsNext view asked.name given) (λ asked given. next_in_range asked.name given)
-      first is.singles (all_front IsBindingOfType first others parts) is.are_singles)
+      (answers_in_range (λ asked returned. IsNext view asked.name returned) (λ asked returned. next_in_range asked.name returned)
+      first is.singles (all_prefix IsBindingOfType first others parts) is.are_singles)
       (rounds_in_range (or_zero q.b) others is.rounds (all_back IsBindingOfType first others parts) is.are_rounds [] is.rounds refl))
 
 -- ---- Responses
@@ -92,13 +92,13 @@ module _ (view : MibView) (is_view : IsMibView view) where
 fits_0 : SFits w32 (pos 0)
 fits_0 = record { sfits = omega arith }
 
-place_fits : (bindings : List VarBind) → SFits w32 (failed_place bindings)
-place_fits bindings = grind (arith, common_steps, fits_0)
+index_fits : (bindings : List VarBind) → SFits w32 (failed_index bindings)
+index_fits bindings = grind (arith, common_steps, fits_0)
 
 module _ (sizes : MessageSizes) (elements : ElementSizes) (q : Message) (h : IsMessageOfType q) where
   made : (r : Message) (status index : ℤ) (bindings : List VarBind) → r ≡ response q status index bindings → length (canon r) ≤ 65535
       → SFits w32 status → SFits w32 index → AllByRecursion IsBindingInRange bindings → IsMessageInRange r
-  made r status index bindings e short fits place all =
+  made r status index bindings e short fits position all =
       let s : Message = response q status index bindings in
       let size : length (canon s) ≤ 65535 = subst (λ (m : Message). length (canon m) ≤ 65535) e short in
       let total : ℕ = length (canon_bindings bindings) in
@@ -114,7 +114,7 @@ module _ (sizes : MessageSizes) (elements : ElementSizes) (q : Message) (h : IsM
             size,
             sum,
             sizes.head s total,
-            sizes.front s total,
+            sizes.prefix s total,
             opening,
             longer_value elements (octet_string q.community),
             content_size q.community,
@@ -122,38 +122,38 @@ module _ (sizes : MessageSizes) (elements : ElementSizes) (q : Message) (h : IsM
         );
         id = h.id;
         a = fits;
-        b = place;
+        b = position;
         bindings = all;
         total = omega (arith, size, sum);
       })
 
   module _ (view : MibView) (is_view : IsMibView view) where
     whole_in_range : (r : Message) → IsWhole view q r → length (canon r) ≤ 65535 → IsMessageInRange r
-    whole_in_range r (got given is answers e) short =
-        made r no_error (pos 0) given e short fits_0 fits_0
-        (answers_in_range (λ asked p. IsGet view asked.name p) (λ asked p. get_in_range view is_view asked.name p) q.bindings given h.bindings answers)
-    whole_in_range r (got_next given is answers e) short =
-        made r no_error (pos 0) given e short fits_0 fits_0
-        (answers_in_range (λ asked p. IsNext view asked.name p) (λ asked p. next_in_range view is_view asked.name p) q.bindings given h.bindings answers)
+    whole_in_range r (got returned is answers e) short =
+        made r no_error (pos 0) returned e short fits_0 fits_0
+        (answers_in_range (λ asked p. IsGet view asked.name p) (λ asked p. get_in_range view is_view asked.name p) q.bindings returned h.bindings answers)
+    whole_in_range r (got_next returned is answers e) short =
+        made r no_error (pos 0) returned e short fits_0 fits_0
+        (answers_in_range (λ asked p. IsNext view asked.name p) (λ asked p. next_in_range view is_view asked.name p) q.bindings returned h.bindings answers)
     whole_in_range r (unwritten is e) short =
-        let s : Message = response q not_writable (failed_place q.bindings) q.bindings in
+        let s : Message = response q not_writable (failed_index q.bindings) q.bindings in
         let size : length (canon s) ≤ 65535 = subst (λ (m : Message). length (canon m) ≤ 65535) e short in
         let total : ℕ = length (canon_bindings q.bindings) in
         let sum : length (canon s) ≡ length (canon_head s total) + total = sizes.whole s in
-        made r not_writable (failed_place q.bindings) q.bindings e short (record { sfits = omega arith }) (place_fits q.bindings)
+        made r not_writable (failed_index q.bindings) q.bindings e short (record { sfits = omega arith }) (index_fits q.bindings)
         (bindings_of_request elements q.bindings h.bindings (omega (arith, size, sum)))
 
     response_in_range : (limit : ℕ) (r : Message) → IsResponse view limit q r → length (canon r) ≤ 65535 → IsMessageInRange r
     response_in_range limit r (whole is fits) short = whole_in_range r is short
     response_in_range limit r (shortened large is no_fit e) short =
         made r too_big (pos 0) [] e short (record { sfits = omega arith }) fits_0 tt
-    response_in_range limit r (bulk all bindings is are front e) short =
-        made r no_error (pos 0) bindings e short fits_0 fits_0 (all_front IsBindingInRange bindings front.more
-        (subst (AllByRecursion IsBindingInRange) front.front (bulk_in_range view is_view q all h.bindings are)))
+    response_in_range limit r (bulk all bindings is are prefix e) short =
+        made r no_error (pos 0) bindings e short fits_0 fits_0 (all_prefix IsBindingInRange bindings prefix.more
+        (subst (AllByRecursion IsBindingInRange) prefix.prefix (bulk_in_range view is_view q all h.bindings are)))
 
 -- ---- replies
 
-module _ (sizes : MessageSizes) (elements : ElementSizes) (of_type : SpeltIsOfType) (law : OneShortestEncoding) (agent : Agent)
+module _ (sizes : MessageSizes) (elements : ElementSizes) (of_type : EncodingIsOfType) (law : OneShortestEncoding) (agent : Agent)
     (datagram reply : List ℕ) (is_view : IsMibView agent.view) (small : agent.max_size ≤ 65535) (is : IsReply agent datagram reply) where
   in_range : IsMessageInRange is.response
   in_range =

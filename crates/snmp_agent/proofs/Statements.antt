@@ -13,7 +13,7 @@ use Rattle.snmp_agent.specs.declared.table.value.Tag.TheVariants as tag
 use Rattle.snmp_agent.specs.table.Format.{Format, EndsAtBar, HasNoEnd, bar}
 use Rattle.snmp_agent.specs.table.Text.{IsBlank, IsRowLine, IsValueText}
 use Rattle.snmp_agent.specs.private.table.Line.{statement_of, IsInstanceRead, IsLineFault, IsObjectRead}
-use Rattle.snmp_agent.proofs.{Changing.tied, Cuts.HasNoBar, Cuts.no_cut, Cuts.same_cut, Cuts.same_end}
+use Rattle.snmp_agent.proofs.{ChangedEntries.tied, Cuts.HasNoBar, Cuts.no_cut, Cuts.same_cut, Cuts.same_end}
 
 -- ---- first octets
 
@@ -69,22 +69,23 @@ pub no_row_without_bar : (format : Format) (l name tag text : List ℕ) → HasN
 no_row_without_bar format l name tag text none h = none name (tag ++ bar ∷ text) (first_cut format l name tag text h) h.name_ends
 
 -- the name of a row ends at the bar that ends a name, and the rest follows that bar
-behind_first : (format : Format) (l front behind name tag text : List ℕ) → l ≡ front ++ bar ∷ behind → EndsAtBar format front → IsRowForm format l name tag text
-    → (name ≡ front) × (tag ++ bar ∷ text ≡ behind)
-behind_first format l front behind name tag text e ends h = grind (arith, common_steps, same_end, first_cut)
+cursor_past_first : (format : Format) (l prefix after name tag text : List ℕ) → l ≡ prefix ++ bar ∷ after → EndsAtBar format prefix
+    → IsRowForm format l name tag text
+    → (name ≡ prefix) × (tag ++ bar ∷ text ≡ after)
+cursor_past_first format l prefix after name tag text e ends h = grind (arith, common_steps, same_end, first_cut)
 
-pub no_row_with_one_bar : (format : Format) (l front behind name tag text : List ℕ) → l ≡ front ++ bar ∷ behind → EndsAtBar format front → HasNoBar behind
+pub no_row_with_one_bar : (format : Format) (l prefix after name tag text : List ℕ) → l ≡ prefix ++ bar ∷ after → EndsAtBar format prefix → HasNoBar after
     → IsRowForm format l name tag text → ⊥
-no_row_with_one_bar format l front behind name tag text e ends none_behind h =
-    no_cut behind tag text none_behind (sym (behind_first format l front behind name tag text e ends h).1)
+no_row_with_one_bar format l prefix after name tag text e ends nothing_after h =
+    no_cut after tag text nothing_after (sym (cursor_past_first format l prefix after name tag text e ends h).1)
 
--- the parts of a line with a row, as the code splits it
-pub same_parts : (format : Format) (l front behind middle back name tag text : List ℕ) → l ≡ front ++ bar ∷ behind → EndsAtBar format front
-    → behind ≡ middle ++ bar ∷ back
+-- if the code splits a line with a row at two bars, then the parts are the name, the tag and the text of the row
+pub same_parts : (format : Format) (l prefix after middle back name tag text : List ℕ) → l ≡ prefix ++ bar ∷ after → EndsAtBar format prefix
+    → after ≡ middle ++ bar ∷ back
     → HasNoBar middle → IsRowForm format l name tag text
-    → (name ≡ front) × (tag ≡ middle) × (text ≡ back)
-same_parts format l front behind middle back name tag text e none f none_middle h =
-    let first = behind_first format l front behind name tag text e none h in
+    → (name ≡ prefix) × (tag ≡ middle) × (text ≡ back)
+same_parts format l prefix after middle back name tag text e none f none_middle h =
+    let first = cursor_past_first format l prefix after name tag text e none h in
     let second = same_cut tag text middle back h.tag_ends none_middle (first.1 ∙ f) in
     (first.0, second.0, second.1)
 
@@ -94,9 +95,9 @@ same_rows format l name tag text name2 tag2 text2 h k = same_parts format l name
     (first_cut format l name tag text h) h.name_ends refl h.tag_ends k
 
 -- a line is put together from the parts that the code split it into
-pub row_parts : (l front behind middle back tag : List ℕ) → l ≡ front ++ bar ∷ behind → behind ≡ middle ++ bar ∷ back → middle ≡ tag
-    → l ≡ (front ++ bar ∷ tag) ++ bar ∷ back
-row_parts l front behind middle back tag e f g = grind (arith, common_steps, append_assoc)
+pub row_parts : (l prefix after middle back tag : List ℕ) → l ≡ prefix ++ bar ∷ after → after ≡ middle ++ bar ∷ back → middle ≡ tag
+    → l ≡ (prefix ++ bar ∷ tag) ++ bar ∷ back
+row_parts l prefix after middle back tag e f g = grind (arith, common_steps, append_assoc)
 
 -- ---- what a line contains
 

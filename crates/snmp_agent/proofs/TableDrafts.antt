@@ -11,12 +11,12 @@ use Rattle.std.proofs.lemmas.List.Sorted.{Contains-permutation, IsPermutation-co
 use Rattle.std.proofs.lemmas.List.Sorted.{sum_by-IsPermutation}
 use Rattle.std.proofs.lemmas.List.Sums.{get_or-le-sum_by, sum_by-cons, sum_by_push}
 use Rattle.snmp_wire.specs.Message.{Datum, VarBind}
-use Rattle.snmp_agent.specs.{table.Format.Format, table.Stated.IsDouble, table.Places.IsBeforeAll, table.Places.entry_of, table.Places.var_of}
+use Rattle.snmp_agent.specs.{table.Format.Format, table.Stated.IsDouble, table.Entries.IsBeforeAll, table.Entries.entry_of, table.Entries.var_of}
 use Rattle.snmp_agent.specs.table.Form.{Statement, nothing, object_prefix, instance, States}
 use Rattle.snmp_agent.specs.table.Text.{AreTable, DifferInName, IsGoodLine, a_blank, a_prefix, a_row}
-use Rattle.snmp_agent.specs.private.table.Draft.{AreDistinct, HoldsLines, HoldsTable, has_key}
-use Rattle.snmp_agent.proofs.{Changing.tied, OneStatement.StatesOnly}
-use Rattle.snmp_agent.proofs.Rising.{before_all, find-listed, first_of_both, listed_from_find, same_name, second_of_both}
+use Rattle.snmp_agent.specs.private.table.TableBuilder.{AreDistinct, HoldsLines, HoldsTable, has_key}
+use Rattle.snmp_agent.proofs.{ChangedEntries.tied, OneStatement.StatesOnly}
+use Rattle.snmp_agent.proofs.SortedEntries.{before_all, find-listed, first_of_both, listed_from_find, same_name, second_of_both}
 
 -- ---- entries in any order
 
@@ -30,10 +30,10 @@ contained_counts o v es h =
     let one : has_key o (get_or es h.0 (o, v)) ≡ 1 = ap (has_key o) h.2 ∙ counted_itself o v in
     omega (arith, get_or-le-sum_by (has_key o) es h.0 (o, v) h.1)
 
-none_behind : (o : List ℕ) (es : List (List ℕ × Datum)) → IsBeforeAll o es
+nothing_after : (o : List ℕ) (es : List (List ℕ × Datum)) → IsBeforeAll o es
     → sum_by (has_key o) es ≡ 0
-none_behind o [] h = refl
-none_behind o (e ∷ es) h = grind (arith, common_steps, none_behind o es h.1, sum_by-cons)
+nothing_after o [] h = refl
+nothing_after o (e ∷ es) h = grind (arith, common_steps, nothing_after o es h.1, sum_by-cons)
 
 pub distinct_moved : (es fs : List (List ℕ × Datum)) → IsPermutation es fs → AreDistinct fs
     → AreDistinct es
@@ -52,7 +52,7 @@ distinct_sorted (e ∷ es) rising = λ o.
       | true ↦ λ is.
           let one : has_key o e ≡ 1 = ap (λ b. cond b 1 0) is in
           let ahead : IsBeforeAll o es = rw (tied o e.0 true is refl) (before_all e.0 es (first_of_both _ _ rising)) in
-          let none : sum_by (has_key o) es ≡ 0 = none_behind o es ahead in omega arith
+          let none : sum_by (has_key o) es ≡ 0 = nothing_after o es ahead in omega arith
       | false ↦ λ is. let other : has_key o e ≡ 0 = ap (λ b. cond b 1 0) is in omega arith
     ] refl
 
@@ -107,7 +107,7 @@ holds_no_lines format es os no_entries no_objects = rw (no_entries, no_objects) 
         (λ found. (let no : ⊥ = cc in absurd no), λ h. absurd (omega (arith, h.1.1)));
   }
 
--- after one more line
+-- what entries and object prefixes hold after `line`, if they held the lines `before` until then
 module _ (format : Format) (before : List (List ℕ)) (line : List ℕ)
     (es : List (List ℕ × Datum)) (os : List (List ℕ)) (h : HoldsLines format before es os) where
   -- what the lines then contain is what they contained before, and what this one contains
@@ -138,7 +138,7 @@ module _ (format : Format) (before : List (List ℕ)) (line : List ℕ)
     prefixes = λ o. stated s only (object_prefix o) (h.prefixes o) (prefixes o);
   }
 
-  -- what the line doesn't contain
+  -- if Q never holds, then P holds if and only if P or Q does
   kept : {P Q : Type 0} → (Q → ⊥) → P ↔ (P ⊎ Q)
   kept never = (λ p. inl p, λ either. elim either [ inl p ↦ p | inr q ↦ absurd (never q) ])
 
@@ -206,7 +206,7 @@ pub good_lines : (format : Format) (lines : List (List ℕ)) (es : List (List �
 good_lines format lines es os h distinct =
     record { each = h.each; differ = h.differ distinct }
 
--- the entries in the order of names
+-- entries that lines define, sorted by name, are the entries of the table that the lines define
 pub whole : (format : Format) (lines : List (List ℕ)) (es fs : List (List ℕ × Datum))
     (os : List (List ℕ)) → HoldsLines format lines es os → IsPermutation es fs
     → T (is_sorted (slice_cmp nat_cmp) fs) → HoldsTable format lines fs os

@@ -5,8 +5,8 @@ use Rattle.snmp_wire.specs.{declared.kind.Kind.Kind, Spelling.Spells, Canon.cano
 use Rattle.snmp_wire.specs.declared.kind.Kind.TheVariants as kind
 use Rattle.snmp_wire.specs.Message.{VarBind, Message, end_of_mib_view}
 use Rattle.snmp_agent.specs.table.Table.{MibView, IsGet, IsNext, IsNextAfter}
-use Rattle.snmp_agent.specs.{declared.config.Config.Config, declared.config.Why.Why}
-use Rattle.snmp_agent.specs.declared.config.Why.TheVariants as why
+use Rattle.snmp_agent.specs.{declared.config.Config.Config, declared.config.DropReason.DropReason}
+use Rattle.snmp_agent.specs.declared.config.DropReason.TheVariants as why
 
 -- an agent: what it serves, its community, and the greatest length of its messages in octets
 pub record Agent : Type 0 where
@@ -58,7 +58,7 @@ response q status index bindings = record {
 -- the second list has an answer to each binding of the first, in the same order
 abbrev pub AreAnswers : (VarBind → VarBind → Type 0) → List VarBind → List VarBind → Type 0
 AreAnswers IsAnswer [] [] = Unit {0}
-AreAnswers IsAnswer (asked ∷ more) (given ∷ rest) = IsAnswer asked given
+AreAnswers IsAnswer (asked ∷ more) (returned ∷ rest) = IsAnswer asked returned
     × AreAnswers IsAnswer more rest
 AreAnswers IsAnswer _ _ = ⊥
 
@@ -73,9 +73,9 @@ abbrev pub not_writable : ℤ
 not_writable = pos 17
 
 -- the error-index of the Response to a Set: 1, its first binding, or 0 if it has none
-abbrev pub failed_place : List VarBind → ℤ
-failed_place [] = pos 0
-failed_place (_ ∷ _) = pos 1
+abbrev pub failed_index : List VarBind → ℤ
+failed_index [] = pos 0
+failed_index (_ ∷ _) = pos 1
 
 -- `r` is the whole Response to the request `q`, whatever its length. It has one binding for each
 -- binding of the request: for a Get the results of a Get (4.2.1), for a GetNext the successors
@@ -83,13 +83,13 @@ failed_place (_ ∷ _) = pos 1
 -- (4.2.5).
 pub data IsWhole (view : MibView) (q r : Message) : Type 0 where
   got : (bindings : List VarBind) → q.kind ≡ kind.GetRequest
-      → AreAnswers (λ asked given. IsGet view asked.name given) q.bindings bindings
+      → AreAnswers (λ asked returned. IsGet view asked.name returned) q.bindings bindings
       → r ≡ response q no_error (pos 0) bindings → IsWhole view q r
   got_next : (bindings : List VarBind) → q.kind ≡ kind.GetNextRequest
-      → AreAnswers (λ asked given. IsNext view asked.name given) q.bindings bindings
+      → AreAnswers (λ asked returned. IsNext view asked.name returned) q.bindings bindings
       → r ≡ response q no_error (pos 0) bindings → IsWhole view q r
   unwritten : q.kind ≡ kind.SetRequest
-      → r ≡ response q not_writable (failed_place q.bindings) q.bindings → IsWhole view q r
+      → r ≡ response q not_writable (failed_index q.bindings) q.bindings → IsWhole view q r
 
 -- the shortest encoding of the message has at most `max_size` octets
 abbrev pub Fits : ℕ → Message → Type 0
@@ -121,7 +121,8 @@ pub record AreRounds (view : MibView) (repetitions : ℕ) (names : List VarBind)
   pub few : length rounds ≤ repetitions
   pub successors : (before later : List (List VarBind)) (round : List VarBind)
       → rounds ≡ before ++ round ∷ later
-      → AreAnswers (λ asked given. IsNextAfter view (length before) asked.name given) names round
+      → AreAnswers (λ asked returned. IsNextAfter view
+      (length before) asked.name returned) names round
   pub last : (before later : List (List VarBind)) (round : List VarBind)
       → rounds ≡ before ++ round ∷ later → AreEnds round → later ≡ []
   pub closed : length rounds < repetitions
@@ -135,15 +136,15 @@ pub record IsBulk (view : MibView) (q : Message) (bindings : List VarBind) : Typ
   pub singles : List VarBind
   pub rounds : List (List VarBind)
   pub parts : bindings ≡ singles ++ joined rounds
-  pub are_singles : AreAnswers (λ asked given. IsNext view asked.name given) (take
+  pub are_singles : AreAnswers (λ asked returned. IsNext view asked.name returned) (take
       (or_zero q.a) q.bindings) singles
   pub are_rounds : AreRounds view (or_zero q.b) (drop (or_zero q.a) q.bindings) rounds
 
 -- `bindings` are the longest prefix of `all` with which the Response fits, or empty if it fits
 -- with none
-pub record IsLongestFront (max_size : ℕ) (q : Message) (all bindings : List VarBind) : Type 0 where
+pub record IsLongestPrefix (max_size : ℕ) (q : Message) (all bindings : List VarBind) : Type 0 where
   pub more : List VarBind
-  pub front : all ≡ bindings ++ more
+  pub prefix : all ≡ bindings ++ more
   pub fits : bindings ≢ [] → Fits max_size (response q no_error (pos 0) bindings)
   pub longest : (longer rest : List VarBind) → all ≡ longer ++ rest
       → Fits max_size (response q no_error (pos 0) longer) → length longer ≤ length bindings
@@ -158,7 +159,7 @@ pub data IsResponse (view : MibView) (max_size : ℕ) (q r : Message) : Type 0 w
   shortened : (large : Message) → IsWhole view q large → (Fits max_size large → ⊥)
       → r ≡ response q too_big (pos 0) [] → IsResponse view max_size q r
   bulk : (all bindings : List VarBind) → q.kind ≡ kind.GetBulkRequest → IsBulk view q all
-      → IsLongestFront max_size q all bindings
+      → IsLongestPrefix max_size q all bindings
       → r ≡ response q no_error (pos 0) bindings → IsResponse view max_size q r
 
 -- ---- replies
@@ -175,7 +176,7 @@ pub record IsReply (agent : Agent) (octets reply : List ℕ) : Type 0 where
 
 -- the octets aren't a request that the agent serves, for this reason; the reasons are tested in
 -- this order
-abbrev pub IsRefused : List ℕ → List ℕ → Why → Type 0
+abbrev pub IsRefused : List ℕ → List ℕ → DropReason → Type 0
 IsRefused community octets why.Undecodable = (q : Message) → Spells q octets → ⊥
 IsRefused community octets why.Version = (q : Message) × Spells q octets × (q.version ≢ pos 1)
 IsRefused community octets why.Community = (q : Message) × Spells q octets × (q.version ≡ pos 1)
@@ -186,7 +187,7 @@ IsRefused community octets why.TooLong = ⊥
 
 -- the agent sends no reply to the octets, for this reason: they aren't a request that it serves,
 -- or even its Response without bindings doesn't fit
-abbrev pub IsDropped : Agent → List ℕ → Why → Type 0
+abbrev pub IsDropped : Agent → List ℕ → DropReason → Type 0
 IsDropped agent octets why.TooLong = (q : Message) × (r : Message)
     × IsRequest agent.community octets q × IsResponse agent.view agent.max_size q r
     × (Fits agent.max_size r → ⊥)

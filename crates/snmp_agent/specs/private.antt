@@ -1,3 +1,3 @@
 pub mod Answering
-pub mod Standing
+pub mod Cursor
 pub mod table

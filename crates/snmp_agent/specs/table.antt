@@ -3,7 +3,7 @@ pub mod Form
 pub mod Format
 pub mod Listing
 pub mod Pages
-pub mod Places
+pub mod Entries
 pub mod Stated
 pub mod Table
 pub mod Text

@@ -4,13 +4,13 @@ ghost use Rattle.std.specs.Prelude.{IsSome};
 ghost use Rattle.snmp_wire.specs.declared.kind.Kind.TheVariants as kind;
 ghost use Rattle.snmp_wire.specs.{Canon.canon_bindings, Message.Message, Parts.parts_message};
 ghost use Rattle.snmp_agent.specs.Reply.{agent_of, IsReply, IsDropped, IsRequest, IsRefused};
-ghost use Rattle.snmp_agent.specs.Reply.{IsServed, response, failed_place};
+ghost use Rattle.snmp_agent.specs.Reply.{IsServed, response, failed_index};
 ghost use Rattle.snmp_agent.specs.private.Answering.{AreWritable, IsAnswered, IsWritten};
 ghost use Rattle.snmp_agent.specs.private.Answering.{whole_index, whole_status};
 
 use crate::answers::append_answers;
 use crate::bulk::{append_bulk, room_for_bindings};
-use crate::config::{Config, Outcome, Why};
+use crate::config::{Config, DropReason, Outcome};
 use crate::laws::one_reply;
 use crate::room::ReplyBindings;
 use crate::table::{Guesses, Hint, Last, Table};
@@ -49,7 +49,7 @@ pub fn answer(
         → IsReply (agent_of table.now config.now) request.now octets
         → (result ≡ Outcome.Reply (length octets)) × (take (length octets) out.new ≡ octets) }
     // The reason is the first that applies.
-    ensures dropped { (why : Why) → result ≡ Outcome.Dropped why
+    ensures dropped { (why : DropReason) → result ≡ Outcome.Dropped why
         → IsDropped (agent_of table.now config.now) request.now why }
 {
     let mut last = Last::default();
@@ -76,7 +76,7 @@ pub fn answer_near(
     ensures replied { (octets : List ℕ)
         → IsReply (agent_of table.now config.now) request.now octets
         → (result ≡ Outcome.Reply (length octets)) × (take (length octets) out.new ≡ octets) }
-    ensures dropped { (why : Why) → result ≡ Outcome.Dropped why
+    ensures dropped { (why : DropReason) → result ≡ Outcome.Dropped why
         → IsDropped (agent_of table.now config.now) request.now why }
 {
     answer_by(table, config, request, out, &mut hint.lend())
@@ -97,39 +97,39 @@ fn answer_by(
     ensures replied { (octets : List ℕ)
         → IsReply (agent_of table.now config.now) request.now octets
         → (result ≡ Outcome.Reply (length octets)) × (take (length octets) out.new ≡ octets) }
-    ensures dropped { (why : Why) → result ≡ Outcome.Dropped why
+    ensures dropped { (why : DropReason) → result ≡ Outcome.Dropped why
         → IsDropped (agent_of table.now config.now) request.now why }
 {
     one_reply();
-    match accepted(config.community, request) {
+    match decode_request(config.community, request) {
         Ok(message) => match reply(table, config, &message, out, hint) {
             Some(size) => Outcome::Reply(size),
-            None => Outcome::Dropped(Why::TooLong),
+            None => Outcome::Dropped(DropReason::TooLong),
         },
         Err(why) => Outcome::Dropped(why),
     }
 }
 
 /// Returns the request that `octets` encode, or why the agent doesn't serve it.
-fn accepted<'a>(community: &[u8], octets: &'a [u8]) -> Result<MessageRef<'a>, Why>
+fn decode_request<'a>(community: &[u8], octets: &'a [u8]) -> Result<MessageRef<'a>, DropReason>
     ensures found { IfOk result (IsRequest community.now octets.now) }
     ensures refused { IfErr result (IsRefused community.now octets.now) }
 {
     let message = match decode(octets) {
         Ok(message) => message,
-        Err(_) => return Err(Why::Undecodable),
+        Err(_) => return Err(DropReason::Undecodable),
     };
     if message.version() != VERSION {
-        return Err(Why::Version);
+        return Err(DropReason::Version);
     }
     if message.community() != community {
-        return Err(Why::Community);
+        return Err(DropReason::Community);
     }
     match message.kind() {
         Kind::GetRequest | Kind::GetNextRequest | Kind::GetBulkRequest | Kind::SetRequest => {
             Ok(message)
         }
-        _ => Err(Why::Pdu),
+        _ => Err(DropReason::Pdu),
     }
 }
 
@@ -171,7 +171,7 @@ fn bulk_reply<'a>(
     let parts = response(request, NO_ERROR, 0);
     let room = room_for_bindings(&parts, config.max_size);
     let bindings = append_bulk(table, request, ReplyBindings::new(room), out, hint);
-    sealed(&parts, bindings.total, config, out)
+    seal_reply(&parts, bindings.total, config, out)
 }
 
 /// Does what [`reply`] does for a Get, a GetNext or a Set: the Response has one binding for each
@@ -204,9 +204,9 @@ fn paired_reply(
     // If a binding had no room, `left` is 0. Then `total` is `max_size`, so no head fits, and the
     // reply is the error tooBig (RFC 3416, section 4.2.1).
     let total = room - bindings.left;
-    match sealed(&parts, total, config, out) {
+    match seal_reply(&parts, total, config, out) {
         Some(size) => Some(size),
-        None => sealed(&response(request, TOO_BIG, 0), 0, config, out),
+        None => seal_reply(&response(request, TOO_BIG, 0), 0, config, out),
     }
 }
 
@@ -216,14 +216,14 @@ fn whole_parts<'a>(request: &MessageRef<'a>) -> Parts<'a>
         (whole_index request.now.kind request.now.bindings) [] }
 {
     match request.kind() {
-        Kind::SetRequest => response(request, NOT_WRITABLE, failed_place(request)),
+        Kind::SetRequest => response(request, NOT_WRITABLE, failed_index(request)),
         _ => response(request, NO_ERROR, 0),
     }
 }
 
 /// Returns the error-index of the reply to a Set: 1, its first binding, or 0 if it has none.
-fn failed_place(request: &MessageRef<'_>) -> i32
-    ensures { result ≡ failed_place request.now.bindings }
+fn failed_index(request: &MessageRef<'_>) -> i32
+    ensures { result ≡ failed_index request.now.bindings }
 {
     match request.bindings().next() {
         Some(_) => 1,
@@ -249,7 +249,7 @@ fn response<'a>(request: &MessageRef<'a>, status: i32, index: i32) -> Parts<'a>
 /// Completes a message whose bindings are the first `total` octets of `out`: moves them, writes
 /// the head before them, and returns the length of the message. Returns `None` if that is above
 /// `max_size`.
-fn sealed(
+fn seal_reply(
     parts: &Parts<'_>,
     total: usize,
     config: &Config<'_>,

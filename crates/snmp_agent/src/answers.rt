@@ -5,10 +5,10 @@
 ghost use Rattle.std.specs.{Prelude.◌≡◌, Prelude.◌≤◌, Prelude.length, FinMap.get};
 ghost use Rattle.snmp_agent.specs.private.Answering.{AreWritable, IsWritable, add};
 ghost use Rattle.snmp_agent.specs.private.Answering.{answer_to, answers_to, fill, held};
-ghost use Rattle.snmp_agent.specs.private.Standing.{next_at, place_of};
+ghost use Rattle.snmp_agent.specs.private.Cursor.{next_at, cursor_of};
 ghost use Rattle.snmp_agent.specs.table.Listing.{got_at};
 
-use crate::place::{Given, append_end};
+use crate::cursor::{Previous, append_end};
 use crate::room::ReplyBindings;
 use crate::table::{Guesses, Table};
 use snmp_oid::order;
@@ -108,16 +108,16 @@ pub fn append_next(
     hint: &mut Guesses<'_>,
 ) -> ReplyBindings
     ensures { held result out.new
-        ≡ add (held reply out.old) (next_at (place_of table.now 0 asked.now.name)) }
+        ≡ add (held reply out.old) (next_at (cursor_of table.now 0 asked.now.name)) }
 {
     let name = asked.name();
     let mut rows = table.rows.after_last(&name, hint);
     match rows.next_row() {
         Some(row) => {
-            hint.keep_last(rows.left());
+            hint.keep_last(rows.remaining_counts());
             reply.append_row(out, row)
         }
-        None => append_end(&Given::Asked(name), reply, out),
+        None => append_end(&Previous::Asked(name), reply, out),
     }
 }
 

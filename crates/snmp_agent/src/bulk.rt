@@ -7,17 +7,18 @@ ghost use Rattle.std.specs.{Prelude.map, Prelude.length, List.list_all};
 ghost use Rattle.snmp_wire.specs.Parts.{parts_message};
 ghost use Rattle.snmp_agent.specs.Reply.{joined, or_zero};
 ghost use Rattle.snmp_agent.specs.private.Answering.{IsRoom, bulk_of, fill, held, rounds_from};
-ghost use Rattle.snmp_agent.specs.private.Standing.{given_in, is_over, next_at, passed, places_of};
+ghost use Rattle.snmp_agent.specs.private.Cursor.{bindings_in_round, is_over, next_at, passed};
+ghost use Rattle.snmp_agent.specs.private.Cursor.{cursors_of};
 
 use crate::answers::append_next;
-use crate::place::Place;
+use crate::cursor::Cursor;
 use crate::room::ReplyBindings;
 use crate::table::{Guesses, Table};
 use arrayvec::ArrayVec;
 use snmp_wire::{BindingRef, Bindings, MAX_DATAGRAM, MessageRef, Parts, head_size, message_sizes};
 
 /// The greatest number of names whose positions are stored from one round to the next.
-const MAX_PLACES: usize = 64;
+const MAX_CURSORS: usize = 64;
 
 /// Returns the greatest number of octets that the bindings of a message with these parts can take
 /// if the message has at most `max_size`. Returns 0 if it has more even without bindings.
@@ -75,7 +76,7 @@ fn append_singles<'a>(
     hint: &mut Guesses<'_>,
 ) -> ReplyBindings
     ensures filled { held result out.new
-        ≡ fill (held reply out.old) (given_in table.now 0 (take count bindings.old)) }
+        ≡ fill (held reply out.old) (bindings_in_round table.now 0 (take count bindings.old)) }
     ensures left { result.left ≢ 0 → bindings.new ≡ drop count bindings.old }
 {
     let mut reply = reply;
@@ -103,7 +104,7 @@ fn append_repeaters<'a>(
     ensures { held result out.new ≡ fill (held reply out.old)
         (joined (rounds_from table.now bindings.entry 0 repetitions)) }
 {
-    let mut others = bindings.left();
+    let mut others = bindings.remaining();
     match (others.next_ref(), others.next_ref()) {
         (Some(only), None) => append_column(table, repetitions, only, reply, out, hint),
         _ => append_columns(table, repetitions, bindings, reply, out, hint),
@@ -124,17 +125,17 @@ fn append_column<'a>(
         (joined (rounds_from table.now (asked.entry ∷ []) 0 repetitions)) }
 {
     let mut reply = reply;
-    let mut place = Place::of_walk(table, asked.name(), hint);
+    let mut cursor = Cursor::of_walk(table, asked.name(), hint);
     'rounds: for _ in 0..repetitions {
-        let is_last = place.is_at_end();
-        let left = place.left();
+        let is_last = cursor.is_at_end();
+        let left = cursor.remaining_counts();
         let total = reply.total;
-        reply = place.append_next(reply, out);
+        reply = cursor.append_next(reply, out);
         if reply.is_full() {
             hint.keep_last(if reply.total == total {
                 left
             } else {
-                place.left()
+                cursor.remaining_counts()
             });
             return reply;
         }
@@ -142,11 +143,11 @@ fn append_column<'a>(
             return reply;
         }
     }
-    hint.keep_last(place.left());
+    hint.keep_last(cursor.remaining_counts());
     reply
 }
 
-/// Appends the rounds of several bindings. The positions of the first [`MAX_PLACES`] are stored
+/// Appends the rounds of several bindings. The positions of the first [`MAX_CURSORS`] are stored
 /// from one round to the next.
 fn append_columns<'a>(
     table: &'a Table,
@@ -159,52 +160,52 @@ fn append_columns<'a>(
     ensures { held result out.new ≡ fill (held reply out.old)
         (joined (rounds_from table.now bindings.entry 0 repetitions)) }
 {
-    let mut others = bindings.left();
-    let mut places = ArrayVec::new();
-    keep_places(table, &mut others, &mut places, hint);
-    let places = places.as_mut_slice();
-    append_rounds(table, repetitions, &bindings, places, others, reply, out)
+    let mut others = bindings.remaining();
+    let mut cursors = ArrayVec::new();
+    push_cursors(table, &mut others, &mut cursors, hint);
+    let cursors = cursors.as_mut_slice();
+    append_rounds(table, repetitions, &bindings, cursors, others, reply, out)
 }
 
-/// Takes bindings and appends their positions to `places`, until there are [`MAX_PLACES`] or no
+/// Takes bindings and appends their positions to `cursors`, until there are [`MAX_CURSORS`] or no
 /// binding is left.
-fn keep_places<'a>(
+fn push_cursors<'a>(
     table: &'a Table,
     bindings: &mut Bindings<'a>,
-    places: &mut ArrayVec<Place<'a>, MAX_PLACES>,
+    cursors: &mut ArrayVec<Cursor<'a>, MAX_CURSORS>,
     hint: &mut Guesses<'_>,
 )
-    requires { places.old.items ≡ [] }
-    ensures { places.new.items ++ places_of table.now 0 bindings.new
-        ≡ places_of table.now 0 bindings.old }
+    requires { cursors.old.items ≡ [] }
+    ensures { cursors.new.items ++ cursors_of table.now 0 bindings.new
+        ≡ cursors_of table.now 0 bindings.old }
 {
-    'names: while !places.is_full() {
+    'names: while !cursors.is_full() {
         let Some(asked) = bindings.next_ref() else {
             return;
         };
-        places.push(Place::new(table, asked.name(), hint));
+        cursors.push(Cursor::new(table, asked.name(), hint));
     }
 }
 
-/// Appends the rounds of `bindings`. The first of them have the positions `places`: each round
+/// Appends the rounds of `bindings`. The first of them have the positions `cursors`: each round
 /// begins where the previous one ended, and nothing is searched. The remaining ones, `others`, are
 /// searched in each round; a reply has room for few of them.
 fn append_rounds<'a>(
     table: &'a Table,
     repetitions: usize,
     bindings: &Bindings<'a>,
-    places: &mut [Place<'a>],
+    cursors: &mut [Cursor<'a>],
     others: Bindings<'a>,
     reply: ReplyBindings,
     out: &mut [u8; MAX_DATAGRAM],
 ) -> ReplyBindings
-    requires { places.old ++ places_of table.now 0 others ≡ places_of table.now 0 bindings.now }
+    requires { cursors.old ++ cursors_of table.now 0 others ≡ cursors_of table.now 0 bindings.now }
     ensures { held result out.new ≡ fill (held reply out.old)
         (joined (rounds_from table.now bindings.now 0 repetitions)) }
 {
     let mut reply = reply;
     'rounds: for round in 0..repetitions {
-        let (end, is_over) = append_round(table, round, places, others.left(), reply, out);
+        let (end, is_over) = append_round(table, round, cursors, others.remaining(), reply, out);
         reply = end;
         if is_over {
             return reply;
@@ -213,38 +214,38 @@ fn append_rounds<'a>(
     reply
 }
 
-/// Appends what a GetNext returns from each of `places`, and moves these on. Then appends what
+/// Appends what a GetNext returns from each of `cursors`, and moves these on. Then appends what
 /// each of `others` gets after `round` rounds. Also returns whether no round follows: there is no
 /// room left, or no row was left at any position.
 fn append_round<'a>(
     table: &'a Table,
     round: usize,
-    places: &mut [Place<'a>],
+    cursors: &mut [Cursor<'a>],
     mut others: Bindings<'a>,
     reply: ReplyBindings,
     out: &mut [u8; MAX_DATAGRAM],
 ) -> (ReplyBindings, bool)
     ensures filled { held result.0 out.new ≡ fill (held reply out.old)
-        (map next_at (places.old ++ places_of table.now round others.entry)) }
+        (map next_at (cursors.old ++ cursors_of table.now round others.entry)) }
     ensures last { result.1 ≡ true → (result.0.left ≡ 0)
-        ⊎ (list_all is_over (places.old ++ places_of table.now round others.entry) ≡ true) }
+        ⊎ (list_all is_over (cursors.old ++ cursors_of table.now round others.entry) ≡ true) }
     ensures goes { result.1 ≡ false
-        → list_all is_over (places.old ++ places_of table.now round others.entry) ≡ false }
-    ensures moved { result.1 ≡ false → places.new ≡ map passed places.old }
+        → list_all is_over (cursors.old ++ cursors_of table.now round others.entry) ≡ false }
+    ensures moved { result.1 ≡ false → cursors.new ≡ map passed cursors.old }
 {
     let mut reply = reply;
-    let mut are_over = are_at_end(places);
-    'places: for place in places.iter_mut() {
-        reply = place.append_next(reply, out);
+    let mut are_over = are_at_end(cursors);
+    'cursors: for cursor in cursors.iter_mut() {
+        reply = cursor.append_next(reply, out);
         if reply.is_full() {
             return (reply, true);
         }
     }
     'others: while let Some(asked) = others.next_ref() {
-        let mut place = Place::after_rounds(table, asked.name(), round);
-        let is_last = place.is_at_end();
+        let mut cursor = Cursor::after_rounds(table, asked.name(), round);
+        let is_last = cursor.is_at_end();
         are_over = are_over && is_last;
-        reply = place.append_next(reply, out);
+        reply = cursor.append_next(reply, out);
         if reply.is_full() {
             return (reply, true);
         }
@@ -252,12 +253,12 @@ fn append_round<'a>(
     (reply, are_over)
 }
 
-/// Returns whether no row is left at any of `places`.
-fn are_at_end(places: &[Place<'_>]) -> bool
-    ensures { result ≡ list_all is_over places.now }
+/// Returns whether no row is left at any of `cursors`.
+fn are_at_end(cursors: &[Cursor<'_>]) -> bool
+    ensures { result ≡ list_all is_over cursors.now }
 {
-    'places: for place in places {
-        if !place.is_at_end() {
+    'cursors: for cursor in cursors {
+        if !cursor.is_at_end() {
             return false;
         }
     }

@@ -19,12 +19,12 @@ pub enum Outcome {
     /// A reply, at the start of the output buffer. Holds its length in octets.
     Reply(usize),
     /// No reply, for this reason.
-    Dropped(Why),
+    Dropped(DropReason),
 }
 
 /// Why a datagram has no reply: the first reason that applies.
 #[derive(Clone, Copy, Debug, PartialEq, Eq, thiserror::Error)]
-pub enum Why {
+pub enum DropReason {
     /// The datagram isn't an SNMP message.
     #[error("no message")]
     Undecodable,

@@ -1,6 +1,6 @@
 //! Endpoints: where an agent receives datagrams and sends its replies.
 ghost use Rattle.std.specs.Prelude.{◌≡◌, ◌≤◌, IfOk, IfSome, OnErr, OnOk, length};
-ghost use Rattle.snmp_io.specs.Count.{HasRisen};
+ghost use Rattle.snmp_io.specs.Count.{HasIncreased};
 
 use std::io::ErrorKind;
 use std::net::{SocketAddr, UdpSocket};
@@ -35,13 +35,13 @@ pub trait Endpoint {
         ensures happens { 65507 ≤ length buffer.old
             → happens self.old (event_of_receive result buffer.new) self.new }
         ensures count { OnOk result (fault_count self.new ≡ fault_count self.old) }
-        ensures fault { OnErr result (HasRisen (fault_count self.old) (fault_count self.new)) };
+        ensures fault { OnErr result (HasIncreased (fault_count self.old) (fault_count self.new)) };
 
     /// Sends a reply to `peer`. An error raises the fault count.
     fn reply(&mut self, datagram: &[u8], peer: Self::Peer) -> Result<(), EndpointFault>
         ensures happens { happens self.old (event_of_reply result peer datagram.now) self.new }
         ensures count { OnOk result (fault_count self.new ≡ fault_count self.old) }
-        ensures fault { OnErr result (HasRisen (fault_count self.old) (fault_count self.new)) };
+        ensures fault { OnErr result (HasIncreased (fault_count self.old) (fault_count self.new)) };
 
     /// Returns the number of receives and replies that failed, at most 18446744073709551615.
     fn faults(&self) -> u64
@@ -56,7 +56,7 @@ pub struct SocketEndpoint<'a> {
 }
 
 impl<'a> SocketEndpoint<'a> {
-    ghost use Rattle.snmp_io.specs.Count.{HasRisen};
+    ghost use Rattle.snmp_io.specs.Count.{HasIncreased};
 
     /// Returns the endpoint of a socket, with a fault count of 0.
     pub fn new(socket: &'a UdpSocket) -> SocketEndpoint<'a> {
@@ -65,7 +65,7 @@ impl<'a> SocketEndpoint<'a> {
 
     /// Counts a fault, and returns it.
     fn fault(&mut self) -> EndpointFault
-        ensures { HasRisen self.old.faults self.new.faults }
+        ensures { HasIncreased self.old.faults self.new.faults }
     {
         self.faults = self.faults.saturating_add(1);
         EndpointFault

@@ -11,11 +11,11 @@ ghost use Rattle.snmp_agent.specs.table.Table.{MibView, IsGet, IsMibView, IsNext
 ghost use Rattle.snmp_agent.specs.table.Table.{IsRow, with_row, without_row};
 ghost use Rattle.snmp_wire.specs.Message.{Datum, VarBind};
 
-use crate::config::Why;
+use crate::config::DropReason;
 use crate::table::TableError;
 use snmp_oid::{names, order};
 use snmp_wire::{
-    element_sizes, message_sizes, one_shortest_encoding, one_spelling, spelt_is_of_type,
+    element_sizes, encoding_is_of_type, message_sizes, one_shortest_encoding, one_spelling,
 };
 
 /// Lines without a fault define a table, and it is a MIB view.
@@ -90,7 +90,7 @@ pub fn changed_rows()
 pub fn one_reply()
     ensures one { (agent : Agent) (datagram a b : List ℕ) → IsReply agent datagram a
         → IsReply agent datagram b → a ≡ b }
-    ensures none { (agent : Agent) (datagram reply : List ℕ) (why : Why)
+    ensures none { (agent : Agent) (datagram reply : List ℕ) (why : DropReason)
         → IsReply agent datagram reply → IsDropped agent datagram why → ⊥ }
 {
     one_answer();
@@ -112,5 +112,5 @@ pub fn shortest_reply()
     element_sizes();
     message_sizes();
     one_shortest_encoding();
-    spelt_is_of_type();
+    encoding_is_of_type();
 }

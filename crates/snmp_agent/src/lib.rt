@@ -27,15 +27,15 @@ mod agent;
 mod answers;
 mod bulk;
 mod config;
+mod cursor;
 mod endpoint;
 mod laws;
-mod place;
 mod room;
 mod server;
 mod table;
 
 pub use agent::answer_near;
-pub use config::{Config, Outcome, Why};
+pub use config::{Config, DropReason, Outcome};
 pub use endpoint::{Endpoint, EndpointFault};
 pub use server::{Served, serve, serve_at};
 pub use table::{Hint, NumericNames, Resolver, Table, TableError};

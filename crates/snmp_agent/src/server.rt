@@ -2,7 +2,7 @@
 ghost use Rattle.std.specs.Prelude.{◌≡◌, ◌+◌, List, cond};
 ghost use Rattle.snmp_agent.specs.Reply.{agent_of};
 ghost use Rattle.snmp_agent.specs.Serving.{Event, InTurn, IsTurn, AreTurns, same_turn};
-ghost use Rattle.snmp_io.specs.Count.{HasRisenBy};
+ghost use Rattle.snmp_io.specs.Count.{HasIncreasedBy};
 
 use crate::agent::answer_near;
 use crate::config::{Config, Outcome};
@@ -63,7 +63,7 @@ pub fn serve_at<E: Endpoint>(
         × AreTurns (agent_of table.now config.now) turns result events
         × InTurn E.happens endpoint.old events endpoint.new }
     // One receive or send failed in each turn that counts as a fault.
-    ensures faults { HasRisenBy result.faults (E.fault_count endpoint.old)
+    ensures faults { HasIncreasedBy result.faults (E.fault_count endpoint.old)
         (E.fault_count endpoint.new) }
 {
     let mut served = Served::default();
@@ -93,7 +93,7 @@ fn serve_once<E: Endpoint>(
     ensures turn { (events : List (Event E.Peer))
         × IsTurn (agent_of table.now config.now) result events
         × InTurn E.happens endpoint.old events endpoint.new }
-    ensures faults { HasRisenBy (cond (same_turn Turn.Failed result) 1 0)
+    ensures faults { HasIncreasedBy (cond (same_turn Turn.Failed result) 1 0)
         (E.fault_count endpoint.old) (E.fault_count endpoint.new) }
 {
     let (size, peer) = match endpoint.receive(&mut request[..]) {

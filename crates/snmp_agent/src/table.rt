@@ -2,23 +2,23 @@
 //!
 //! Built on identifiers and values. The agent computes its replies from it.
 ghost use Rattle.std.specs.Prelude.{◌↔◌, map, IsTrue};
-ghost use Rattle.snmp_agent.specs.table.Places.{HasBeginning};
+ghost use Rattle.snmp_agent.specs.table.Entries.{HasBeginning};
 
-mod draft;
+mod builder;
 mod error;
 mod format;
 mod hashes;
 mod hint;
 mod instance;
-mod late;
 mod line;
 mod page;
 mod pages;
+mod pending;
 mod search;
 mod split;
 mod value;
 
-use crate::table::draft::{Draft, Halt};
+use crate::table::builder::{Halt, TableBuilder};
 use crate::table::format::{FirstFormat, LineFormat, SecondFormat, is_marked};
 use crate::table::instance::{is_instance_name, is_instance_value};
 use crate::table::pages::Pages;
@@ -51,7 +51,7 @@ impl Model for Table {
 
     ghost coded = { Prim.hlevel (codes, code) };
 
-    ghost use Rattle.snmp_agent.specs.table.Places.{view_of};
+    ghost use Rattle.snmp_agent.specs.table.Entries.{view_of};
     ghost use Rattle.snmp_agent.specs.table.Table.{IsMibView};
 
     ghost view = { λ t. view_of t.rows (map (λ o. o.items) t.objects.keys) };
@@ -77,7 +77,7 @@ impl Table {
     ghost use Rattle.std.specs.{Str.Lines.lines, FinMap.get};
     ghost use Rattle.snmp_wire.specs.Message.{datum};
     ghost use Rattle.snmp_agent.specs.table.Format.{numeric_names};
-    ghost use Rattle.snmp_agent.specs.table.Pages.{AreBehind};
+    ghost use Rattle.snmp_agent.specs.table.Pages.{AreAllAfter};
     ghost use Rattle.snmp_agent.specs.table.Stated.{IsTableOf, IsFirstFault};
     ghost use Rattle.snmp_agent.specs.table.Stated.{IsTableIn, IsFirstFaultIn};
     ghost use Rattle.snmp_agent.specs.table.Table.{IsAnswerValue, IsGet, IsMibView};
@@ -120,10 +120,10 @@ impl Table {
         ensures view { IfOk result IsMibView }
         ensures fault { IfErr result (IsFirstFaultIn (F.format format.now) (lines text.now)) }
     {
-        let read = match Draft::read(alloc, text, format, false) {
+        let read = match TableBuilder::read(alloc, text, format, false) {
             // Memory ran out while rows were collected to be sorted. An exact reading collects
             // none, and takes less memory.
-            Err(Halt::Again) => Draft::read(alloc, text, format, true),
+            Err(Halt::Again) => TableBuilder::read(alloc, text, format, true),
             read => read,
         };
         match read {
@@ -147,7 +147,7 @@ impl Table {
 
     /// Returns the exception that a Get of `name` yields, which no instance has (see
     /// [`Table::get`]).
-    #[tactic(auto, using(crate::proofs::Finding::get_no_instance, crate::proofs::Finding::get_no_object))]
+    #[tactic(auto, using(crate::proofs::RowSearch::get_no_instance, crate::proofs::RowSearch::get_no_object))]
     pub(crate) fn exception(&self, name: &Oid) -> ValueRef<'_>
         requires { get self.now.rows name.now ≡ None }
         ensures answer { IsGet self.now name.now
@@ -163,7 +163,7 @@ impl Table {
 
     /// Returns the rows after `name`, in order.
     pub fn after(&self, name: &EncodedName<'_>) -> Successors<'_>
-        ensures { AreBehind self.now name.now result }
+        ensures { AreAllAfter self.now name.now result }
     {
         let mut last = Last::default();
         self.rows
@@ -197,7 +197,7 @@ impl Table {
     }
 
     /// Returns the row of `name`, if there is one. No row has a name without an encoding.
-    #[tactic(auto, using(crate::proofs::Changing::unnamed))]
+    #[tactic(auto, using(crate::proofs::ChangedEntries::unnamed))]
     fn row_of(&self, name: &Oid) -> Option<&EncodedBinding>
         ensures { option_map (λ row. row.now.value) result ≡ get self.now.rows name.now }
     {

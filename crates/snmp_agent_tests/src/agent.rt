@@ -6,7 +6,7 @@ ghost use Rattle.snmp_wire.specs.ber.Value.{datum};
 ghost use Rattle.snmp_wire.specs.Message.{var_bind};
 
 use crate::table::{repeated_text, table_of};
-use snmp_agent::{Config, Outcome, Table, Why, answer};
+use snmp_agent::{Config, DropReason, Outcome, Table, answer};
 use snmp_wire::{
     Binding, MessageRef, Parts, ValueRef, binding_size, decode, encode_binding, encode_head,
 };
@@ -85,7 +85,7 @@ pub(crate) fn assert_dropped(
     table: &Table,
     max_size: usize,
     request: &[u8],
-    why: Why,
+    why: DropReason,
 ) {
     let mut out = [0; 65507];
     assert!(rt;
@@ -110,7 +110,7 @@ fn a_reply_that_does_not_fit_becomes_too_big(rt: HostRuntime) {
     let table = table_of(&rt, rt.alloc(), SYS_NAME);
     assert_reply(&rt, &table, 42, &GET, &TOO_BIG);
     assert_reply(&rt, &table, 26, &GET, &TOO_BIG);
-    assert_dropped(&rt, &table, 25, &GET, Why::TooLong);
+    assert_dropped(&rt, &table, 25, &GET, DropReason::TooLong);
 }
 
 #[test]
@@ -140,24 +140,24 @@ fn with_octet(request: &[u8; 40], offset: usize, octet: u8) -> [u8; 40] {
 
 /// Offsets in `GET`, each with an octet that replaces the one there, and why the agent then drops
 /// it.
-const OTHERS: &[(usize, u8, Why)] = &[
-    (1, 0x80, Why::Undecodable),
-    (4, 0x00, Why::Version),
-    (7, 0x71, Why::Community),
-    (13, 0xA2, Why::Pdu),
-    (13, 0xA6, Why::Pdu),
-    (13, 0xA7, Why::Pdu),
-    (13, 0xA8, Why::Pdu),
-    (13, 0xA4, Why::Undecodable),
+const OTHERS: &[(usize, u8, DropReason)] = &[
+    (1, 0x80, DropReason::Undecodable),
+    (4, 0x00, DropReason::Version),
+    (7, 0x71, DropReason::Community),
+    (13, 0xA2, DropReason::Pdu),
+    (13, 0xA6, DropReason::Pdu),
+    (13, 0xA7, DropReason::Pdu),
+    (13, 0xA8, DropReason::Pdu),
+    (13, 0xA4, DropReason::Undecodable),
 ];
 
 /// Asserts that the agent drops each proper prefix of `GET`, and `GET` with one octet more.
 fn assert_other_lengths_dropped(rt: &impl Abort, table: &Table) {
     let mut longer = [0; 41];
     longer[..40].copy_from_slice(&GET);
-    assert_dropped(rt, table, 1472, &longer, Why::Undecodable);
+    assert_dropped(rt, table, 1472, &longer, DropReason::Undecodable);
     for size in 0..40 {
-        assert_dropped(rt, table, 1472, &GET[..size], Why::Undecodable);
+        assert_dropped(rt, table, 1472, &GET[..size], DropReason::Undecodable);
     }
 }
 

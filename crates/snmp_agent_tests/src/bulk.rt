@@ -2,7 +2,7 @@
 
 use crate::agent::{assert_dropped, outcome};
 use crate::table::table_of;
-use snmp_agent::{Outcome, Table, Why};
+use snmp_agent::{DropReason, Outcome, Table};
 use snmp_wire::{Binding, Bindings, ValueRef, decode};
 use std::alloc::{AllocError, Global};
 use std::process::Abort;
@@ -115,7 +115,7 @@ fn the_room_in_a_message_is_used_to_the_octet(rt: HostRuntime) {
     ];
     let table = table_of(&rt, rt.alloc(), SIX);
     assert_fits(&rt, &table, CASES);
-    assert_dropped(&rt, &table, 25, &BULK, Why::TooLong);
+    assert_dropped(&rt, &table, 25, &BULK, DropReason::TooLong);
 }
 
 /// The GetBulk of three names, 1.3.6.1.4.1.32473.1 twice and 1.3.6.1.4.1.32473.1.5.0. Its

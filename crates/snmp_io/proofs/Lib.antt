@@ -1,3 +1,3 @@
-pub mod ReadLemmas
-pub mod OutputLemmas
-pub mod QuoteLemmas
+pub mod ReadTexts
+pub mod OutputPieces
+pub mod QuotedTexts

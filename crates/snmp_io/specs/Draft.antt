@@ -8,14 +8,14 @@ pub record Written : Type 0 where
   pub added : Option (List ℕ)
 
 -- a text of which nothing is appended yet
-abbrev pub begun : List ℕ → Written
-begun before = record { before = before; added = Some [] }
+abbrev pub empty_text_after : List ℕ → Written
+empty_text_after before = record { before = before; added = Some [] }
 
 -- between the states `first` and `last` the text is appended, unless memory ran out by then
 pub record Grows (first : Written) (text : List ℕ) (last : Written) : Type 0 where
   pub before : last.before ≡ first.before
   pub added : (whole : List ℕ) → last.added ≡ Some whole
-      → (front : List ℕ) × (first.added ≡ Some front) × (whole ≡ front ++ text)
+      → (prefix : List ℕ) × (first.added ≡ Some prefix) × (whole ≡ prefix ++ text)
 
 -- a call appends the octets: they follow whatever text was appended since a state `first`
 pub record Adds (old : Written) (octets : List ℕ) (new : Written) : Type 0 where

@@ -15,10 +15,10 @@ abbrev pub quote_after : Option ℕ → List ℕ → Option ℕ
 quote_after quote [] = quote
 quote_after quote (octet ∷ more) = quote_after (open_after quote octet) more
 
-pub quote_after_both : (quote : Option ℕ) (front back : List ℕ)
-    → quote_after quote (front ++ back) ≡ quote_after (quote_after quote front) back
+pub quote_after_both : (quote : Option ℕ) (prefix back : List ℕ)
+    → quote_after quote (prefix ++ back) ≡ quote_after (quote_after quote prefix) back
 quote_after_both quote [] back = refl
-quote_after_both quote (octet ∷ front) back = quote_after_both (open_after quote octet) front back
+quote_after_both quote (octet ∷ prefix) back = quote_after_both (open_after quote octet) prefix back
 
 -- a quote stays open over octets of other kinds, and the next of its kind closes it
 closed_by : (quote : ℕ) (inside : List ℕ) → All (λ octet. octet ≢ quote) inside
@@ -123,26 +123,27 @@ abbrev first_of : List ℕ → ℕ
 first_of [] = 0
 first_of (x ∷ more) = x
 
-abbrev behind_first : List ℕ → List ℕ
-behind_first [] = []
-behind_first (x ∷ more) = more
+abbrev without_first : List ℕ → List ℕ
+without_first [] = []
+without_first (x ∷ more) = more
 
-same_cut : (stop : ℕ) (quote : Option ℕ) (front rest other behind : List ℕ)
-    → front ++ stop ∷ rest ≡ other ++ stop ∷ behind
-    → quote_after quote front ≡ None → quote_after quote other ≡ None
-    → HasNoneAfter stop quote front → HasNoneAfter stop quote other
-    → (other ≡ front) × (behind ≡ rest)
-same_cut stop quote [] rest [] behind e f g h k = (refl, sym (ap behind_first e))
-same_cut stop quote [] rest (y ∷ other) behind e f g h k =
+same_cut : (stop : ℕ) (quote : Option ℕ) (prefix rest other other_rest : List ℕ)
+    → prefix ++ stop ∷ rest ≡ other ++ stop ∷ other_rest
+    → quote_after quote prefix ≡ None → quote_after quote other ≡ None
+    → HasNoneAfter stop quote prefix → HasNoneAfter stop quote other
+    → (other ≡ prefix) × (other_rest ≡ rest)
+same_cut stop quote [] rest [] other_rest e f g h k = (refl, sym (ap without_first e))
+same_cut stop quote [] rest (y ∷ other) other_rest e f g h k =
     absurd (k [] other (ap (λ (x : ℕ). x ∷ other) (sym (ap first_of e))) f)
-same_cut stop quote (x ∷ front) rest [] behind e f g h k =
-    absurd (h [] front (ap (λ (y : ℕ). y ∷ front) (ap first_of e)) g)
-same_cut stop quote (x ∷ front) rest (y ∷ other) behind e f g h k =
+same_cut stop quote (x ∷ prefix) rest [] other_rest e f g h k =
+    absurd (h [] prefix (ap (λ (y : ℕ). y ∷ prefix) (ap first_of e)) g)
+same_cut stop quote (x ∷ prefix) rest (y ∷ other) other_rest e f g h k =
     let same : y ≡ x = sym (ap first_of e) in
     let G : ℕ → Type 0 = λ z. quote_after (open_after quote z) other ≡ None in
     let K : ℕ → Type 0 = λ z. HasNoneAfter stop (open_after quote z) other in
-    let later = same_cut stop (open_after quote x) front rest other behind (ap behind_first e) f
-    (subst G same g) (none_later stop quote x front h)
+    let later = same_cut stop (open_after quote x) prefix rest other other_rest
+    (ap without_first e) f
+    (subst G same g) (none_later stop quote x prefix h)
     (subst K same (none_later stop quote y other k)) in
     (ap (λ (z : ℕ). z ∷ other) same ∙ ap (λ (t : List ℕ). x ∷ t) later.0, later.1)
 
@@ -156,9 +157,10 @@ pub none_outside : (stop : ℕ) (text : List ℕ) → HasNoneAfter stop None tex
 none_outside stop text none before after e closed = none before after e (none_open before closed)
 
 -- a text is cut at its first `stop` outside quotes in only one way
-pub cut_once : (stop : ℕ) (text front rest other behind : List ℕ) → IsCut stop text front rest
-    → IsCut stop text other behind → (other ≡ front) × (behind ≡ rest)
-cut_once stop text front rest other behind h k =
-    same_cut stop None front rest other behind (sym h.parts ∙ k.parts) (none_open front h.outside)
+pub cut_once : (stop : ℕ) (text prefix rest other other_rest : List ℕ) → IsCut stop text prefix rest
+    → IsCut stop text other other_rest → (other ≡ prefix) × (other_rest ≡ rest)
+cut_once stop text prefix rest other other_rest h k =
+    same_cut stop None prefix rest other other_rest (sym h.parts
+    ∙ k.parts) (none_open prefix h.outside)
     (none_open other k.outside)
-    (never_outside stop front h.first) (never_outside stop other k.first)
+    (never_outside stop prefix h.first) (never_outside stop other k.first)

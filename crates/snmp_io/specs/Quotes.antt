@@ -30,13 +30,13 @@ abbrev pub HasNoneOutside : (stop : ℕ) → List ℕ → Type 0
 HasNoneOutside stop text = (before after : List ℕ) → text ≡ before ++ stop ∷ after
     → IsClosed before → ⊥
 
--- `front` and `rest` are what is before and after the first `stop` outside quotes
-pub record IsCut (stop : ℕ) (text front rest : List ℕ) : Type 0 where
-  pub parts : text ≡ front ++ stop ∷ rest
-  pub outside : IsClosed front
-  pub first : HasNoneOutside stop front
+-- `prefix` and `rest` are what is before and after the first `stop` outside quotes
+pub record IsCut (stop : ℕ) (text prefix rest : List ℕ) : Type 0 where
+  pub parts : text ≡ prefix ++ stop ∷ rest
+  pub outside : IsClosed prefix
+  pub first : HasNoneOutside stop prefix
 
--- `front` is what is before the first `stop` outside quotes, or the whole text if there is none
-abbrev pub IsFrontOf : (stop : ℕ) → (text front : List ℕ) → Type 0
-IsFrontOf stop text front = (HasNoneOutside stop text × (front ≡ text))
-    ⊎ ((rest : List ℕ) × IsCut stop text front rest)
+-- `prefix` is what is before the first `stop` outside quotes, or the whole text if there is none
+abbrev pub IsUnquotedPrefix : (stop : ℕ) → (text prefix : List ℕ) → Type 0
+IsUnquotedPrefix stop text prefix = (HasNoneOutside stop text × (prefix ≡ text))
+    ⊎ ((rest : List ℕ) × IsCut stop text prefix rest)

@@ -3,7 +3,8 @@
 ghost use Rattle.std.specs.Prelude.{◌≡◌, ◌<◌, ◌≤◌, ◌↔◌, [], ◌∷◌, ◌++◌, length, take, drop, decimal};
 ghost use Rattle.std.specs.Prelude.{if◌then◌else◌, Some, None, OnOk, OnErr, IsOk, IsSome, IfSome};
 ghost use Rattle.std.specs.Fmt.{signed_decimal};
-ghost use Rattle.snmp_io.specs.Draft.{Written, Adds, begun, hexadecimal_octet, upper_digit};
+ghost use Rattle.snmp_io.specs.Draft.{Written, Adds, empty_text_after, hexadecimal_octet};
+ghost use Rattle.snmp_io.specs.Draft.{upper_digit};
 
 use itoa::Buffer;
 use std::alloc::AllocError;
@@ -37,7 +38,7 @@ impl Draft {
     /// empty. Doesn't allocate.
     #[inline]
     pub fn after(out: &mut Vec<u8>) -> Draft
-        ensures { result ≡ begun out.old.items }
+        ensures { result ≡ empty_text_after out.old.items }
     {
         let empty = Vec::new(*out.allocator());
         let octets = mem::replace(out, empty);
@@ -81,7 +82,7 @@ impl Draft {
         }
     }
 
-    /// [`Draft::number`] for any number of digits.
+    /// Does what [`Draft::number`] does, for any number of digits.
     fn long_number(&mut self, n: u64)
         ensures { Adds self.old (decimal n) self.new }
     {
@@ -101,7 +102,7 @@ impl Draft {
         }
     }
 
-    /// [`Draft::integer`] for a negative number, in one piece.
+    /// Does what [`Draft::integer`] does for a negative number, in one piece.
     fn negative(&mut self, n: i64)
         ensures { Adds self.old (signed_decimal n) self.new }
     {

@@ -31,4 +31,4 @@ pub use draft::Draft;
 pub use files::{FileFault, Files, KeyedFiles};
 pub use machine::{MachineFiles, MachineOutput, ReadError, read_whole};
 pub use output::{Output, OutputFault, write_all};
-pub use quotes::{is_quote, open_after, split_unquoted, unquoted_front};
+pub use quotes::{is_quote, open_after, split_unquoted, unquoted_prefix};

@@ -50,7 +50,7 @@ impl MemoryOutput {
 
 impl Output for MemoryOutput {
     ghost use Rattle.std.specs.Prelude.{◌<◌, ◌≤◌, ◌-◌, IfOk, IsErr, OnErr, OnOk, length, min, take};
-    ghost use Rattle.snmp_io.specs.Count.{HasRisen};
+    ghost use Rattle.snmp_io.specs.Count.{HasIncreased};
 
     ghost stream = { λ o. record { taken = Some o.octets; faults = o.faults } };
 
@@ -67,11 +67,11 @@ impl Output for MemoryOutput {
         ensures within_piece { IfOk result (λ n. n ≤ length piece.now) }
         ensures all_that_fits { IfOk result (λ n.
             n ≡ min (length piece.now) (self.old.limit - length self.old.octets)) }
-        ensures front_taken { IfOk result (λ n.
+        ensures prefix_taken { IfOk result (λ n.
             self.new.octets ≡ self.old.octets ++ take n piece.now) }
         ensures no_fault_at_ok { OnOk result (self.new.faults ≡ self.old.faults) }
         ensures none_taken_at_fault { OnErr result (self.new.octets ≡ self.old.octets) }
-        ensures fault_counted { OnErr result (HasRisen self.old.faults self.new.faults) }
+        ensures fault_counted { OnErr result (HasIncreased self.old.faults self.new.faults) }
         ensures limit_kept { self.new.limit ≡ self.old.limit }
         ensures fails_when_full { 0 < length piece.now → self.old.limit ≤ length self.old.octets
             → IsErr result }

@@ -1,6 +1,7 @@
 //! Outputs, which take octets, and the loop that writes a whole text to one.
 ghost use Rattle.std.specs.Prelude.{◌≡◌, ◌<◌, ◌≤◌, ℕ, List, length, take, IfOk, OnErr, OnOk};
-ghost use Rattle.snmp_io.specs.{Count.HasRisen, Output.FailsWithin, Output.Stream, Output.extended};
+ghost use Rattle.snmp_io.specs.{Count.HasIncreased, Output.FailsWithin, Output.Stream};
+ghost use Rattle.snmp_io.specs.{Output.stream_after};
 
 use thiserror::Error;
 
@@ -22,12 +23,12 @@ pub trait Output {
     fn write(&mut self, piece: &[u8]) -> Result<usize, OutputFault>
         ensures not_empty { IfOk result (λ n. 0 < length piece.now → 0 < n) }
         ensures within_piece { IfOk result (λ n. n ≤ length piece.now) }
-        ensures front_taken { IfOk result (λ n.
-            stream self.new ≡ extended (stream self.old) (take n piece.now)) }
+        ensures prefix_taken { IfOk result (λ n.
+            stream self.new ≡ stream_after (stream self.old) (take n piece.now)) }
         ensures none_taken_at_fault { OnErr result (
             (stream self.new).taken ≡ (stream self.old).taken) }
         ensures fault_counted { OnErr result (
-            HasRisen (stream self.old).faults (stream self.new).faults) };
+            HasIncreased (stream self.old).faults (stream self.new).faults) };
 
     /// Returns how many writes have failed so far. The count stays at 18446744073709551615 once it
     /// gets there.
@@ -37,13 +38,14 @@ pub trait Output {
     /// What is known of `after out text`: it took `text` too, and no other write failed. So one
     /// write of several lines is as good as a write for each line.
     ghost after_takes: { (out : Self) (text : List ℕ)
-        → stream (after out text) ≡ extended (stream out) text };
+        → stream (after out text) ≡ stream_after (stream out) text };
 }
 
 /// Writes all of `text`. If a write fails, fails too, and has written a prefix of `text`.
 pub fn write_all<O: Output>(out: &mut O, text: &[u8]) -> Result<(), OutputFault>
-    ensures whole_at_ok { OnOk result (O.stream out.new ≡ extended (O.stream out.old) text.now) }
-    ensures front_at_fault { OnErr result (
+    ensures whole_at_ok { OnOk result (O.stream out.new
+        ≡ stream_after (O.stream out.old) text.now) }
+    ensures prefix_at_fault { OnErr result (
         FailsWithin (O.stream out.old) text.now (O.stream out.new)) }
 {
     let mut written = 0;

@@ -1,7 +1,8 @@
 //! Cuts of a text outside quotes: the parts of a name that is given as text, and of a line of a
 //! table, end at an octet outside quotes.
 ghost use Rattle.std.specs.Prelude.{◌≡◌, MatchOption};
-ghost use Rattle.snmp_io.specs.Quotes.{HasNoneOutside, IsCut, IsFrontOf, is_quote, open_after};
+ghost use Rattle.snmp_io.specs.Quotes.{HasNoneOutside, IsCut, IsUnquotedPrefix, is_quote};
+ghost use Rattle.snmp_io.specs.Quotes.{open_after};
 
 /// Splits `text` at the first octet that equals `stop` and is outside quotes. Returns what is
 /// before and after it, or `None` if there is none. A quote opens with `"` or `'`, and ends with
@@ -30,7 +31,7 @@ pub fn is_quote(octet: u8) -> bool
     octet == b'"' || octet == b'\''
 }
 
-/// [`split_unquoted`] for a text that may have quotes.
+/// Does what [`split_unquoted`] does, for a text that may have quotes.
 fn split_quoted(text: &[u8], stop: u8) -> Option<(&[u8], &[u8])>
     ensures { MatchOption result (HasNoneOutside stop text.now)
         (λ parts. IsCut stop text.now parts.0.now parts.1.now) }
@@ -47,11 +48,11 @@ fn split_quoted(text: &[u8], stop: u8) -> Option<(&[u8], &[u8])>
 
 /// Returns what is before the first octet that equals `stop` and is outside quotes, or all of
 /// `text` if there is none.
-pub fn unquoted_front(text: &[u8], stop: u8) -> &[u8]
-    ensures { IsFrontOf stop text.now result.now }
+pub fn unquoted_prefix(text: &[u8], stop: u8) -> &[u8]
+    ensures { IsUnquotedPrefix stop text.now result.now }
 {
     match split_unquoted(text, stop) {
-        Some((front, _)) => front,
+        Some((prefix, _)) => prefix,
         None => text,
     }
 }

@@ -17,7 +17,7 @@ not_contained xs lacking (i, inside, there) = lacking i inside (sym (get_or_defa
 pub not_empty : (xs : List ℕ) (empty : Bool) → empty ≡ (length xs == 0) → empty ≡ false → xs ≢ []
 not_empty xs empty is off e = let long : length xs ≡ 0 = ap length e in grind (arith, nat_tests)
 
--- the test for a host of a text that isn't empty
+-- a text that isn't empty is a host if and only if no colon is found in it
 pub host_test : (text : List ℕ) (found : Bool) → text ≢ [] → ((found ≡ true → (i : ℕ) × (i < length text) × (slice_index text i ≡ 58))
     × ((i : ℕ) → i < length text → slice_index text i ≡ 58 → found ≡ true)) → IsTrue (not found) ↔ IsHost text
 host_test text true some finds = (
@@ -36,16 +36,16 @@ pub parted : (word : List ℕ) (r : Option (Bor (List ℕ) × Bor (List ℕ))) �
 parted word r split host port at = split_after 58 word host at.digits r split (omega arith) at.parts (clear host at.host_stated.no_colon)
 
 -- if `IsPortOfHost` holds of one host and port only, then `IsHostAndPort` holds of no other
-pub place_only : (word : List ℕ) (r : Option UdpAddress)
+pub address_only : (word : List ℕ) (r : Option UdpAddress)
     → IfSome r (λ at. (host : List ℕ) (port : ℕ) → IsPortOfHost word host port → (host ≡ at.host.now) × (port ≡ at.port))
     → IfSome r (λ at. (host : List ℕ) (port : ℕ) → IsHostAndPort word host port → (host ≡ at.host.now) × (port ≡ at.port))
-place_only word None sole = tt
-place_only word (Some at) sole = λ host port h. sole host port h.2
+address_only word None sole = tt
+address_only word (Some at) sole = λ host port h. sole host port h.2
 
-pub place_none : (word : List ℕ) (r : Option UdpAddress) → IfNone r ((host : List ℕ) (port : ℕ) → IsPortOfHost word host port → ⊥)
+pub address_none : (word : List ℕ) (r : Option UdpAddress) → IfNone r ((host : List ℕ) (port : ℕ) → IsPortOfHost word host port → ⊥)
     → IfNone r ((host : List ℕ) (port : ℕ) → IsHostAndPort word host port → ⊥)
-place_none word (Some at) fails = tt
-place_none word None fails = λ host port h. fails host port h.2
+address_none word (Some at) fails = tt
+address_none word None fails = λ host port h. fails host port h.2
 
 -- if the argument isn't only a host, and `IsPortOfHost` holds of one host and port only, then `IsTarget` holds of no other
 pub target_only : (word : List ℕ) (r : Option UdpAddress) → ¬ (IsHost word)

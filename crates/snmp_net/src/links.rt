@@ -1,6 +1,6 @@
 //! What opens links to agents, and doors: sockets at which a table is served.
 ghost use Rattle.std.specs.Prelude.{◌≡◌, ◌<◌, ◌+◌, [], ℕ, List, IfOk, OnOk, OnErr};
-ghost use Rattle.snmp_io.specs.Count.{HasRisen};
+ghost use Rattle.snmp_io.specs.Count.{HasIncreased};
 ghost use Rattle.snmp_agent.specs.{Reply.Agent, Reply.agent_of, declared.server.Served.Served};
 
 use snmp_agent::{Config, Served, Table};
@@ -53,7 +53,7 @@ pub trait Links {
         ensures fresh { IfOk result (λ wire. (Self.Wire.traffic wire).sent ≡ []) }
         ensures count { OnOk result (fault_count self.new ≡ fault_count self.old) }
         ensures failed { OnErr result (fails self.old self.new) }
-        ensures fault { OnErr result (HasRisen (fault_count self.old) (fault_count self.new)) };
+        ensures fault { OnErr result (HasIncreased (fault_count self.old) (fault_count self.new)) };
 
     /// Closes a link.
     fn close(&mut self, wire: Self::Wire)
@@ -65,7 +65,7 @@ pub trait Links {
         ensures bound { IfOk result (λ door. binds self.old host.now port door self.new) }
         ensures count { OnOk result (fault_count self.new ≡ fault_count self.old) }
         ensures failed { OnErr result (fails self.old self.new) }
-        ensures fault { OnErr result (HasRisen (fault_count self.old) (fault_count self.new)) };
+        ensures fault { OnErr result (HasIncreased (fault_count self.old) (fault_count self.new)) };
 
     /// Serves `table` at `door` for `turns` turns, as [`snmp_agent::serve`] does. A turn waits at
     /// most one second for a request.

@@ -1,6 +1,6 @@
-//! Links and doors over the machine's UDP sockets.
+//! Links to agents, and doors, the sockets of servers, over the machine's UDP sockets.
 ghost use Rattle.std.specs.{Prelude.◌≡◌, Prelude.◌<◌, Prelude.ℕ, Duration.as_nanos};
-ghost use Rattle.snmp_io.specs.Count.{HasRisen};
+ghost use Rattle.snmp_io.specs.Count.{HasIncreased};
 
 use crate::links::Links;
 use crate::udp::{UdpLink, first_address};
@@ -9,7 +9,8 @@ use snmp_walk::LinkFault;
 use std::net::{Net, UdpSocket};
 use std::time::Duration;
 
-/// Links and doors over UDP. Only the number of calls that failed is known.
+/// Links to agents, and doors (the sockets of servers), over UDP. Contracts say nothing of them
+/// but the number of calls that failed.
 #[derive(Drop)]
 pub struct MachineLinks<N> {
     net: N,
@@ -28,7 +29,7 @@ impl<N> MachineLinks<N> {
 
     /// Counts a fault and returns it.
     fn fault(&mut self) -> LinkFault
-        ensures { HasRisen self.old.faults self.new.faults }
+        ensures { HasIncreased self.old.faults self.new.faults }
     {
         self.faults = self.faults.saturating_add(1);
         LinkFault
@@ -62,7 +63,7 @@ impl<N: Net> Links for MachineLinks<N> {
     fn close(&mut self, _wire: UdpLink) {}
 
     fn bind(&mut self, host: &str, port: u16) -> Result<UdpSocket, LinkFault> {
-        match bound(&self.net, host, port) {
+        match bind_socket(&self.net, host, port) {
             Some(socket) => Ok(socket),
             None => Err(self.fault()),
         }
@@ -85,7 +86,7 @@ impl<N: Net> Links for MachineLinks<N> {
 
 /// Returns a socket at the first IPv4 address of `host`, over which a receive waits for a turn's
 /// time. Returns `None` if the host has no such address or the system refuses the socket.
-fn bound<N: Net>(net: &N, host: &str, port: u16) -> Option<UdpSocket> {
+fn bind_socket<N: Net>(net: &N, host: &str, port: u16) -> Option<UdpSocket> {
     let socket = UdpSocket::bind(net, first_address(net, host, port)?).ok()?;
     socket.set_read_timeout(Some(turn_time())).ok()?;
     Some(socket)

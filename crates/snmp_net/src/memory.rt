@@ -1,6 +1,6 @@
 //! Links to agents in the same memory, for tests of walks. All is known of them.
 ghost use Rattle.std.specs.Prelude.{◌≡◌, ◌<◌, ◌≤◌, ℕ, List, Option, IfOk, IfSome, IfNone, length};
-ghost use Rattle.snmp_io.specs.Count.{HasRisen};
+ghost use Rattle.snmp_io.specs.Count.{HasIncreased};
 ghost use Rattle.snmp_net.specs.Memory.{AreServed, BindsAt, OpensTo, agent_at};
 
 use crate::links::Links;
@@ -25,7 +25,8 @@ pub struct MemoryAgent<'a> {
     pub deliveries: &'a [Option<usize>],
 }
 
-/// Links to agents in memory, and doors at which requests arrive from memory.
+/// Links to agents in memory, and doors (in place of the sockets of servers) at which requests
+/// arrive from memory.
 #[derive(Drop)]
 pub struct MemoryLinks<'a> {
     alloc: Global,
@@ -58,7 +59,7 @@ impl<'a> MemoryLinks<'a> {
 
     /// Counts a fault and returns it.
     fn fault(&mut self) -> LinkFault
-        ensures counted { HasRisen self.old.faults self.new.faults }
+        ensures counted { HasIncreased self.old.faults self.new.faults }
         ensures agents { self.new.agents ≡ self.old.agents }
         ensures requests { self.new.requests ≡ self.old.requests }
     {
@@ -69,7 +70,7 @@ impl<'a> MemoryLinks<'a> {
 
 impl<'a> Links for MemoryLinks<'a> {
     ghost use Rattle.std.specs.Prelude.{◌≡◌, ◌+◌};
-    ghost use Rattle.snmp_io.specs.Count.{HasRisenBy};
+    ghost use Rattle.snmp_io.specs.Count.{HasIncreasedBy};
     ghost use Rattle.snmp_agent.specs.Reply.{agent_of};
 
     type Wire = MemoryLink<'a>;
@@ -127,7 +128,7 @@ impl<'a> Links for MemoryLinks<'a> {
         ensures adds_up { result.replies + result.dropped + result.idle + result.faults ≡ turns }
         ensures served { AreServed door.old (agent_of table.now config.now) turns result door.new
             × (self.new ≡ self.old) }
-        ensures faults { HasRisenBy result.faults door.old.faults door.new.faults }
+        ensures faults { HasIncreasedBy result.faults door.old.faults door.new.faults }
         ensures count { self.new.faults ≡ self.old.faults }
     {
         serve_at(door, table, config, turns)
@@ -162,7 +163,7 @@ pub struct MemoryDoor<'a> {
 impl<'a> Endpoint for MemoryDoor<'a> {
     ghost use Rattle.std.specs.Prelude.{◌≡◌, ◌<◌, ◌≤◌, ℕ, List, [], ◌∷◌, length, take};
     ghost use Rattle.std.specs.Prelude.{IfOk, IfSome, IfNone, OnErr, OnOk};
-    ghost use Rattle.snmp_io.specs.Count.{HasRisen};
+    ghost use Rattle.snmp_io.specs.Count.{HasIncreased};
     ghost use Rattle.snmp_agent.specs.Event.{event_of_receive, event_of_reply};
     ghost use Rattle.snmp_net.specs.Memory.{HappensAtDoor, ahead_of};
 
@@ -186,7 +187,7 @@ impl<'a> Endpoint for MemoryDoor<'a> {
             × (ahead_of self.old ≡ request ∷ ahead_of self.new)
             × (length buffer.old < length request)) }
         ensures count { OnOk result (self.new.faults ≡ self.old.faults) }
-        ensures fault { OnErr result (HasRisen self.old.faults self.new.faults) }
+        ensures fault { OnErr result (HasIncreased self.old.faults self.new.faults) }
     {
         let Some(request) = self.requests.get(self.used) else {
             return Ok(None);
@@ -207,7 +208,7 @@ impl<'a> Endpoint for MemoryDoor<'a> {
             self.new }
         ensures ahead { ahead_of self.new ≡ ahead_of self.old }
         ensures count { OnOk result (self.new.faults ≡ self.old.faults) }
-        ensures fault { OnErr result (HasRisen self.old.faults self.new.faults) }
+        ensures fault { OnErr result (HasIncreased self.old.faults self.new.faults) }
     {
         Ok(())
     }

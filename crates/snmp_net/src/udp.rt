@@ -3,7 +3,7 @@ ghost use Rattle.std.specs.Prelude.{◌≡◌, ◌<◌, IfSome, find, true};
 ghost use Rattle.std.specs.declared.net.ip_addr.IpAddr.{IpAddr};
 ghost use Rattle.std.specs.{Net.Grammar.IsIpText, Net.Addr.is_ipv4, Net.ToAddrs.host_addrs};
 ghost use Rattle.std.specs.Net.Socket.{IsPlainSocket, socket_ip};
-ghost use Rattle.snmp_io.specs.Count.{HasRisen};
+ghost use Rattle.snmp_io.specs.Count.{HasIncreased};
 
 use snmp_walk::{Link, LinkFault};
 use std::array;
@@ -34,7 +34,7 @@ impl UdpLink {
     ghost use Rattle.std.specs.declared.net.ip_addr.IpAddr.{IpAddr};
     ghost use Rattle.std.specs.{Net.Grammar.IsIpText, Net.Addr.is_ipv4};
     ghost use Rattle.std.specs.Net.Socket.{IsPlainSocket, socket_ip};
-    ghost use Rattle.snmp_io.specs.Count.{HasRisen};
+    ghost use Rattle.snmp_io.specs.Count.{HasIncreased};
 
     /// Opens a link to the first IPv4 address of `host`. A receive over it waits `seconds`
     /// seconds.
@@ -66,7 +66,7 @@ impl UdpLink {
 
     /// Counts a fault and returns it.
     fn fault(&mut self) -> LinkFault
-        ensures { HasRisen self.old.faults self.new.faults }
+        ensures { HasIncreased self.old.faults self.new.faults }
     {
         self.faults = self.faults.saturating_add(1);
         LinkFault
@@ -79,7 +79,7 @@ impl Link for UdpLink {
     ghost use Rattle.snmp_walk.specs.Traffic.{Traffic};
 
     // Nothing is known of the link but its count of faults.
-    ghost keeps = { λ _. ⊥ };
+    ghost records = { λ _. ⊥ };
 
     ghost honest = { λ _. ⊥ };
 
@@ -91,9 +91,9 @@ impl Link for UdpLink {
 
     ghost ready = { λ _ _ _. ⊥ };
 
-    ghost brings = { λ _ _ _. Unit {0} };
+    ghost delivers = { λ _ _ _. Unit {0} };
 
-    ghost keeping = { λ _ h. h };
+    ghost recording = { λ _ h. h };
 
     ghost lawful = { λ _ h. absurd h };
 

@@ -79,7 +79,7 @@ struct Looped<'a, N> {
 impl<'a, N: Net> Link for Looped<'a, N> {
     ghost use Rattle.std.specs.Prelude.{[]};
 
-    ghost keeps = { λ _. ⊥ };
+    ghost records = { λ _. ⊥ };
 
     ghost honest = { λ _. ⊥ };
 
@@ -91,9 +91,9 @@ impl<'a, N: Net> Link for Looped<'a, N> {
 
     ghost ready = { λ _ _ _. ⊥ };
 
-    ghost brings = { λ _ _ _. Unit {0} };
+    ghost delivers = { λ _ _ _. Unit {0} };
 
-    ghost keeping = { λ _ h. h };
+    ghost recording = { λ _ h. h };
 
     ghost lawful = { λ _ h. absurd h };
 

@@ -104,20 +104,20 @@ to_dot text = take_while (λ octet. not (octet == dot)) text
 to_dot-cons : (octet : ℕ) (rest : List ℕ) → octet ≢ dot → to_dot (octet ∷ rest) ≡ octet ∷ to_dot rest
 to_dot-cons octet rest other = grind (arith, common_steps, ne_eqb, take_while-cons)
 
-taken_front : (part after : List ℕ) → HasNoDot part → to_dot after ≡ [] → to_dot (part ++ after) ≡ part
-taken_front [] after free none = none
-taken_front (octet ∷ part) after free none =
+taken_prefix : (part after : List ℕ) → HasNoDot part → to_dot after ≡ [] → to_dot (part ++ after) ≡ part
+taken_prefix [] after free none = none
+taken_prefix (octet ∷ part) after free none =
     to_dot-cons octet (part ++ after) (All-head (λ octet. octet ≢ dot) octet part free)
-    ∙ ap (λ (s : List ℕ). octet ∷ s) (taken_front part after (All-tail (λ octet. octet ≢ dot) octet part free) none)
+    ∙ ap (λ (s : List ℕ). octet ∷ s) (taken_prefix part after (All-tail (λ octet. octet ≢ dot) octet part free) none)
 
--- `part` is the first part of `here`, and `behind` is what follows its dot, or None if it ends with the text
+-- `part` is the first part of `here`, and `suffix` is what follows its dot, or None if it ends with the text
 abbrev pub Splits : List ℕ → List ℕ → Option (List ℕ) → Type 0
-Splits here part behind = HasNoDot part × MatchOption behind (here ≡ part) (λ rest. here ≡ part ++ dot ∷ rest)
+Splits here part suffix = HasNoDot part × MatchOption suffix (here ≡ part) (λ rest. here ≡ part ++ dot ∷ rest)
 
-pub parts_of : (here part : List ℕ) (behind : Option (List ℕ)) → Splits here part behind → parts here ≡ part ∷ parts_left behind
+pub parts_of : (here part : List ℕ) (suffix : Option (List ℕ)) → Splits here part suffix → parts here ≡ part ∷ parts_left suffix
 parts_of here part None h = ap parts h.1 ∙ parts_of_last part h.0
 parts_of here part (Some rest) h = ap parts h.1 ∙ parts_of_first part rest h.0
 
-pub to_dot_is : (here part : List ℕ) (behind : Option (List ℕ)) → Splits here part behind → take_while (λ octet. not (octet == dot)) here ≡ part
-to_dot_is here part None h = ap to_dot (h.1 ∙ sym (append-nil part)) ∙ taken_front part [] h.0 refl
-to_dot_is here part (Some rest) h = ap to_dot h.1 ∙ taken_front part (dot ∷ rest) h.0 refl
+pub to_dot_is : (here part : List ℕ) (suffix : Option (List ℕ)) → Splits here part suffix → take_while (λ octet. not (octet == dot)) here ≡ part
+to_dot_is here part None h = ap to_dot (h.1 ∙ sym (append-nil part)) ∙ taken_prefix part [] h.0 refl
+to_dot_is here part (Some rest) h = ap to_dot h.1 ∙ taken_prefix part (dot ∷ rest) h.0 refl

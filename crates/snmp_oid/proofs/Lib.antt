@@ -1,7 +1,7 @@
 pub mod Dotted
-pub mod IdentifierLemmas
+pub mod Identifiers
 pub mod Numeral
 pub mod Written
-pub mod Parsing
+pub mod ParseState
 pub mod Rank
-pub mod Comparing
+pub mod Comparisons

@@ -14,7 +14,7 @@ pub record IsReadTo (part left : List ℕ) (number : ℕ) : Type 0 where
   pub digits : all_ascii_digits left ≡ all_ascii_digits part
   pub fits : number < 2 ^ 32
 
--- a number and its next digit, before the remaining digits
+-- the next digit may be counted with the number before it or with the digits after it: the value is the same
 shifted : (number digit power rest : ℕ) → (number * 10 + digit) * power + rest ≡ number * (power * 10) + (digit * power + rest)
 shifted number digit power rest = omega arith
 
@@ -37,34 +37,34 @@ pub read_large : (part rest : List ℕ) (digit number : ℕ) → 2 ^ 32 ≤ numb
     → IsNumeral part n → ⊥
 read_large part rest digit number large h n numeral = grind (arith, common_steps, le-mul_of_pos_right, one-le-pow, value_more)
 
--- the same, with the offset of the next digit
-front_at : (part : List ℕ) (count : ℕ) → count < length part → drop count part ≡ get_or part count 0 ∷ drop (count + 1) part
-front_at part count low = rw (add-one, drop-cons part count 0) refl
+-- what follows `count` octets of a part is the octet at this offset, and then the octets after it
+prefix_at : (part : List ℕ) (count : ℕ) → count < length part → drop count part ≡ get_or part count 0 ∷ drop (count + 1) part
+prefix_at part count low = rw (add-one, drop-cons part count 0) refl
 
 pub read_more_at : (part : List ℕ) (count number : ℕ) → count < length part → is_ascii_digit (get_or part count 0) ≡ true
     → number * 10 + (get_or part count 0 - 48) < 2 ^ 32 → IsReadTo part (drop count part) number
     → IsReadTo part (drop (count + 1) part) (number * 10 + (get_or part count 0 - 48))
-read_more_at part count number low is_digit small h = grind (arith, common_steps, read_more, front_at)
+read_more_at part count number low is_digit small h = grind (arith, common_steps, read_more, prefix_at)
 
 pub read_large_at : (part : List ℕ) (count number : ℕ) → count < length part → 2 ^ 32 ≤ number * 10 + (get_or part count 0 - 48)
     → IsReadTo part (drop count part) number
     → (n : ℕ) → IsNumeral part n → ⊥
 read_large_at part count number low large h =
     read_large part (drop (count + 1) part) (get_or part count 0) number large
-    (rw (front_at part count low) at h)
+    (rw (prefix_at part count low) at h)
 
 -- the first `count` octets of the text are digits that write `number`, whatever follows them
-pub record IsFrontRead (text : List ℕ) (count number : ℕ) : Type 0 where
+pub record IsLeadingNumber (text : List ℕ) (count number : ℕ) : Type 0 where
   pub within : count ≤ length text
   pub read : (rest : List ℕ) → IsReadTo (take count text ++ rest) rest number
 
-pub front_more : (text : List ℕ) (count number : ℕ) → count < length text → is_ascii_digit (get_or text count 0) ≡ true
-    → number * 10 + (get_or text count 0 - 48) < 2 ^ 32 → IsFrontRead text count number
-    → IsFrontRead text (count + 1) (number * 10 + (get_or text count 0 - 48))
-front_more text count number low is_digit small h = grind (arith, common_steps, add-one, take-suc, append_assoc, read_more)
+pub prefix_more : (text : List ℕ) (count number : ℕ) → count < length text → is_ascii_digit (get_or text count 0) ≡ true
+    → number * 10 + (get_or text count 0 - 48) < 2 ^ 32 → IsLeadingNumber text count number
+    → IsLeadingNumber text (count + 1) (number * 10 + (get_or text count 0 - 48))
+prefix_more text count number low is_digit small h = grind (arith, common_steps, add-one, take-suc, append_assoc, read_more)
 
-pub front_numeral : (text : List ℕ) (count number : ℕ) → 0 < count → IsFrontRead text count number → IsNumeral (take count text) number
-front_numeral text count number some h =
+pub prefix_numeral : (text : List ℕ) (count number : ℕ) → 0 < count → IsLeadingNumber text count number → IsNumeral (take count text) number
+prefix_numeral text count number some h =
     let full : length (take count text) ≡ count = length-take-le count text h.within in
     read_all (take count text) number (λ none. omega (arith, ap length none, full))
     (subst (λ (t : List ℕ). IsReadTo t [] number) (append-nil (take count text)) (h.read []))

@@ -7,7 +7,7 @@ use Rattle.std.proofs.lemmas.List.Elements.{All-drop, All-head, All-tail}
 use Rattle.std.specs.{Cmp.Lexicographic.slice_cmp, Ordering.nat_cmp, declared.cmp.Ordering.Ordering}
 use Rattle.std.specs.declared.cmp.Ordering.TheVariants.{Less, Equal, Greater}
 use Rattle.snmp_oid.specs.Identifier.{Precedes, IsIdentifier, rank_in, rank}
-use Rattle.snmp_oid.proofs.IdentifierLemmas.{Says, compared}
+use Rattle.snmp_oid.proofs.Identifiers.{Says, compared}
 
 -- a power of the base is the power before it times the base
 power_step : (digits : ℕ) → 0 < digits → 4294967297 ^ digits ≡ 4294967297 ^ (digits - 1) * 4294967297
@@ -26,34 +26,34 @@ rank_fits digits (n ∷ rest) short small =
     let below = digit_below n 4294967296 (4294967297 ^ (digits - 1)) (rank_in (digits - 1) rest) low first in
     omega (arith, power_step digits (omega arith), below)
 
--- a common prefix changes nothing
-rises_behind : (digits : ℕ) (front s t : List ℕ) → rank_in (digits - length front) s < rank_in (digits - length front) t
-    → rank_in digits (front ++ s) < rank_in digits (front ++ t)
-rises_behind digits [] s t h = let e : digits - 0 ≡ digits = omega arith in rw e at h
-rises_behind digits (k ∷ front) s t h =
-    let e : digits - suc (length front) ≡ digits - 1 - length front = omega arith in
-    let more = rises_behind (digits - 1) front s t (rw e at h) in
+-- if `s` ranks below `t`, then so it does with a common prefix before both
+rises_after : (digits : ℕ) (prefix s t : List ℕ) → rank_in (digits - length prefix) s < rank_in (digits - length prefix) t
+    → rank_in digits (prefix ++ s) < rank_in digits (prefix ++ t)
+rises_after digits [] s t h = let e : digits - 0 ≡ digits = omega arith in rw e at h
+rises_after digits (k ∷ prefix) s t h =
+    let e : digits - suc (length prefix) ≡ digits - 1 - length prefix = omega arith in
+    let more = rises_after (digits - 1) prefix s t (rw e at h) in
     omega arith
 
 some_rank : (digits : ℕ) (rest : List ℕ) → rest ≢ [] → 0 < rank_in digits rest
 some_rank digits [] some = absurd (some refl)
 some_rank digits (m ∷ rest) some = grind (arith, common_steps, one-le-pow, mul-le-mul_right)
 
-rises_at_once : (digits n m : ℕ) (after behind : List ℕ) → length after < digits → All (λ k. k < 2 ^ 32) after → n < m
-    → rank_in digits (n ∷ after) < rank_in digits (m ∷ behind)
-rises_at_once digits n m after behind short small less = grind (arith, common_steps, digit_below, rank_fits)
+rises_at_once : (digits n m : ℕ) (after suffix : List ℕ) → length after < digits → All (λ k. k < 2 ^ 32) after → n < m
+    → rank_in digits (n ∷ after) < rank_in digits (m ∷ suffix)
+rises_at_once digits n m after suffix short small less = grind (arith, common_steps, digit_below, rank_fits)
 
 rank_rises : (o p : List ℕ) → IsIdentifier o → Precedes o p → rank o < rank p
 rank_rises o p is (inl below) =
-    rw below.2 (rw append-nil at (rises_behind 128 o [] below.0 (some_rank (128 - length o) below.0 below.1)))
+    rw below.2 (rw append-nil at (rises_after 128 o [] below.0 (some_rank (128 - length o) below.0 below.1)))
 rank_rises o p is (inr parts) =
-    let count : length o ≡ length parts.front + suc (length parts.after) = ap length parts.this ∙ length-append parts.front (parts.smaller ∷ parts.after) in
-    let tail : drop (length parts.front + 1) o ≡ parts.after =
-    ap (drop (length parts.front + 1)) (parts.this ∙ sym (append_assoc parts.front (parts.smaller ∷ []) parts.after))
-    ∙ drop_at (parts.front ++ parts.smaller ∷ []) parts.after (length parts.front + 1) (length-append parts.front (parts.smaller ∷ [])) in
-    let small = rw tail at (All-drop (λ k. k < 2 ^ 32) (length parts.front + 1) o is.numbers) in
-    rw (parts.this, parts.that) (rises_behind 128 parts.front (parts.smaller ∷ parts.after) (parts.larger ∷ parts.behind)
-    (rises_at_once (128 - length parts.front) parts.smaller parts.larger parts.after parts.behind (omega (arith, count, is.short)) small parts.is_smaller))
+    let count : length o ≡ length parts.prefix + suc (length parts.after) = ap length parts.this ∙ length-append parts.prefix (parts.smaller ∷ parts.after) in
+    let tail : drop (length parts.prefix + 1) o ≡ parts.after =
+    ap (drop (length parts.prefix + 1)) (parts.this ∙ sym (append_assoc parts.prefix (parts.smaller ∷ []) parts.after))
+    ∙ drop_at (parts.prefix ++ parts.smaller ∷ []) parts.after (length parts.prefix + 1) (length-append parts.prefix (parts.smaller ∷ [])) in
+    let small = rw tail at (All-drop (λ k. k < 2 ^ 32) (length parts.prefix + 1) o is.numbers) in
+    rw (parts.this, parts.that) (rises_after 128 parts.prefix (parts.smaller ∷ parts.after) (parts.larger ∷ parts.suffix)
+    (rises_at_once (128 - length parts.prefix) parts.smaller parts.larger parts.after parts.suffix (omega (arith, count, is.short)) small parts.is_smaller))
 
 rank_tells : (o p : List ℕ) (r : Ordering) → Says r o p → IsIdentifier p → rank o < rank p → Precedes o p
 rank_tells o p Less h is less = h

@@ -7,15 +7,15 @@ use Rattle.std.specs.Prelude.{length, All}
 abbrev pub IsBelow : List ℕ → List ℕ → Type 0
 IsBelow o root = (rest : List ℕ) × (rest ≢ []) × (o ≡ root ++ rest)
 
--- o and p have a common prefix (`front`), and the number that follows it is smaller in o
+-- o and p have a common prefix (`prefix`), and the number that follows it is smaller in o
 pub record PartsBelow (o p : List ℕ) : Type 0 where
-  pub front : List ℕ
+  pub prefix : List ℕ
   pub smaller : ℕ
   pub larger : ℕ
   pub after : List ℕ
-  pub behind : List ℕ
-  pub this : o ≡ front ++ smaller ∷ after
-  pub that : p ≡ front ++ larger ∷ behind
+  pub suffix : List ℕ
+  pub this : o ≡ prefix ++ smaller ∷ after
+  pub that : p ≡ prefix ++ larger ∷ suffix
   pub is_smaller : smaller < larger
 
 -- o comes before p: it is a proper prefix of p, or has the smaller number at the first index at

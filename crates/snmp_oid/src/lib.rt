@@ -23,7 +23,7 @@ mod oid;
 mod stored;
 
 pub use numeric::{
-    LONGEST_TEXT, OidTextError, front_number, parse_number, parse_numeric, read_numeric,
+    LONGEST_TEXT, OidTextError, leading_number, parse_number, parse_numeric, read_numeric,
     write_numeric,
 };
 pub use oid::{MAX_LEN, Oid, OidError, compare_numbers};

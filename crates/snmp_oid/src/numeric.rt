@@ -139,14 +139,15 @@ fn read_three<'a>(text: &'a [u8], oid: &mut Oid) -> Option<&'a [u8]>
 fn read_part(text: &[u8]) -> (Option<u32>, Option<&[u8]>)
     ensures { IsPartRead text.now result.0 (option_map (λ rest. rest.now) result.1) }
 {
-    match front_number(text) {
+    match leading_number(text) {
         Some((number, after)) => (Some(number), after),
         None => read_other_part(text),
     }
 }
 
-/// [`read_part`] for any part. A function of its own for its call of [`read_any_part`]: each turn
-/// of a loop zeroes the result of a call in its body, even if the call isn't made.
+/// Does what [`read_part`] does, for any part. It is a function of its own because it calls
+/// [`read_any_part`]: each turn of a loop zeroes the result of a call in its body, even if the
+/// call isn't made.
 #[inline(always)]
 fn read_other_part(text: &[u8]) -> (Option<u32>, Option<&[u8]>)
     ensures { IsPartRead text.now result.0 (option_map (λ rest. rest.now) result.1) }
@@ -155,12 +156,12 @@ fn read_other_part(text: &[u8]) -> (Option<u32>, Option<&[u8]>)
     (number, after)
 }
 
-/// Returns the number of the first part of `text`; and what follows the dot that ends the part, or
-/// `None` if it ends with the text. Reads each numeral below 4000000000, fastest if it is one
+/// Reads the number before the first dot of `text`. Returns it with the text after the dot, or
+/// with `None` if there is no dot. Each numeral below 4000000000 is read, fastest if it is one
 /// digit before a dot. A result of `None` says nothing about `text`.
 // Hot: callers run it for each number of a name.
 #[inline(always)]
-pub fn front_number(text: &[u8]) -> Option<(u32, Option<&[u8]>)>
+pub fn leading_number(text: &[u8]) -> Option<(u32, Option<&[u8]>)>
     ensures { IfSome result
         (λ read. IsPartRead text.now (Some read.0) (option_map (λ rest. rest.now) read.1)) }
 {
@@ -172,7 +173,7 @@ pub fn front_number(text: &[u8]) -> Option<(u32, Option<&[u8]>)>
     }
 }
 
-/// [`front_number`] for a part that isn't one digit before a dot.
+/// Does what [`leading_number`] does, for a part that isn't one digit before a dot.
 // Hot: runs for each number of two or more digits, and for the last one of a name.
 #[inline(always)]
 fn read_two_digits(text: &[u8]) -> Option<(u32, Option<&[u8]>)>
@@ -187,7 +188,7 @@ fn read_two_digits(text: &[u8]) -> Option<(u32, Option<&[u8]>)>
     }
 }
 
-/// [`front_number`] for a part that isn't one or two digits before a dot.
+/// Does what [`leading_number`] does, for a part that isn't one or two digits before a dot.
 // Hot: runs for each number of three or more digits, and for the last one of a name.
 #[inline(always)]
 fn read_three_digits(text: &[u8]) -> Option<(u32, Option<&[u8]>)>
@@ -226,7 +227,7 @@ fn three_digits(hundreds: u8, tens: u8, ones: u8) -> u32
     u32::from(hundreds - b'0') * 100 + u32::from(tens - b'0') * 10 + u32::from(ones - b'0')
 }
 
-/// [`front_number`] for any number of digits.
+/// Does what [`leading_number`] does, for any number of digits.
 // Hot: runs for each number of four or more digits. One pass reads the digits and finds their end.
 #[inline(always)]
 fn read_digits(text: &[u8]) -> Option<(u32, Option<&[u8]>)>
@@ -253,7 +254,7 @@ fn read_digits(text: &[u8]) -> Option<(u32, Option<&[u8]>)>
     }
 }
 
-/// [`read_part`] for any part: looks for the end of the part first.
+/// Does what [`read_part`] does, for any part: looks for the end of the part first.
 #[cold]
 #[inline(never)]
 fn read_any_part(text: &[u8]) -> (Option<u32>, Option<&[u8]>)

@@ -187,7 +187,7 @@ impl Oid {
     }
 
     /// Returns whether the identifier begins with these numbers and is longer.
-    #[tactic(auto, using(std::proofs::lemmas::Grind::common_steps, crate::proofs::IdentifierLemmas::fronts))]
+    #[tactic(auto, using(std::proofs::lemmas::Grind::common_steps, crate::proofs::Identifiers::prefixes))]
     pub fn is_below_numbers(&self, root: &[u32]) -> bool
         ensures { IsTrue result ↔ IsBelow self.now root.now }
     {
@@ -212,7 +212,7 @@ impl Oid {
         ensures variant { IsOk result ↔ IsWire (wire self.now) }
         ensures err { IfErr result (λ e. e ≡ OidError.NotWire) }
     {
-        let padded = self.padded();
+        let padded = self.pad_to_wire();
         if padded.is_wire() {
             Ok(padded)
         } else {
@@ -221,7 +221,7 @@ impl Oid {
     }
 
     /// Returns the identifier padded with zeros to two numbers.
-    fn padded(&self) -> Oid
+    fn pad_to_wire(&self) -> Oid
         ensures { result ≡ wire self.now }
     {
         let made = match self.as_slice() {
@@ -242,7 +242,7 @@ impl Oid {
 ///
 /// A law: the call does nothing, and its caller may use what it ensures.
 #[inline]
-#[tactic(auto, using(crate::proofs::IdentifierLemmas::ordered_less, crate::proofs::IdentifierLemmas::ordered_equal, crate::proofs::IdentifierLemmas::ordered_greater))]
+#[tactic(auto, using(crate::proofs::Identifiers::ordered_less, crate::proofs::Identifiers::ordered_equal, crate::proofs::Identifiers::ordered_greater))]
 pub fn order()
     ensures less { (o p : List ℕ) → (⟦<Oid as Ord>⟧.cmp o p ≡ Ordering.Less) ↔ Precedes o p }
     ensures equal { (o p : List ℕ) → (⟦<Oid as Ord>⟧.cmp o p ≡ Ordering.Equal) ↔ (o ≡ p) }
@@ -253,7 +253,7 @@ pub fn order()
 /// Returns how identifiers of the numbers `o` and `p` compare ([`order`]). Tests the first eight
 /// numbers without a loop, since most names of one table begin with the same eight.
 #[inline]
-#[tactic(auto, using(crate::proofs::Comparing::first_decides, crate::proofs::Comparing::one_more_alike, crate::proofs::Comparing::longer_after))]
+#[tactic(auto, using(crate::proofs::Comparisons::first_decides, crate::proofs::Comparisons::one_more_alike, crate::proofs::Comparisons::longer_after))]
 pub fn compare_numbers(o: &[u32], p: &[u32]) -> Ordering
     ensures { result ≡ slice_cmp nat_cmp o.now p.now }
 {
@@ -271,7 +271,7 @@ pub fn compare_numbers(o: &[u32], p: &[u32]) -> Ordering
 // `inline(always)`: it runs at each comparison of a search, and a call would cost as much as the
 // body.
 #[inline(always)]
-#[tactic(auto, using(crate::proofs::Comparing::eight_alike))]
+#[tactic(auto, using(crate::proofs::Comparisons::eight_alike))]
 fn begin_alike(o: &[u32], p: &[u32]) -> bool
     ensures { result ≡ true → (8 ≤ length o.now) × (8 ≤ length p.now)
         × (take 8 o.now ≡ take 8 p.now) }

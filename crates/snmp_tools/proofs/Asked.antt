@@ -10,10 +10,10 @@ use Rattle.snmp_io.specs.Output.{Stream}
 use Rattle.snmp_wire.specs.{Canon.canon, Message.VarBind}
 use Rattle.snmp_agent.specs.{table.Exact.HasOne, table.Listing.variables}
 use Rattle.snmp_agent.specs.table.Table.{MibView, IsMibView, IsGet, IsRow}
-use Rattle.snmp_walk.specs.Facts.{GivenFacts, HasNone, IsDone, IsDoneOrStopped, IsLawfulEnd, WalkFacts, walk_at}
+use Rattle.snmp_walk.specs.Facts.{ReplyFacts, HasNone, IsDone, IsDoneOrStopped, IsLawfulEnd, WalkFacts, walk_at}
 use Rattle.snmp_walk.specs.Get.{GetFacts, IsEndOfGet, IsLostGet, IsTooBig}
-use Rattle.snmp_walk.specs.{Link.Agents, Link.IsUnanswered, Link.OneOf, Names.comes_after, Ran.IsHonestFrom, Traffic.Lost, Traffic.Traffic}
-use Rattle.snmp_walk.specs.{Walker.Walker, declared.end.WalkEnd.WalkEnd, declared.link.Link.Ghosts as LinkFacts, declared.mode.Mode.Mode}
+use Rattle.snmp_walk.specs.{Link.Agents, Link.IsUnanswered, Link.OneOf, Names.comes_after, RunResult.IsHonestFrom, Traffic.Lost, Traffic.Traffic}
+use Rattle.snmp_walk.specs.{WalkState.WalkState, declared.end.WalkEnd.WalkEnd, declared.link.Link.Ghosts as LinkFacts, declared.mode.Mode.Mode}
 use Rattle.snmp_walk.specs.{Room.HasRoomForEach, Tables.HasRoomInEach, Tables.of_table}
 use Rattle.snmp_walk.specs.Walk.{or_only, rest_of, rows_below, rows_named, walk_from, walk_of}
 use Rattle.snmp_walk.specs.declared.end.SinkFault.TheVariants as sink
@@ -49,7 +49,7 @@ no_link ending.Link h = cc
 no_link end h = cc
 
 -- if a walk is done, its end holds the number of rows given
-counts_rows : (plan : Plan) (view : MibView) (first : Walker) (rows : List VarBind) (end : WalkEnd)
+counts_rows : (plan : Plan) (view : MibView) (first : WalkState) (rows : List VarBind) (end : WalkEnd)
     → IsLawfulEnd (agent_over plan view) (HasNone (agent_over plan view)) first rows end → Counts end (length rows)
 counts_rows plan view first rows (ending.Done n) h = h.5.0
 counts_rows plan view first rows end h = tt
@@ -78,14 +78,14 @@ after_wire [] o long (x ∷ [], some, e) = let short : length o ≡ 1 = ap lengt
 after_wire [] o long (x ∷ y ∷ [], some, e) = let short : length o ≡ 2 = ap length e in absurd (omega (arith, long, short))
 after_wire [] o long (zero ∷ zero ∷ z ∷ rest, some, e) = inl (z ∷ rest, λ h. cc, e)
 after_wire [] o long (zero ∷ suc k ∷ z ∷ rest, some, e) =
-    inr record { front = 0 ∷ []; smaller = 0; larger = suc k; after = []; behind = z ∷ rest; this = refl; that = e; is_smaller = omega arith }
+    inr record { prefix = 0 ∷ []; smaller = 0; larger = suc k; after = []; suffix = z ∷ rest; this = refl; that = e; is_smaller = omega arith }
 after_wire [] o long (suc k ∷ y ∷ z ∷ rest, some, e) =
-    inr record { front = []; smaller = 0; larger = suc k; after = 0 ∷ []; behind = y ∷ z ∷ rest; this = refl; that = e; is_smaller = omega arith }
+    inr record { prefix = []; smaller = 0; larger = suc k; after = 0 ∷ []; suffix = y ∷ z ∷ rest; this = refl; that = e; is_smaller = omega arith }
 after_wire (a ∷ []) o long ([], some, e) = absurd (some refl)
 after_wire (a ∷ []) o long (y ∷ [], some, e) = let short : length o ≡ 2 = ap length e in absurd (omega (arith, long, short))
 after_wire (a ∷ []) o long (zero ∷ z ∷ rest, some, e) = inl (z ∷ rest, λ h. cc, e)
 after_wire (a ∷ []) o long (suc k ∷ z ∷ rest, some, e) =
-    inr record { front = a ∷ []; smaller = 0; larger = suc k; after = []; behind = z ∷ rest; this = refl; that = e; is_smaller = omega arith }
+    inr record { prefix = a ∷ []; smaller = 0; larger = suc k; after = []; suffix = z ∷ rest; this = refl; that = e; is_smaller = omega arith }
 
 -- `rest_of` has just the rows that are below the root and after the name `o`
 abbrev pub LeftAreRows : Type 0
@@ -95,7 +95,7 @@ LeftAreRows = (view : MibView) (root o : List ℕ) (p : VarBind) → IsMibView v
 
 -- the rows given and refused are a prefix of the answer, and those given are all of it at `Done`
 pub record GivesRows (question : Question) (view : MibView) (given refused : List VarBind) (end : WalkEnd) : Type 0 where
-  pub front : (rows : List VarBind) → AreRowsOf question view rows → (more : List VarBind) × (rows ≡ (given ++ refused) ++ more)
+  pub prefix : (rows : List VarBind) → AreRowsOf question view rows → (more : List VarBind) × (rows ≡ (given ++ refused) ++ more)
   pub whole : (rows : List VarBind) → AreRowsOf question view rows → IsDone end → given ≡ rows
 
 module _ (below : BelowAreRows) (left : LeftAreRows) (one_get : (view : MibView) (o : List ℕ) → HasOne (IsGet view o)) (view : MibView)
@@ -103,10 +103,10 @@ module _ (below : BelowAreRows) (left : LeftAreRows) (one_get : (view : MibView)
   is_after : (root : List ℕ) (p : VarBind) → OneOf (rows_below root (variables view)) p → comes_after (wire root) p.name ≡ true
   is_after root p one =
       let is = (below view root p good).0 one in
-      let behind : Precedes (wire root) p.name = after_wire root p.name (good.names p is.0).long is.1 in
+      let suffix : Precedes (wire root) p.name = after_wire root p.name (good.names p is.0).long is.1 in
       let after : VarBind → Bool = λ row. comes_after (wire root) row.name in
       All-contains (λ row. after row ≡ true) (rest_of root (wire root) (variables view)) p (filter_passes after (rows_below root (variables view)))
-      (one_is_contained (rest_of root (wire root) (variables view)) p ((left view root (wire root) p good).1 (is.0, is.1, behind)))
+      (one_is_contained (rest_of root (wire root) (variables view)) p ((left view root (wire root) p good).1 (is.0, is.1, suffix)))
 
   rest_is : (root : List ℕ) → rest_of root (wire root) (variables view) ≡ rows_below root (variables view)
   rest_is root = all_pass (λ row. comes_after (wire root) row.name) (rows_below root (variables view)) (is_after root)
@@ -123,10 +123,10 @@ module _ (below : BelowAreRows) (left : LeftAreRows) (one_get : (view : MibView)
   begun_rows (Some after) community w rows are = let one = one_get view (wire after) in (one.0, one.1, are)
 
   -- a walk over agents that have only this table gives rows of it
-  pub walk_rows : (agents : Agents) → agents.tables ≡ view ∷ [] → (Silent : Walker → Type 0) (community : List ℕ) (w : Walk) (given refused : List VarBind)
-      (end : WalkEnd) → GivenFacts agents Silent (first_of community w) given refused end → GivesRows (subtree w) view given refused end
+  pub walk_rows : (agents : Agents) → agents.tables ≡ view ∷ [] → (Silent : WalkState → Type 0) (community : List ℕ) (w : Walk) (given refused : List VarBind)
+      (end : WalkEnd) → ReplyFacts agents Silent (first_of community w) given refused end → GivesRows (subtree w) view given refused end
   walk_rows agents single Silent community w given refused end facts = record {
-    front = λ rows are.
+    prefix = λ rows are.
         let b = begun_rows w.after community w rows are in
         let rest = facts.beginning view b.0 single b.1 in
         (rest.0, b.2 ∙ rest.1);
@@ -163,7 +163,7 @@ module _ (below : BelowAreRows) (left : LeftAreRows) (one_get : (view : MibView)
 
       is_got : IsAsked plan (names os) view rows refused (end_in_memory end)
       is_got = record {
-        front = λ all are. facts.given.beginning view all refl are;
+        prefix = λ all are. facts.given.beginning view all refl are;
         whole = λ all are done. facts.given.all_at_done view all refl are (done_in end done);
         linked = no_link end;
         reason = ends_in end refl facts.given.ends;
@@ -186,7 +186,7 @@ module _ (below : BelowAreRows) (left : LeftAreRows) (one_get : (view : MibView)
 
       is_walked : IsAsked plan (subtree w) view rows refused (end_in_memory end)
       is_walked = record {
-        front = gave_walk.front;
+        prefix = gave_walk.prefix;
         whole = λ all are done. gave_walk.whole all are (done_in end done);
         linked = no_link end;
         reason = (lawful, counts_rows plan view (first_of plan.community w) rows (end_in_memory end) lawful);

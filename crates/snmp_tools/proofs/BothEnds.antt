@@ -8,25 +8,25 @@ use Rattle.smi_names.specs.declared.nodes.warning.Warning.{Warning}
 use Rattle.smi_tree.specs.{Tree.Contents}
 use Rattle.snmp_agent.specs.{Event.Event, Event.InTurn, Serving.AreTurns, table.Exact.HasOne, table.Format.Names, table.Stated.AreTableBy}
 use Rattle.snmp_agent.specs.{table.Stated.IsTableOf, table.Table.IsGet, table.Table.IsMibView, table.Table.MibView}
-use Rattle.snmp_io.specs.{Files.Holdings, Files.Holds, Files.MayHold, Output.TakesFront, Output.extended, Streams.nothing_taken}
+use Rattle.snmp_io.specs.{Files.Holdings, Files.Holds, Files.MayHold, Output.TakesPrefix, Output.stream_after, Streams.nothing_taken}
 use Rattle.snmp_net.specs.{Address.table, Address.udp, declared.links.Links.Ghosts as Network}
-use Rattle.snmp_walk.specs.{Link.Agents, Link.AreLawful, Standing.CountsAll, Tries.Happens, declared.end.WalkEnd.WalkEnd}
+use Rattle.snmp_walk.specs.{Link.Agents, Link.AreLawful, Progress.CountsAll, Tries.Happens, declared.end.WalkEnd.WalkEnd}
 use Rattle.snmp_walk.specs.declared.link.Link.{Ghosts as LinkFacts}
 use Rattle.snmp_walk.specs.Network.{AreReplies, AreServed, Happening, IsFaithful, of_agents, of_walk}
 use Rattle.snmp_walk.specs.declared.end.WalkEnd.TheVariants as ending
 use Rattle.snmp_wire.specs.Message.{VarBind}
 use Rattle.snmp_words.specs.Words.{ServeWords, StateJob, Stated, StatesNumber, readings, snmpd, stated_among}
-use Rattle.snmp_tools.specs.serve.Outcome as serve
-use Rattle.snmp_tools.specs.{serve.Outcome.IsServedBy, serve.Outcome.IsServeOutcome, serve.Outcome.listening_line, serve.Service.IsPlaced}
-use Rattle.snmp_tools.specs.{serve.Service.served_agent, serve.TableFile.HasTable, load.Loaded.LoadFacts, Headline.IsWholeText, Message.Fault}
-use Rattle.snmp_tools.specs.{load.Loaded.AreLoaded, Seen.Seen, Done.IsServeRun, Outcome.IsOutcome, Outcome.IsOutcomeBy, Outcome.IsRun}
-use Rattle.snmp_tools.specs.{Outcome.IsShownOver, Answer.AreRowsOf, Answer.Counts, Answer.IsAskedOver}
+use Rattle.snmp_tools.specs.serve.ServeResult as serve
+use Rattle.snmp_tools.specs.{serve.ServeResult.IsServedBy, serve.ServeResult.IsServeOutcome, serve.ServeResult.listening_line, serve.Service.IsPlaced}
+use Rattle.snmp_tools.specs.{serve.Service.served_agent, serve.TableFile.HasTable, load.Loaded.LoadFacts, Headline.IsWholeText, FaultText.Fault}
+use Rattle.snmp_tools.specs.{load.Loaded.AreLoaded, Seen.Seen, Done.IsServeRun, AskResult.IsOutcome, AskResult.IsOutcomeBy, AskResult.IsRun}
+use Rattle.snmp_tools.specs.{AskResult.IsShownOver, Answer.AreRowsOf, Answer.Counts, Answer.IsAskedOver}
 use Rattle.snmp_tools.specs.BothEnds as ends
 use Rattle.snmp_tools.specs.BothEnds.{AreEndsOfOneRun, IsAskOfServer, IsAtAsker, IsAtServer, PrintsServed, ServesInTurn, events_of}
-use Rattle.snmp_tools.specs.Outcome as outcome
+use Rattle.snmp_tools.specs.AskResult as outcome
 use Rattle.snmp_tools.specs.Question.{AskFor, AskWords, IsPlanFor, Plan, Question, counts_in, names, subtree}
 use Rattle.snmp_tools.proofs.{Asked.GivesRows, Asked.LeftAreRows, Asked.walk_rows, TableNames.OneMeaning, TableNames.one_look_up}
-use Rattle.snmp_tools.proofs.{TableWalks.BelowAreRows, Outcomes.IsFrontOf, Outcomes.finished, Outcomes.no_fault_at_0}
+use Rattle.snmp_tools.proofs.{TableWalks.BelowAreRows, Outcomes.IsPrefixOfLines, Outcomes.finished, Outcomes.no_fault_at_0}
 use Rattle.snmp_tools.proofs.Plans.{OneList, OneTree, held_is, one_load, one_plan}
 
 -- ---- the greatest size in a command line
@@ -74,7 +74,7 @@ module _ (below : BelowAreRows) (left : LeftAreRows) (one_get : (view : MibView)
     counted = λ e. let no : ⊥ = cc in absurd no;
     replied = λ agents single lawful replies.
         let got = run.happened.replied agents lawful replies in
-        record { front = λ rows are. got.beginning view rows single are; whole = λ rows are done. got.all_at_done view rows single are done };
+        record { prefix = λ rows are. got.beginning view rows single are; whole = λ rows are done. got.all_at_done view rows single are done };
   }
   heard (subtree w) run = record {
     in_turn = run.happened.in_turn;
@@ -110,8 +110,8 @@ server_agents words view = record { tables = view ∷ []; community = words.comm
 module _ {N V D P E : Type 0} (net : Network N V D) (endpoint_at : D → E) (happens : E → Event P → E → Type 0) (words : ServeWords) where
   are_served : (view : MibView) (before after : Seen N) (status : ℕ) (events : List (Event P)) (run : List (Happening P)) → of_agents run ≡ events
       → IsAtServer net endpoint_at happens words view before after status events → AreServed (server_agents words view) run
-  are_served view before after status events run same (ends.unserved none front not_0) = grind (arith, common_steps)
-  are_served view before after status events run same (ends.served at door later opened counts fault warned bound made turns printed told) = record {
+  are_served view before after status events run same (ends.unserved none prefix not_0) = grind (arith, common_steps)
+  are_served view before after status events run same (ends.served at door later opened counts fault warned bound made turns printed was_reported) = record {
     services = record { view = view; turns = words.turns; served = counts; events = events } ∷ [];
     each = (inl refl, turns.0, tt);
     in_turn = same ∙ sym (append-nil events);
@@ -132,11 +132,11 @@ module _ {N V D P E : Type 0} (net : Network N V D) (endpoint_at : D → E) (hap
     not_0 why is zero_status =
         let none : run.fault ≡ None = no_fault_at_0 run.fault run.warned after.err status run.reported zero_status in let no : ⊥ = cc in no
 
-    not_served : (why : Fault) → TakesFront before.out (listening_line words.listen) after.out → run.fault ≡ Some why → AtServer
-    not_served why front is = ([], ends.unserved refl front (not_0 why is))
+    not_served : (why : Fault) → TakesPrefix before.out (listening_line words.listen) after.out → run.fault ≡ Some why → AtServer
+    not_served why prefix is = ([], ends.unserved refl prefix (not_0 why is))
 
-    nothing_told : (why : Fault) → after.out ≡ before.out → run.fault ≡ Some why → AtServer
-    nothing_told why same is = not_served why (nothing_taken before.out after.out (listening_line words.listen) same) is
+    nothing_reported : (why : Fault) → after.out ≡ before.out → run.fault ≡ Some why → AtServer
+    nothing_reported why same is = not_served why (nothing_taken before.out after.out (listening_line words.listen) same) is
 
     module _ (at : IsPlaced words) (tree : Contents) (nodes_are : nodes ≡ tree) where
       view_is : (other : MibView) → HasTable before.files tree words.table other → other ≡ view
@@ -145,9 +145,9 @@ module _ {N V D P E : Type 0} (net : Network N V D) (endpoint_at : D → E) (hap
           (subst (λ (m : Contents). HasTable before.files m words.table view) nodes_are has)
 
       by_door : IsServedBy net words at.host at.port tree (record before { err = run.warned }) End run.fault → AtServer
-      by_door (serve.refused why refusal same is) = nothing_told why (ap (λ (s : Seen N). s.out) same) is
-      by_door (serve.not_bound other states fails risen same is) = nothing_told _ (ap (λ (s : Seen N). s.out) same) is
-      by_door (serve.bound other door opened states bound same (inl (inl (nothing, is), left))) = nothing_told _ nothing is
+      by_door (serve.refused why refusal same is) = nothing_reported why (ap (λ (s : Seen N). s.out) same) is
+      by_door (serve.not_bound other states fails risen same is) = nothing_reported _ (ap (λ (s : Seen N). s.out) same) is
+      by_door (serve.bound other door opened states bound same (inl (inl (nothing, is), left))) = nothing_reported _ nothing is
       by_door (serve.bound other door opened states bound same (inl (inr (fails, is), left))) = not_served _ fails.begun is
       by_door (serve.bound other door opened states bound same (inr (counts, (later, made), adds_up, printed))) =
           let s = serves opened door (served_agent words other) words.turns counts after.links later made in (
@@ -158,7 +158,7 @@ module _ {N V D P E : Type 0} (net : Network N V D) (endpoint_at : D → E) (hap
           )
 
     at_server : IsServeOutcome net Loads words before End run.fault → AtServer
-    at_server (serve.not_loaded why refusal same is) = nothing_told why (ap (λ (s : Seen N). s.out) same) is
+    at_server (serve.not_loaded why refusal same is) = nothing_reported why (ap (λ (s : Seen N). s.out) same) is
     at_server (serve.loaded at tree load made by) =
         let same = one_load one_list one_tree before.files words.mibs nodes tree warnings load.warnings known load.loaded in
         by_door at tree same.0 by
@@ -212,11 +212,11 @@ module _ (below : BelowAreRows) (left : LeftAreRows) (one_get : (view : MibView)
     at_asker = end (ask_not_0 why is);
     served = served_end.0;
     at_server = served_end.1;
-    front_written = λ ends_are. ([], rows, [], refl, inl refl, nothing_taken before.out after.out [] same);
+    prefix_written = λ ends_are. ([], rows, [], refl, inl refl, nothing_taken before.out after.out [] same);
     all_written_at_status_0 = λ ends_are zero_status. absurd (ask_not_0 why is zero_status);
   }
 
-  -- no link was opened
+  -- if no link was opened and nothing was printed, then what is promised of both ends holds, as nothing was asked
   not_opened : (why : Fault) → (after.links ≡ before.links) ⊎ net.fails before.links after.links → after.out ≡ before.out → run.fault ≡ Some why → Both
   not_opened why left same is = nothing_asked why (λ not_0. ends.not_linked refl left same not_0) same is
 
@@ -228,8 +228,8 @@ module _ (below : BelowAreRows) (left : LeftAreRows) (one_get : (view : MibView)
     plan_is = one_plan one words mib ask.plan plan (subst (λ (m : Contents). AskFor words m ask.plan) mib_is ask.asked) for.asked for.only
 
     abbrev Written : Contents → Plan → Type 0
-    Written m p = IsFrontOf m p.letters (counts_in p.question) rows before.out after.out
-        × (run.fault ≡ None → (text : List ℕ) × IsWholeText m p rows text × (after.out ≡ extended before.out text))
+    Written m p = IsPrefixOfLines m p.letters (counts_in p.question) rows before.out after.out
+        × (run.fault ≡ None → (text : List ℕ) × IsWholeText m p rows text × (after.out ≡ stream_after before.out text))
 
     of_ask : Written mib plan → Written ask.mib ask.plan
     of_ask w = subst (λ (m : Contents). Written m ask.plan) (sym mib_is) (subst (Written mib) (sym plan_is) w)
@@ -267,7 +267,7 @@ module _ (below : BelowAreRows) (left : LeftAreRows) (one_get : (view : MibView)
           let gave = here.replied Agent refl lawful replies in
           of_ask
           (finished mib plan.letters words.asking.agent before.out rows (counts_in plan.question) shown.given shown.refused shown.end shown.between after.out
-          run.fault shown.lines shown.finish here.counted (gave.whole rows rows_are) (gave.front rows rows_are))
+          run.fault shown.lines shown.finish here.counted (gave.whole rows rows_are) (gave.prefix rows rows_are))
 
       over_link : Both
       over_link = record {
@@ -275,27 +275,27 @@ module _ (below : BelowAreRows) (left : LeftAreRows) (one_get : (view : MibView)
         at_asker = at_asker;
         served = served_end.0;
         at_server = served_end.1;
-        front_written = λ are. (written are).0;
+        prefix_written = λ are. (written are).0;
         all_written_at_status_0 = λ are zero_status.
             (written are).1 (no_fault_at_0 run.fault run.warned after.err status run.reported zero_status);
       }
 
-  told_by : (mib : Contents) → ask.mib ≡ mib → IsOutcomeBy net wire words mib (record before { err = run.warned }) AskEnd run.fault → Both
-  told_by mib same_mib (outcome.refused why refusal same is) = unchanged why same is
-  told_by mib same_mib (outcome.not_begun why last plan for (inl (path, over, same)) is) = unchanged why same is
-  told_by mib same_mib (outcome.not_begun why last plan for (inr (host, port, over, opened)) is) =
+  reported_by : (mib : Contents) → ask.mib ≡ mib → IsOutcomeBy net wire words mib (record before { err = run.warned }) AskEnd run.fault → Both
+  reported_by mib same_mib (outcome.refused why refusal same is) = unchanged why same is
+  reported_by mib same_mib (outcome.not_begun why last plan for (inl (path, over, same)) is) = unchanged why same is
+  reported_by mib same_mib (outcome.not_begun why last plan for (inr (host, port, over, opened)) is) =
       let agent : ask.plan.agent ≡ udp host port = ap (λ (p : Plan). p.agent) (plan_is mib same_mib plan for) ∙ over in
       let same : after.out ≡ before.out = ap (λ (s : Seen N). s.out) opened.unchanged in
       nothing_asked why (λ not_0. ends.not_asked refl host port agent opened.link opened.unused same not_0) same is
-  told_by mib same_mib (outcome.asked plan path view for over states sent printed same) = absurd (no_file mib same_mib plan for path over)
-  told_by mib same_mib (outcome.not_linked plan host port for over fails risen same is) = not_opened _ (inr fails) same is
-  told_by mib same_mib (outcome.asked_over plan host port for over sent shown same) = over_link mib same_mib plan for host port over shown
+  reported_by mib same_mib (outcome.asked plan path view for over states sent printed same) = absurd (no_file mib same_mib plan for path over)
+  reported_by mib same_mib (outcome.not_linked plan host port for over fails risen same is) = not_opened _ (inr fails) same is
+  reported_by mib same_mib (outcome.asked_over plan host port for over sent shown same) = over_link mib same_mib plan for host port over shown
 
   both_ends : IsOutcome net wire Loads words before AskEnd run.fault → Both
   both_ends (outcome.not_loaded why early same is) =
       not_opened why (inl (ap (λ (s : Seen N). s.links) same)) (ap (λ (s : Seen N). s.out) same) is
   both_ends (outcome.loaded mib warnings loading made written by) =
-      told_by mib (one_load one_list one_tree before.files words.asking.mibs ask.mib mib ask.warnings warnings ask.known loading).0 by
+      reported_by mib (one_load one_list one_tree before.files words.asking.mibs ask.mib mib ask.warnings warnings ask.known loading).0 by
 
   pub prints_served : Both
   prints_served = both_ends run.outcome

@@ -10,7 +10,7 @@ use Rattle.snmp_io.specs.Steps.{AreDone}
 use Rattle.snmp_tools.specs.Letters.{AreLettersIn, AreRepetitions, Choices, HaveChosen, IsFirstUnknown, IsKnown, IsLastNumber, IsPlain, IsUnknown}
 use Rattle.snmp_tools.specs.Letters.{has, no_choices}
 use Rattle.snmp_tools.specs.private.Choosing.{OneMore, letter_parts, put}
-use Rattle.snmp_tools.proofs.LetterLemmas.{NoDigitFirst, at_place, no_digit_at}
+use Rattle.snmp_tools.proofs.LetterOffsets.{NoDigitFirst, at_index, no_digit_at}
 
 abbrev Part : Type 0
 Part = ℕ × List ℕ
@@ -22,10 +22,10 @@ abbrev Parted : List ℕ → List ℕ × List Part → Type 0
 Parted text parts = (rest : List ℕ) × (text ≡ parts.0 ++ rest) × (list_all is_ascii_digit parts.0 ≡ true) × AreLettersIn rest parts.1
 
 put_parted : (octet : ℕ) (text : List ℕ) (parts : List ℕ × List Part) → Parted text parts → Parted (octet ∷ text) (put octet parts)
-put_parted octet text (front, letters) (rest, e, all, are) = at (is_ascii_digit octet) refl
+put_parted octet text (prefix, letters) (rest, e, all, are) = at (is_ascii_digit octet) refl
   where
     at : (b : Bool) → is_ascii_digit octet ≡ b
-        → Parted (octet ∷ text) (if b then (octet ∷ front, letters) else ([], (octet, front) ∷ letters))
+        → Parted (octet ∷ text) (if b then (octet ∷ prefix, letters) else ([], (octet, prefix) ∷ letters))
     at true is = (rest, ap (λ (t : List ℕ). octet ∷ t) e, rw (is, all) refl, are)
     at false is = (octet ∷ text, refl, refl, (rest, ap (λ (t : List ℕ). octet ∷ t) e, is, all, are))
 
@@ -57,9 +57,9 @@ pub both : {S : Type 0} (P : S → Type 0) (a b : List S) → AreDone P a → Ar
 both P [] b h k = k
 both P (s ∷ a) b h k = (h.0, both P a b h.1 k)
 
-joined : (front back : List ℕ) (a b : List Part) → AreLettersIn front a → AreLettersIn back b → AreLettersIn (front ++ back) (a ++ b)
-joined front back [] b e are = subst (λ (t : List ℕ). AreLettersIn (t ++ back) b) (sym e) are
-joined front back ((letter, digits) ∷ a) b (rest, e, none, all, more) are = grind (arith, common_steps, append_assoc, joined rest back a b more are)
+joined : (prefix back : List ℕ) (a b : List Part) → AreLettersIn prefix a → AreLettersIn back b → AreLettersIn (prefix ++ back) (a ++ b)
+joined prefix back [] b e are = subst (λ (t : List ℕ). AreLettersIn (t ++ back) b) (sym e) are
+joined prefix back ((letter, digits) ∷ a) b (rest, e, none, all, more) are = grind (arith, common_steps, append_assoc, joined rest back a b more are)
 
 -- a text that doesn't begin with a digit is a list of letters
 has_letters : (text : List ℕ) → NoDigitFirst text → (letters : List Part) × AreLettersIn text letters
@@ -78,13 +78,13 @@ last_more : (letters : List Part) (part : Part) (old new : ℕ) → IsLastNumber
     → ((part.0 ≡ 114) × AreRepetitions part.1 new) ⊎ (((part.0 == 114) ≡ false) × (new ≡ old)) → IsLastNumber (letters ++ part ∷ []) new
 last_more letters part old new last one = grind (arith, common_steps, append_assoc, has_more, or_from)
 
--- what `front` and one letter more choose
-more_chosen : (bulk : Bool) (front : List ℕ) (letter : ℕ) (digits : List ℕ) (old new : Choices) → HaveChosen bulk front old
+-- if the letters of `prefix` choose `old`, and one letter more with its digits makes `new` of that, then all of these letters choose `new`
+more_chosen : (bulk : Bool) (prefix : List ℕ) (letter : ℕ) (digits : List ℕ) (old new : Choices) → HaveChosen bulk prefix old
     → is_ascii_digit letter ≡ false → list_all is_ascii_digit digits ≡ true → IsKnown bulk (letter, digits) → OneMore (letter, digits) old new
-    → HaveChosen bulk (front ++ letter ∷ digits) new
-more_chosen bulk front letter digits old new h none all known one = record {
+    → HaveChosen bulk (prefix ++ letter ∷ digits) new
+more_chosen bulk prefix letter digits old new h none all known one = record {
   letters = h.letters ++ (letter, digits) ∷ [];
-  order = joined front (letter ∷ digits) h.letters ((letter, digits) ∷ []) h.order
+  order = joined prefix (letter ∷ digits) h.letters ((letter, digits) ∷ []) h.order
       ([], ap (λ (t : List ℕ). letter ∷ t) (sym (append-nil digits)), none, all, refl);
   known = both (IsKnown bulk) h.letters ((letter, digits) ∷ []) h.known (known, tt);
   includes_root = one.includes_root ∙ ap (λ (b : Bool). (letter == 105) || b) h.includes_root ∙ sym (has_more 105 h.letters (letter, digits));
@@ -122,13 +122,13 @@ module _ (bulk : Bool) (text : List ℕ) (at n : ℕ) (old : Choices) (rest : Li
   abbrev Letter : ℕ
   Letter = slice_index_or text at 0
 
-  abbrev Front : List ℕ
-  Front = take at text ++ Letter ∷ take n rest
+  abbrev Prefix : List ℕ
+  Prefix = take at text ++ Letter ∷ take n rest
 
-  parts : text ≡ Front ++ drop n rest
-  parts = grind (arith, common_steps, take_rest, take-append-drop, at_place, append_assoc)
+  parts : text ≡ Prefix ++ drop n rest
+  parts = grind (arith, common_steps, take_rest, take-append-drop, at_index, append_assoc)
 
-  size : length Front ≡ at + (1 + n)
+  size : length Prefix ≡ at + (1 + n)
   size = grind (arith, common_steps, length-take-le, length-append)
 
   none_after : NoDigitFirst (drop n rest)
@@ -136,7 +136,7 @@ module _ (bulk : Bool) (text : List ℕ) (at n : ℕ) (old : Choices) (rest : Li
 
   -- a digit is at `at` only if that is 0, since digits are read to their end
   no_digit_or_first : (is_ascii_digit Letter ≡ false) ⊎ ((at ≡ 0) × (is_ascii_digit Letter ≡ true))
-  no_digit_or_first = grind (arith, common_steps, at_place)
+  no_digit_or_first = grind (arith, common_steps, at_index)
 
   -- if the letter is known, one part more is read
   pub goes_on : (new : Choices) → IsKnown bulk (Letter, take n rest) → OneMore (Letter, take n rest) old new → AreReadTo bulk text (at + (1 + n)) new

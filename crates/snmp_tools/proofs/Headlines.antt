@@ -10,19 +10,19 @@ use Rattle.snmp_agent.specs.declared.table.error.TableError.TheVariants as table
 use Rattle.snmp_walk.specs.declared.end.SinkFault.TheVariants as sink
 use Rattle.snmp_walk.specs.{declared.end.WalkEnd.WalkEnd, declared.link.Link.Ghosts as LinkFacts}
 use Rattle.snmp_walk.specs.declared.end.WalkEnd.TheVariants as ending
-use Rattle.snmp_io.specs.{Count.HasRisen, Files.Holdings, Files.MayHold, Output.IsWritten, Output.Stream, Output.extended, Streams.nothing_taken}
+use Rattle.snmp_io.specs.{Count.HasIncreased, Files.Holdings, Files.MayHold, Output.IsWritten, Output.Stream, Output.stream_after, Streams.nothing_taken}
 use Rattle.snmp_net.specs.{Address.table, Address.udp, declared.links.Links.Ghosts as Network}
 use Rattle.smi_names.specs.declared.nodes.warning.Warning.{Warning}
 use Rattle.smi_value.specs.declared.letters.Letters.{Letters}
 use Rattle.snmp_tools.specs.{serve.TableFile.AreNamesIn, serve.TableFile.HasTable, load.Loaded.LoadFacts, load.Warned.warning_lines}
 use Rattle.snmp_tools.specs.{Answer.AreRowsOf, Answer.IsFeasible, Answer.IsOwnEnd, Done.IsAskDone, Headline.IsAsk, Headline.IsMishap}
 use Rattle.snmp_tools.specs.{Headline.IsWholeText, Headline.WritesRows, Lines.IsPrintedUpTo, load.Loaded.AreLoaded, Seen.Seen}
-use Rattle.snmp_tools.specs.Message.{Fault, bad_table, fault_message, out_of_memory, status_of}
-use Rattle.snmp_tools.specs.Outcome.{IsFinished, IsOutcome, IsOutcomeBy, IsReported, IsRun, asked, asked_over, loaded, not_begun, not_linked}
-use Rattle.snmp_tools.specs.Outcome.{not_loaded, refused}
+use Rattle.snmp_tools.specs.FaultText.{Fault, bad_table, fault_message, out_of_memory, status_of}
+use Rattle.snmp_tools.specs.AskResult.{IsFinished, IsOutcome, IsOutcomeBy, IsReported, IsRun, asked, asked_over, loaded, not_begun, not_linked}
+use Rattle.snmp_tools.specs.AskResult.{not_loaded, refused}
 use Rattle.snmp_tools.specs.Question.{AskFor, AskWords, IsLastRefusal, IsLateRefusal, IsPlanFor, Plan, counts_in}
 use Rattle.snmp_tools.proofs.{Asked.counted, TableNames.OneMeaning, TableNames.one_look_up}
-use Rattle.snmp_tools.proofs.Outcomes.{IsFrontOf, finished, no_fault_at_0}
+use Rattle.snmp_tools.proofs.Outcomes.{IsPrefixOfLines, finished, no_fault_at_0}
 use Rattle.snmp_tools.proofs.Plans.{IsWant, OneList, OneTree, held_is, one_load, one_path, one_plan, plain_want, table_want, wants_early, wants_last}
 use Rattle.smi_tree.specs.{Tree.Contents}
 use Rattle.snmp_tools.proofs.Plans.{wants_late}
@@ -30,57 +30,59 @@ use Rattle.snmp_tools.proofs.Plans.{wants_late}
 -- the status is 1, and the output failed, or it was reported after the warnings that memory ran
 -- out
 abbrev Stops : (before after warned err_after : Stream) → ℕ → Type 0
-Stops before after warned err_after status = (status ≡ 1) × (HasRisen before.faults after.faults ⊎ IsWritten warned (codes "Out of memory.\n") err_after)
+Stops before after warned err_after status = (status ≡ 1) × (HasIncreased before.faults after.faults ⊎ IsWritten warned (codes "Out of memory.\n") err_after)
 
 mishap : (warnings : List Warning) (before after err_before warned err_after : Stream) (status : ℕ)
     → (warned ≡ err_before) ⊎ IsWritten err_before (warning_lines warnings) warned
     → (status ≡ 0) ⊎ Stops before after warned err_after status → (status ≡ 0) ⊎ IsMishap warnings before after err_before err_after status
 mishap warnings before after err_before warned err_after status lines (inl zero_status) = inl zero_status
 mishap warnings before after err_before warned err_after status lines (inr (one, inl risen)) = inr (one, inl risen)
-mishap warnings before after err_before warned err_after status lines (inr (one, inr told)) = inr (one, inr (warned, told, lines))
+mishap warnings before after err_before warned err_after status lines (inr (one, inr was_reported)) = inr (one, inr (warned, was_reported, lines))
 
-line_told : (why : Fault) (before after err_before err_after : Stream) (status : ℕ) → status_of why ≡ 1 → fault_message why ≡ codes "Out of memory."
+line_reported : (why : Fault) (before after err_before err_after : Stream) (status : ℕ) → status_of why ≡ 1 → fault_message why ≡ codes "Out of memory."
     → IsReported (Some why) err_before err_after status → Stops before after err_before err_after status
-line_told why before after err_before err_after status one text (s, inl h) =
+line_reported why before after err_before err_after status one text (s, inl h) =
     (s ∙ one, inr (subst (λ (t : List ℕ). IsWritten err_before t err_after) (ap (λ (t : List ℕ). t ++ codes "\n") text) h))
-line_told why before after err_before err_after status one text (s, inr h) = (s ∙ one, inr h)
+line_reported why before after err_before err_after status one text (s, inr h) = (s ∙ one, inr h)
 
-want_told : (why : Fault) (before after err_before err_after : Stream) (status : ℕ) → IsWant why → IsReported (Some why) err_before err_after status
+want_reported : (why : Fault) (before after err_before err_after : Stream) (status : ℕ) → IsWant why → IsReported (Some why) err_before err_after status
     → Stops before after err_before err_after status
-want_told why before after err_before err_after status (plain_want e) told =
-    line_told out_of_memory before after err_before err_after status refl refl (subst (λ (w : Fault). IsReported (Some w) err_before err_after status) e told)
-want_told why before after err_before err_after status (table_want path e) told =
-    line_told (bad_table path table_error.Memory) before after err_before err_after status refl refl (subst (λ (w : Fault). IsReported
-    (Some w) err_before err_after status) e told)
+want_reported why before after err_before err_after status (plain_want e) was_reported =
+    line_reported out_of_memory before after err_before err_after status refl refl (subst (λ (w : Fault). IsReported
+    (Some w) err_before err_after status) e was_reported)
+want_reported why before after err_before err_after status (table_want path e) was_reported =
+    line_reported (bad_table path table_error.Memory) before after err_before err_after status refl refl (subst (λ (w : Fault). IsReported
+    (Some w) err_before err_after status) e was_reported)
 
 -- a run that is done, or ended because the output failed or memory ran out
 module _ (mib : Contents) (letters : Letters) (agent : List ℕ) (given turned : List VarBind) (before between after err_before err_after : Stream)
-    (fault : Option Fault) (status : ℕ) (told : IsReported fault err_before err_after status) where
-  told_of : (other : Option Fault) → fault ≡ other → IsReported other err_before err_after status
-  told_of other same = subst (λ (f : Option Fault). IsReported f err_before err_after status) same told
+    (fault : Option Fault) (status : ℕ) (was_reported : IsReported fault err_before err_after status) where
+  reported_of : (other : Option Fault) → fault ≡ other → IsReported other err_before err_after status
+  reported_of other same = subst (λ (f : Option Fault). IsReported f err_before err_after status) same was_reported
 
-  own_told : (counts : Bool) (end : WalkEnd) → IsOwnEnd end → IsPrintedUpTo mib letters before given turned end between
+  own_reported : (counts : Bool) (end : WalkEnd) → IsOwnEnd end → IsPrintedUpTo mib letters before given turned end between
       → IsFinished agent end counts between after fault → (status ≡ 0) ⊎ Stops before after err_before err_after status
-  own_told true (ending.Done n) own printed (inl finish) = inl (told_of None finish.1).0
-  own_told true (ending.Done n) own printed (inr (inl finish)) = grind (arith, common_steps, want_told, plain_want, told_of)
-  own_told true (ending.Done n) own printed (inr (inr finish)) = grind (arith, common_steps, counted, told_of)
-  own_told false (ending.Done n) own printed finish = inl (told_of None finish.1).0
-  own_told counts (ending.Sink sink.Memory) own printed finish = grind (arith, common_steps, line_told, told_of)
-  own_told counts (ending.Sink sink.Output) own printed finish = grind (arith, common_steps, told_of, counted)
-  own_told counts end own printed finish = absurd own
+  own_reported true (ending.Done n) own printed (inl finish) = inl (reported_of None finish.1).0
+  own_reported true (ending.Done n) own printed (inr (inl finish)) = grind (arith, common_steps, want_reported, plain_want, reported_of)
+  own_reported true (ending.Done n) own printed (inr (inr finish)) = grind (arith, common_steps, counted, reported_of)
+  own_reported false (ending.Done n) own printed finish = inl (reported_of None finish.1).0
+  own_reported counts (ending.Sink sink.Memory) own printed finish = grind (arith, common_steps, line_reported, reported_of)
+  own_reported counts (ending.Sink sink.Output) own printed finish = grind (arith, common_steps, reported_of, counted)
+  own_reported counts end own printed finish = absurd own
 
 -- nothing was asked; if the plan is feasible, only because memory ran out
 pub not_asked : (words : AskWords) (files : Holdings) (rows : List VarBind) (ask : IsAsk words files rows) (before after err_before warned err_after : Stream)
     (fault : Option Fault) (status : ℕ) (why : Fault) → after ≡ before → fault ≡ Some why → IsReported fault warned err_after status
     → (IsFeasible ask.plan ask.view → IsWant why) → (warned ≡ err_before) ⊎ IsWritten err_before (warning_lines ask.warnings) warned
     → WritesRows words files rows ask before after err_before err_after status
-not_asked words files rows ask before after err_before warned err_after fault status why same is told want so_far = record {
-  front_written = ([], rows, [], refl, inl refl, nothing_taken before after [] same);
+not_asked words files rows ask before after err_before warned err_after fault status why same is was_reported want so_far = record {
+  prefix_written = ([], rows, [], refl, inl refl, nothing_taken before after [] same);
   all_written_at_status_0 = λ zero_status.
-      let none = no_fault_at_0 fault warned err_after status told zero_status in let no : ⊥ = cc in absurd no;
+      let none = no_fault_at_0 fault warned err_after status was_reported zero_status in let no : ⊥ = cc in absurd no;
   ends_at_status_0 = λ can.
       mishap ask.warnings before after err_before warned err_after status so_far
-      (inr (want_told why before after warned err_after status (want can) (subst (λ (f : Option Fault). IsReported f warned err_after status) is told)));
+      (inr (want_reported why before after warned err_after status (want can) (subst (λ
+      (f : Option Fault). IsReported f warned err_after status) is was_reported)));
 }
 
 module _ (one_table : (names : Names) (ls : List (List ℕ)) (v w : MibView) → IsTableOf names ls v → IsTableOf names ls w → v ≡ w)
@@ -89,14 +91,14 @@ module _ (one_table : (names : Names) (ls : List (List ℕ)) (v w : MibView) →
     (one_list : OneList) (one_tree : OneTree) (one : OneMeaning) {N V D : Type 0} (net : Network N V D) (wire : LinkFacts V)
     (Loads : LoadFacts) (words : AskWords) (before after : Seen N) (status : ℕ) (run : IsRun net wire Loads words before after status) where
   module _ (rows : List VarBind) (ask : IsAsk words before.files rows) where
-    abbrev Told : Type 0
-    Told = WritesRows words before.files rows ask before.out after.out before.err after.err status
+    abbrev Reported : Type 0
+    Reported = WritesRows words before.files rows ask before.out after.out before.err after.err status
 
     abbrev End : Seen N
     End = record after { err = run.warned }
 
     unasked : (why : Fault) → after.out ≡ before.out → run.fault ≡ Some why → (IsFeasible ask.plan ask.view → IsWant why)
-        → (run.warned ≡ before.err) ⊎ IsWritten before.err (warning_lines ask.warnings) run.warned → Told
+        → (run.warned ≡ before.err) ⊎ IsWritten before.err (warning_lines ask.warnings) run.warned → Reported
     unasked why same is =
         not_asked words before.files rows ask before.out after.out before.err run.warned after.err run.fault status why same is run.reported
 
@@ -139,39 +141,39 @@ module _ (one_table : (names : Names) (ls : List (List ℕ)) (v w : MibView) →
         no_net : (host : List ℕ) (port : ℕ) → plan.agent ≡ udp host port → ⊥
         no_net host port over = let agents : table ask.path ≡ udp host port = sym agent_is ∙ over in cc
 
-      told_by : IsOutcomeBy net wire words mib (record before { err = run.warned }) End run.fault → Told
-      told_by (refused why refusal same is) =
+      reported_by : IsOutcomeBy net wire words mib (record before { err = run.warned }) End run.fault → Reported
+      reported_by (refused why refusal same is) =
           let late = subst (λ (m : Contents). IsLateRefusal words before.files m why) (sym mib_is) refusal in
           unasked why (ap (λ (s : Seen N). s.out) same) is (λ can. wants_late one no_fault words before.files rows ask why late) so_far_is
-      told_by (not_begun why last plan for (inl (path, over, same)) is) =
+      reported_by (not_begun why last plan for (inl (path, over, same)) is) =
           let refusal = subst (λ (m : Contents). IsLastRefusal words before.files m why) (sym mib_is) last in
           unasked why (ap (λ (s : Seen N). s.out) same) is (λ can. wants_last one no_fault words before.files rows ask why can.sendable refusal) so_far_is
-      told_by (not_begun why last plan for (inr (host, port, over, opened)) is) = absurd (no_net plan for host port over)
-      told_by (asked plan path view for over states sent printed same) =
+      reported_by (not_begun why last plan for (inr (host, port, over, opened)) is) = absurd (no_net plan for host port over)
+      reported_by (asked plan path view for over states sent printed same) =
           let are = over_table plan for (λ p v. AreRowsOf p.question v rows) path view over states ask.are_rows in
           let count = counted plan.question plan view printed.given printed.end printed.facts.reason in
-          let both = over_same plan for (λ m p. IsFrontOf m p.letters (counts_in p.question) rows before.out after.out
-          × (run.fault ≡ None → (text : List ℕ) × IsWholeText m p rows text × (after.out ≡ extended before.out text)))
+          let both = over_same plan for (λ m p. IsPrefixOfLines m p.letters (counts_in p.question) rows before.out after.out
+          × (run.fault ≡ None → (text : List ℕ) × IsWholeText m p rows text × (after.out ≡ stream_after before.out text)))
           (finished mib plan.letters words.asking.agent before.out rows (counts_in plan.question) printed.given printed.refused printed.end printed.between
-          after.out run.fault printed.lines printed.finish count (printed.facts.whole rows are) (printed.facts.front rows are)) in
+          after.out run.fault printed.lines printed.finish count (printed.facts.whole rows are) (printed.facts.prefix rows are)) in
           record {
-            front_written = both.0;
+            prefix_written = both.0;
             all_written_at_status_0 = λ zero_status.
                 both.1 (no_fault_at_0 run.fault run.warned after.err status run.reported zero_status);
             ends_at_status_0 = λ can.
                 mishap ask.warnings before.out after.out before.err run.warned after.err status so_far_is
-                (own_told mib plan.letters words.asking.agent printed.given printed.refused before.out printed.between after.out run.warned after.err
+                (own_reported mib plan.letters words.asking.agent printed.given printed.refused before.out printed.between after.out run.warned after.err
                 run.fault status run.reported (counts_in plan.question) printed.end
                 (printed.facts.complete (over_table plan for (λ p v. IsFeasible p v) path view over states can).room) printed.lines printed.finish);
           }
-      told_by (not_linked plan host port for over fails risen same is) = absurd (no_net plan for host port over)
-      told_by (asked_over plan host port for over sent printed same) = absurd (no_net plan for host port over)
+      reported_by (not_linked plan host port for over fails risen same is) = absurd (no_net plan for host port over)
+      reported_by (asked_over plan host port for over sent printed same) = absurd (no_net plan for host port over)
 
-    told_of_all : IsOutcome net wire Loads words before End run.fault → Told
-    told_of_all (not_loaded why early same is) =
+    reported_of_all : IsOutcome net wire Loads words before End run.fault → Reported
+    reported_of_all (not_loaded why early same is) =
         unasked why (ap (λ (s : Seen N). s.out) same) is (λ can. wants_early one no_fault words before.files rows ask why early)
         (inl (ap (λ (s : Seen N). s.err) same))
-    told_of_all (loaded mib warnings loading made written by) = told_by mib warnings loading written by
+    reported_of_all (loaded mib warnings loading made written by) = reported_by mib warnings loading written by
 
   pub asked_done : IsAskDone net wire Loads words before after status
-  asked_done = record { outcome_reported = run; rows_written = λ rows ask. told_of_all rows ask run.outcome }
+  asked_done = record { outcome_reported = run; rows_written = λ rows ask. reported_of_all rows ask run.outcome }

@@ -1,5 +1,5 @@
 -- What is promised of a job (`job_done`, `undone`) and of a command line (`job_is_done`,
--- `fault_is_told`).
+-- `fault_is_reported`).
 use Rattle.std.proofs.Common.{arith, ◌≡◌, ◌≢◌, ℕ, Bool, true, false, List, [], Option, Some, Result, Ok, Err, IfOk, IfErr, OnOk, refl, sym}
 use Rattle.std.proofs.Common.{subst, inl, inr, codes}
 use Rattle.std.proofs.lemmas.Grind.{common_steps}
@@ -14,13 +14,13 @@ use Rattle.snmp_words.specs.{Command.faults_of, Command.is_taken, declared.job.J
 use Rattle.snmp_words.specs.declared.UsageError.TheVariants.{Memory, Parse}
 use Rattle.snmp_words.specs.Words.{HasFaultOf, IsForUser, StateJob, Stated, job_words, snmpbulkwalk, snmpd, snmpget, snmptranslate, snmpwalk}
 use Rattle.snmp_tools.specs.Usage.{AreFaultless, IsHelpOrMistake, ShowsError}
-use Rattle.snmp_tools.specs.serve.Outcome as serve
-use Rattle.snmp_tools.specs.{load.Loaded.LoadFacts, Done.IsAskDone, Done.IsJobDone, Done.IsJobOutcome, Message.Fault, Message.out_of_memory}
+use Rattle.snmp_tools.specs.serve.ServeResult as serve
+use Rattle.snmp_tools.specs.{load.Loaded.LoadFacts, Done.IsAskDone, Done.IsJobDone, Done.IsJobOutcome, FaultText.Fault, FaultText.out_of_memory}
 use Rattle.snmp_tools.specs.{Question.AskWords, Question.of_get, Question.of_walk, Seen.Seen, Seen.seen}
-use Rattle.snmp_tools.specs.translate.Outcome as translated
-use Rattle.snmp_tools.specs.Outcome.{IsOutcome, IsReported, not_loaded}
+use Rattle.snmp_tools.specs.translate.TranslateResult as translated
+use Rattle.snmp_tools.specs.AskResult.{IsOutcome, IsReported, not_loaded}
 use Rattle.snmp_tools.proofs.{Headlines.asked_done, Headlines.not_asked, Outcomes.no_fault_at_0, Plans.OneList, Plans.OneTree, Plans.plain_want}
-use Rattle.snmp_tools.proofs.{TableNames.OneMeaning, TranslationHeadlines.all_printed, TranslationHeadlines.front_printed}
+use Rattle.snmp_tools.proofs.{TableNames.OneMeaning, TranslationHeadlines.all_printed, TranslationHeadlines.prefix_printed}
 
 -- arguments without a fault have no mistake, and don't ask for help
 no_error : (words : List (List ℕ)) (text : String Global) (help : Bool) → (is_taken words ≡ true → Parse text help ≡ Memory)
@@ -52,12 +52,12 @@ module _ {N V D : Type 0} (net : Network N V D) (wire : LinkFacts V) (Loads : Lo
       (no_fault : (names : Names) (ls : List (List ℕ)) (view : MibView) (fault : TableError) → IsTableOf names ls view → IsFirstFault names ls fault
       → fault ≡ table_error.Memory)
       (one_list : OneList) (one_tree : OneTree) (one : OneMeaning) (before after : Seen N) (warned : Stream) (fault : Option Fault) (status : ℕ)
-      (told : IsReported fault warned after.err status) where
+      (was_reported : IsReported fault warned after.err status) where
     ask_done : (words : AskWords) → IsOutcome net wire Loads words before (record after { err = warned }) fault
         → IsAskDone net wire Loads words before after status
     ask_done words outcome =
         asked_done one_table no_fault one_list one_tree one net wire Loads words before after status
-        record { fault = fault; warned = warned; outcome = outcome; reported = told }
+        record { fault = fault; warned = warned; outcome = outcome; reported = was_reported }
 
     pub job_done : (job : Stated) → IsJobOutcome net wire Loads job before (record after { err = warned }) fault
         → IsJobDone net wire Loads job before after status
@@ -67,20 +67,21 @@ module _ {N V D : Type 0} (net : Network N V D) (wire : LinkFacts V) (Loads : Lo
         fault = fault;
         warned = warned;
         outcome = outcome;
-        is_reported = told;
+        is_reported = was_reported;
         all_at_status_0 = λ zero.
-            all_printed one_list Loads words before.files before.out after.out before.err warned fault (no_fault_at_0 fault warned after.err status told zero)
+            all_printed one_list Loads words before.files before.out after.out before.err warned fault
+            (no_fault_at_0 fault warned after.err status was_reported zero)
             outcome;
-        front = front_printed one_list Loads words before.files before.out after.out before.err warned fault outcome;
+        prefix = prefix_printed one_list Loads words before.files before.out after.out before.err warned fault outcome;
       },
     )
     job_done (snmpget words) outcome = ask_done (of_get words) outcome
     job_done (snmpwalk words) outcome = ask_done (of_walk false words) outcome
     job_done (snmpbulkwalk words) outcome = ask_done (of_walk true words) outcome
-    job_done (snmpd words) outcome = record { fault = fault; warned = warned; outcome = outcome; reported = told }
+    job_done (snmpd words) outcome = record { fault = fault; warned = warned; outcome = outcome; reported = was_reported }
 
   -- memory ran out before anything was done, so what is promised of any job holds
-  module _ (files : Holdings) (links : N) (out err err_after : Stream) (told : IsWritten err (codes "Out of memory.\n") err_after) where
+  module _ (files : Holdings) (links : N) (out err err_after : Stream) (was_reported : IsWritten err (codes "Out of memory.\n") err_after) where
     abbrev Before : Seen N
     Before = seen files links out err
 
@@ -93,9 +94,12 @@ module _ {N V D : Type 0} (net : Network N V D) (wire : LinkFacts V) (Loads : Lo
         fault = Some out_of_memory;
         warned = err;
         outcome = not_loaded out_of_memory (inl refl) refl refl;
-        reported = (refl, inr told);
+        reported = (refl, inr was_reported);
       };
-      rows_written = λ rows ask. not_asked words files rows ask out out err err err_after (Some out_of_memory) 1 out_of_memory refl refl (refl, inr told)
+      rows_written = λ rows ask. not_asked words files rows ask out out err err err_after (Some out_of_memory) 1 out_of_memory refl refl (
+        refl,
+        inr was_reported,
+      )
           (λ can. plain_want refl) (inl refl);
     }
 
@@ -106,9 +110,9 @@ module _ {N V D : Type 0} (net : Network N V D) (wire : LinkFacts V) (Loads : Lo
         fault = Some out_of_memory;
         warned = err;
         outcome = translated.refused out_of_memory (inl refl) refl refl refl;
-        is_reported = (refl, inr told);
+        is_reported = (refl, inr was_reported);
         all_at_status_0 = λ zero. let no : ⊥ = cc in absurd no;
-        front = λ style modules asked. inl refl;
+        prefix = λ style modules asked. inl refl;
       },
     )
     undone (snmpget words) = unasked (of_get words)
@@ -118,7 +122,7 @@ module _ {N V D : Type 0} (net : Network N V D) (wire : LinkFacts V) (Loads : Lo
       fault = Some out_of_memory;
       warned = err;
       outcome = serve.not_loaded out_of_memory (inl refl) refl refl;
-      reported = (refl, inr told);
+      reported = (refl, inr was_reported);
     }
 
   -- the arguments were read as a job, which was done, or there was an error, which was shown
@@ -126,9 +130,9 @@ module _ {N V D : Type 0} (net : Network N V D) (wire : LinkFacts V) (Loads : Lo
       (states : IfOk read (λ job. StateJob words (job_words job))) (faultless : OnOk read (faults_of words ≡ []))
       (taken : IfErr read (λ e. is_taken words ≡ true → e ≡ Memory)) (refused : IfErr read (λ e. HasFaultOf e (faults_of words)))
       (text : IfErr read IsForUser) (done : IfOk read (λ job. IsJobDone net wire Loads (job_words job) before (seen before.files links out err) status))
-      (told : IfErr read (λ e. (links ≡ before.links) × ShowsError e before.out out before.err err status)) where
+      (was_reported : IfErr read (λ e. (links ≡ before.links) × ShowsError e before.out out before.err err status)) where
     pub job_is_done : (job : Stated) → AreFaultless words → StateJob words job → IsJobDone net wire Loads job before (seen before.files links out err) status
-    job_is_done job without stated = by_reading read states taken refused done told
+    job_is_done job without stated = by_reading read states taken refused done was_reported
       where
         by_reading : (r : Result Job UsageError) → IfOk r (λ j. StateJob words (job_words j)) → IfErr r (λ e. is_taken words ≡ true → e ≡ Memory)
             → IfErr r (λ e. HasFaultOf e (faults_of words))
@@ -144,8 +148,8 @@ module _ {N V D : Type 0} (net : Network N V D) (wire : LinkFacts V) (Loads : Lo
             (undone before.files before.links before.out before.err err written job)))
         by_reading (Err (Parse text help)) s t f d e = absurd (no_error words text help t f without)
 
-    pub fault_is_told : faults_of words ≢ [] → (links ≡ before.links) × IsHelpOrMistake words before.out out before.err err status
-    fault_is_told faulty = by_reading read faultless refused text told
+    pub fault_is_reported : faults_of words ≢ [] → (links ≡ before.links) × IsHelpOrMistake words before.out out before.err err status
+    fault_is_reported faulty = by_reading read faultless refused text was_reported
       where
         by_reading : (r : Result Job UsageError) → OnOk r (faults_of words ≡ []) → IfErr r (λ e. HasFaultOf e (faults_of words)) → IfErr r IsForUser
             → IfErr r (λ e. (links ≡ before.links) × ShowsError e before.out out before.err err status)

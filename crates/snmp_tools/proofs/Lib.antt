@@ -5,7 +5,7 @@ pub mod ModuleLists
 pub mod RowLines
 pub mod TableNames
 pub mod TableWalks
-pub mod LetterLemmas
+pub mod LetterOffsets
 pub mod ChosenLetters
 pub mod Outcomes
 pub mod Plans
@@ -14,9 +14,9 @@ pub mod Steps
 pub mod Texts
 pub mod Wholes
 pub mod TranslationHeadlines
-pub mod Printing
+pub mod PrintedNames
 pub mod Replies
 pub mod Refusals
-pub mod Serving
+pub mod ServeRefusals
 pub mod Jobs
 pub mod BothEnds

@@ -3,7 +3,7 @@
 use Rattle.std.proofs.Common.{arith, ◌≡◌, ◌∙◌, ◌⊎◌, inl, inr, ◌++◌, ◌+◌, ◌<◌, ap, ap₂, refl, sym, subst, ℕ, List, [], ◌∷◌, Bor, Option, Some, take}
 use Rattle.std.proofs.Common.{drop, length, get_or, unwrap_or, append_assoc, append-nil}
 use Rattle.std.proofs.lemmas.Grind.{common_steps}
-use Rattle.smi_text.specs.{lexer.Lexes.Lexes, lexer.Token.Item, lexer.Token.Lexeme, trees.Mark.Stands, trees.Spelling.spelling, Text.AreSpelledBy}
+use Rattle.smi_text.specs.{lexer.Lexes.Lexes, lexer.Token.Item, lexer.Token.Lexeme, trees.Mark.TokensMatch, trees.Spelling.spelling, Text.AreSpelledBy}
 use Rattle.smi_text.specs.declared.trees.tree.Module.{Module}
 use Rattle.snmp_io.specs.{Files.Holdings, Files.Holds, Files.MayHold, Steps.AreDone}
 use Rattle.snmp_tools.specs.load.Files.{AreModulesIn, AreModulesOf, FileFails, IsFilesRefusal, MayHoldModules, Refusal, no_memory, texts}
@@ -20,7 +20,7 @@ abbrev OneLexing : Type 0
 OneLexing = (before text : List ℕ) (xs ys : List Item) → Lexes before text xs → Lexes before text ys → xs ≡ ys
 
 abbrev OneReading : Type 0
-OneReading = (ms ns : List Module) (tokens : List Lexeme) → Stands (spelling ms) tokens [] → Stands (spelling ns) tokens [] → ms ≡ ns
+OneReading = (ms ns : List Module) (tokens : List Lexeme) → TokensMatch (spelling ms) tokens [] → TokensMatch (spelling ns) tokens [] → ms ≡ ns
 
 one_spelled : OneLexing → OneReading → (ms ns : List Module) (text : List ℕ) → AreSpelledBy ms text → AreSpelledBy ns text → ms ≡ ns
 one_spelled lexing reading ms ns text a b = grind (arith, common_steps)

@@ -12,9 +12,9 @@ use Rattle.snmp_agent.specs.declared.table.error.TableError.{TableError}
 use Rattle.snmp_agent.specs.declared.table.error.TableError.TheVariants as table_error
 use Rattle.snmp_io.specs.{Files.Holdings, Files.Holds, Files.HoldsIfKnown, Files.MayHold, Steps.AreDone, Steps.IsFirstToFail}
 use Rattle.snmp_net.specs.Address.{Address, table}
-use Rattle.snmp_tools.specs.{serve.TableFile.TableFails, Answer.CanBeSent, Answer.CanGoOn, Headline.IsAsk, Letters.Choices, Message.Fault}
-use Rattle.snmp_tools.specs.{Message.bad_table, Message.out_of_memory, load.Files.AreModulesOf, load.Loaded.AreLoaded}
-use Rattle.snmp_tools.specs.Asking.{AskingFails, AskingStep, HasAgent, IsNameIfGiven, ReachFails, agent_step, community_step, letters_step}
+use Rattle.snmp_tools.specs.{serve.TableFile.TableFails, Answer.CanBeSent, Answer.CanGoOn, Headline.IsAsk, Letters.Choices, FaultText.Fault}
+use Rattle.snmp_tools.specs.{FaultText.bad_table, FaultText.out_of_memory, load.Files.AreModulesOf, load.Loaded.AreLoaded}
+use Rattle.snmp_tools.specs.Asking.{AskingFails, AskingStep, HasAgent, IsOptionalName, ReachFails, agent_step, community_step, letters_step}
 use Rattle.snmp_tools.specs.Asking.{version_step}
 use Rattle.smi_text.specs.declared.trees.tree.Module.{Module}
 use Rattle.smi_names.specs.declared.nodes.warning.Warning.{Warning}
@@ -65,7 +65,7 @@ no_chosen : (request : Request) (a : Choices) (octet : ℕ) → HasChosen reques
 no_chosen (get texts) a octet h k = k
 no_chosen (walk bulk letters after name) a octet h k = no_choice bulk letters a octet h k
 
-one_after : OneMeaning → (mib : Contents) (text a b : Option (List ℕ)) → IsNameIfGiven mib text a → IsNameIfGiven mib text b → a ≡ b
+one_after : OneMeaning → (mib : Contents) (text a b : Option (List ℕ)) → IsOptionalName mib text a → IsOptionalName mib text b → a ≡ b
 one_after one mib None a b e f = e ∙ sym f
 one_after one mib (Some text) a b e f = e.2 ∙ ap Some (one_name one mib text e.0 f.0 e.1 f.1) ∙ sym f.2
 
@@ -155,7 +155,7 @@ module _ (one : OneMeaning)
   all_sent (text ∷ texts) (o ∷ os) e sent =
       (sent_want text o e.0 (All-head (λ n. IsWire (wire n)) o os sent), all_sent texts os e.1 (All-tail (λ n. IsWire (wire n)) o os sent))
 
-  after_sent : (text root : List ℕ) (given planned : Option (List ℕ)) → TextMeans ask.mib text (Ok root) → IsNameIfGiven ask.mib given planned
+  after_sent : (text root : List ℕ) (given planned : Option (List ℕ)) → TextMeans ask.mib text (Ok root) → IsOptionalName ask.mib given planned
       → CanGoOn root planned → AreDone Wants (goes_on_after (λ t. below_step text t ∷ sent_step t ∷ []) given)
   after_sent text root None planned means h can = tt
   after_sent text root (Some t) planned means h can =

@@ -3,10 +3,10 @@ use Rattle.std.proofs.Common.{arith, ◌≡◌, ◌++◌, ℕ, List, [], ◌∷�
 use Rattle.std.proofs.lemmas.Grind.{common_steps}
 use Rattle.smi_value.specs.declared.letters.Letters.{Letters}
 use Rattle.snmp_wire.specs.Message.{VarBind}
-use Rattle.snmp_walk.specs.{declared.end.SinkFault.SinkFault, declared.end.WalkEnd.WalkEnd, Ran.IsRun, Sink.Given, Sink.Refused, Sink.Took}
+use Rattle.snmp_walk.specs.{declared.end.SinkFault.SinkFault, declared.end.WalkEnd.WalkEnd, RunResult.IsRun, Sink.TakesAll, Sink.Refused, Sink.Took}
 use Rattle.snmp_walk.specs.declared.end.SinkFault.TheVariants as fault
 use Rattle.snmp_walk.specs.declared.end.WalkEnd.TheVariants as ending
-use Rattle.snmp_io.specs.{Output.Stream, Output.extended, Streams.extended-nil, Streams.extended-twice}
+use Rattle.snmp_io.specs.{Output.Stream, Output.stream_after, Streams.stream_after-nil, Streams.stream_after-twice}
 use Rattle.snmp_tools.specs.{Lines.AreLines, Lines.ArePrinted, Lines.IsPrintedUpTo, Lines.TakesLine}
 use Rattle.smi_tree.specs.{Tree.Contents}
 
@@ -22,22 +22,23 @@ module _ {S : Type 0} (takes : S → VarBind → Result (Unit {0}) SinkFault →
     (stays : (old new : S) (binding : VarBind) (result : Result (Unit {0}) SinkFault) → Is old → takes old binding result new → Is new)
     (writes : (old new : S) (binding : VarBind) (result : Result (Unit {0}) SinkFault) → Is old → takes old binding result new
     → TakesLine mib letters (stream old) binding result (stream new)) where
-  stayed : (old new : S) (rows : List VarBind) → Is old → Given takes old rows new → Is new
+  stayed : (old new : S) (rows : List VarBind) → Is old → TakesAll takes old rows new → Is new
   stayed old new [] is e = subst Is (sym e) is
   stayed old new (p ∷ more) is h = stayed h.0 new more (stays old h.0 p (Ok tt) is h.1) h.2
 
-  printed : (old new : S) (rows : List VarBind) → Is old → Given takes old rows new
-      → (text : List ℕ) × AreLines mib letters rows text × (stream new ≡ extended (stream old) text)
-  printed old new [] is e = ([], refl, ap stream e ∙ sym (extended-nil (stream old)))
+  printed : (old new : S) (rows : List VarBind) → Is old → TakesAll takes old rows new
+      → (text : List ℕ) × AreLines mib letters rows text × (stream new ≡ stream_after (stream old) text)
+  printed old new [] is e = ([], refl, ap stream e ∙ sym (stream_after-nil (stream old)))
   printed old new (p ∷ more) is h =
       let first = writes old h.0 p (Ok tt) is h.1 in
       let rest = printed h.0 new more (stays old h.0 p (Ok tt) is h.1) h.2 in
-      let now = rest.2 ∙ ap (λ (s : Stream). extended s rest.0) first.2 ∙ extended-twice (stream old) first.0 rest.0 in
+      let now = rest.2 ∙ ap (λ (s : Stream). stream_after s rest.0) first.2 ∙ stream_after-twice (stream old) first.0 rest.0 in
       (first.0 ++ rest.0, (first.0, rest.0, first.1, rest.1, refl), now)
 
   -- the lines of the rows given were written, and a prefix of the refused one's if the output
   -- failed
-  refused : (old between new : S) (rows turned : List VarBind) (why : SinkFault) → Is old → Given takes old rows between → Refused takes between turned why new
+  refused : (old between new : S) (rows turned : List VarBind) (why : SinkFault) → Is old → TakesAll takes old rows between
+      → Refused takes between turned why new
       → IsPrintedUpTo mib letters (stream old) rows turned (ending.Sink why) (stream new)
   refused old between new rows turned fault.Output is given refusal = grind (arith, common_steps, printed, stayed, append-nil)
   refused old between new rows turned fault.Memory is given refusal = grind (arith, common_steps, printed, stayed)

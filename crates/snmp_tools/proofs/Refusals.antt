@@ -4,7 +4,7 @@ use Rattle.std.proofs.lemmas.Grind.{common_steps}
 use Rattle.smi_value.specs.Letters.{first_other}
 use Rattle.snmp_io.specs.Files.{Holdings}
 use Rattle.snmp_words.specs.Words.{TranslateWords}
-use Rattle.snmp_tools.specs.{Asking.MibsFail, Message.Fault, Message.bad_letter, Message.out_of_memory, declared.translate.Style.Style}
+use Rattle.snmp_tools.specs.{Asking.MibsFail, FaultText.Fault, FaultText.bad_letter, FaultText.out_of_memory, declared.translate.Style.Style}
 use Rattle.snmp_tools.specs.translate.Refusal.{IsTranslateRefusal, TranslationFails, details_step, letters_step}
 use Rattle.snmp_tools.specs.translate.Style.{IsStyleOf, first_other_of_t}
 use Rattle.snmp_tools.proofs.Steps.{first, later}

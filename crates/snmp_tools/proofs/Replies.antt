@@ -6,44 +6,45 @@ use Rattle.std.proofs.lemmas.Grind.{common_steps}
 use Rattle.std.specs.Result.{is_err}
 use Rattle.smi_value.specs.declared.letters.Letters.{Letters}
 use Rattle.snmp_wire.specs.Message.{VarBind}
-use Rattle.snmp_walk.specs.{declared.end.SinkFault.SinkFault, Sink.Given}
+use Rattle.snmp_walk.specs.{declared.end.SinkFault.SinkFault, Sink.TakesAll}
 use Rattle.snmp_walk.specs.declared.end.SinkFault.TheVariants as fault
-use Rattle.snmp_io.specs.{Streams.appended-twice, Streams.extended-twice, Output.FailsWithin, Output.Stream, Output.appended, Output.extended}
+use Rattle.snmp_io.specs.{Streams.octets_after-twice, Streams.stream_after-twice, Output.FailsWithin, Output.Stream, Output.octets_after, Output.stream_after}
 use Rattle.smi_show.specs.Line.{IsLine}
 use Rattle.snmp_tools.specs.Lines.{AreLines}
 use Rattle.smi_tree.specs.{Tree.Contents}
 use Rattle.snmp_tools.proofs.Printed.{lines_of_both, prints}
 
 -- a prefix of two texts ends within the first or contains it
-abbrev Ends : (line rest front left : List ℕ) → Type 0
-Ends line rest front left = ((cut : List ℕ) × (line ≡ front ++ cut)) ⊎ ((more : List ℕ) × (front ≡ line ++ more) × (rest ≡ more ++ left))
+abbrev Ends : (line rest prefix left : List ℕ) → Type 0
+Ends line rest prefix left = ((cut : List ℕ) × (line ≡ prefix ++ cut)) ⊎ ((more : List ℕ) × (prefix ≡ line ++ more) × (rest ≡ more ++ left))
 
-where_it_ends : (line rest front left : List ℕ) → line ++ rest ≡ front ++ left → Ends line rest front left
-where_it_ends [] rest front left e = inr (front, refl, e)
+where_it_ends : (line rest prefix left : List ℕ) → line ++ rest ≡ prefix ++ left → Ends line rest prefix left
+where_it_ends [] rest prefix left e = inr (prefix, refl, e)
 where_it_ends (x ∷ line) rest [] left e = inl (x ∷ line, refl)
-where_it_ends (x ∷ line) rest (y ∷ front) left e = grind (arith, common_steps, where_it_ends line rest front left)
+where_it_ends (x ∷ line) rest (y ∷ prefix) left e = grind (arith, common_steps, where_it_ends line rest prefix left)
 
 -- a write of two texts fails within the first or, after it, within the second
 fails_in_one : (before after : Stream) (a b : List ℕ) → FailsWithin before (a ++ b) after
-    → FailsWithin before a after ⊎ FailsWithin (extended before a) b after
+    → FailsWithin before a after ⊎ FailsWithin (stream_after before a) b after
 fails_in_one before after a b f =
-    elim (where_it_ends a b f.begun.front f.begun.rest f.begun.parts) [
+    elim (where_it_ends a b f.begun.prefix f.begun.rest f.begun.parts) [
       | inl h ↦ inl record {
-        begun = record { front = f.begun.front; rest = h.0; parts = h.1; taken = f.begun.taken };
+        begun = record { prefix = f.begun.prefix; rest = h.0; parts = h.1; taken = f.begun.taken };
         counted = f.counted;
       }
       | inr h ↦ inr record {
         begun = record {
-          front = h.0;
+          prefix = h.0;
           rest = f.begun.rest;
           parts = h.2;
-          taken = f.begun.taken ∙ ap (appended before.taken) h.1 ∙ sym (appended-twice before.taken a h.0);
+          taken = f.begun.taken ∙ ap (octets_after before.taken) h.1 ∙ sym (octets_after-twice before.taken a h.0);
         };
         counted = f.counted;
       }
     ]
 
--- the lines of `rows` and of one row more, by the tree and the letters from the start
+-- if `text` has the lines of `rows`, and `line` is the line of one row more, with the tree and letters of the start, then both together are the lines of all
+-- these rows
 pub next_line : (tree first : Contents) (letters from : Letters) (rows : List VarBind) (p : VarBind) (text line all : List ℕ)
     → tree ≡ first → letters ≡ from → AreLines first from rows text → IsLine tree letters p.name p.value line → all ≡ text ++ line
     → AreLines first from (rows ++ p ∷ []) all
@@ -62,7 +63,7 @@ at_err (Err why) e h = h
 -- a printer, which is in state `later s text` after its output took `text` in state `s`
 module _ {S N : Type 0} (tree : S → Contents) (letters : S → Letters) (name : S → N) (stream : S → Stream) (later : S → List ℕ → S)
     (same : (s : S) (text : List ℕ) → (tree (later s text) ≡ tree s) × (letters (later s text) ≡ letters s) × (name (later s text) ≡ name s))
-    (reaches : (s : S) (text : List ℕ) → stream (later s text) ≡ extended (stream s) text) where
+    (reaches : (s : S) (text : List ℕ) → stream (later s text) ≡ stream_after (stream s) text) where
   abbrev IsLike : S → S → Type 0
   IsLike new old = (tree new ≡ tree old) × (letters new ≡ letters old) × (name new ≡ name old)
 
@@ -75,13 +76,14 @@ module _ {S N : Type 0} (tree : S → Contents) (letters : S → Letters) (name 
 
   -- if all lines were written, the sink took all rows
   pub given_all : (old new : S) (p : VarBind) (more : List VarBind) (text : List ℕ) → IsLike new old
-      → AreLines (tree old) (letters old) (p ∷ more) text → stream new ≡ extended (stream old) text
-      → Given (prints tree letters name stream) old (p ∷ more) new
+      → AreLines (tree old) (letters old) (p ∷ more) text → stream new ≡ stream_after (stream old) text
+      → TakesAll (prints tree letters name stream) old (p ∷ more) new
   given_all old new p [] text is (line, rest, here, none, whole) taken = grind (arith, common_steps, append-nil)
   given_all old new p (q ∷ more) text is (line, rest, here, lines, whole) taken =
       let s = same old line in
-      let now : stream new ≡ extended (stream (later old line)) rest =
-      taken ∙ ap (extended (stream old)) whole ∙ sym (extended-twice (stream old) line rest) ∙ ap (λ st. extended st rest) (sym (reaches old line)) in (
+      let now : stream new ≡ stream_after (stream (later old line)) rest =
+      taken ∙ ap (stream_after (stream old)) whole ∙ sym (stream_after-twice (stream old) line rest)
+      ∙ ap (λ st. stream_after st rest) (sym (reaches old line)) in (
         later old line,
         (s.0, s.1, s.2, (line, here, reaches old line)),
         given_all (later old line) new q more rest (like_later new old line is) (lines_later old (q ∷ more) line rest lines) now,
@@ -90,8 +92,8 @@ module _ {S N : Type 0} (tree : S → Contents) (letters : S → Letters) (name 
   -- the sink took the first rows, and refused the row after them with the fault `why`
   abbrev IsCutOff : S → List VarBind → SinkFault → S → Type 0
   IsCutOff old rows why new =
-      (front : List VarBind) × (p : VarBind) × (back : List VarBind) × (rows ≡ front ++ p ∷ back) × (between : S)
-      × Given (prints tree letters name stream) old front between × prints tree letters name stream between p (Err why) new
+      (prefix : List VarBind) × (p : VarBind) × (back : List VarBind) × (rows ≡ prefix ++ p ∷ back) × (between : S)
+      × TakesAll (prints tree letters name stream) old prefix between × prints tree letters name stream between p (Err why) new
 
   refused_here : (old new : S) (p : VarBind) (more : List VarBind) (line : List ℕ) → IsLike new old
       → IsLine (tree old) (letters old) p.name p.value line → FailsWithin (stream old) line (stream new) → IsCutOff old (p ∷ more) fault.Output new
@@ -99,9 +101,9 @@ module _ {S N : Type 0} (tree : S → Contents) (letters : S → Letters) (name 
 
   refused_after : (old new : S) (p : VarBind) (more : List VarBind) (line : List ℕ) (why : SinkFault)
       → IsLine (tree old) (letters old) p.name p.value line → IsCutOff (later old line) more why new → IsCutOff old (p ∷ more) why new
-  refused_after old new p more line why here (front, q, back, order, between, given, refused) =
+  refused_after old new p more line why here (prefix, q, back, order, between, given, refused) =
       let s = same old line in (
-        p ∷ front,
+        p ∷ prefix,
         q,
         back,
         ap (λ rows. p ∷ rows) order,
@@ -128,25 +130,25 @@ module _ {S N : Type 0} (tree : S → Contents) (letters : S → Letters) (name 
   -- a refused row of `rows` is the refused one of all, which begin with these
   pub refused_before : (old new : S) (rows left all : List VarBind) (why : SinkFault) → all ≡ rows ++ left → IsCutOff old rows why new
       → IsCutOff old all why new
-  refused_before old new rows left all why parts (front, p, back, order, between, given, refused) = grind (arith, common_steps, append_assoc)
+  refused_before old new rows left all why parts (prefix, p, back, order, between, given, refused) = grind (arith, common_steps, append_assoc)
 
   -- the lines `text` were passed to the output, whose stream was that of `old` before
   module _ (old new : S) (p : VarBind) (more left all : List VarBind) (text sent : List ℕ) (start : Stream) (is : IsLike new old)
       (lines : AreLines (tree old) (letters old) (p ∷ more) text) (parts : all ≡ (p ∷ more) ++ left) (whole : sent ≡ text)
       (first : start ≡ stream old) where
-    taken : stream new ≡ extended start sent → stream new ≡ extended (stream old) text
-    taken e = e ∙ ap (λ (st : Stream). extended st sent) first ∙ ap (extended (stream old)) whole
+    taken : stream new ≡ stream_after start sent → stream new ≡ stream_after (stream old) text
+    taken e = e ∙ ap (λ (st : Stream). stream_after st sent) first ∙ ap (stream_after (stream old)) whole
 
-    pub given_if : (result : Result (Unit {0}) SinkFault) → left ≡ [] → OnOk result (stream new ≡ extended start sent)
-        → OnOk result (Given (prints tree letters name stream) old all new)
+    pub given_if : (result : Result (Unit {0}) SinkFault) → left ≡ [] → OnOk result (stream new ≡ stream_after start sent)
+        → OnOk result (TakesAll (prints tree letters name stream) old all new)
     given_if (Ok done) none e =
-        let P : List VarBind → Type 0 = λ rows. Given (prints tree letters name stream) old rows new in
+        let P : List VarBind → Type 0 = λ rows. TakesAll (prints tree letters name stream) old rows new in
         let is_all : all ≡ p ∷ more = parts ∙ ap (λ ps. (p ∷ more) ++ ps) none ∙ append-nil (p ∷ more) in
         subst P (sym is_all) (given_all old new p more text is lines (taken e))
     given_if (Err why) none e = tt
 
     -- if memory ran out for the next line, its row was refused
-    pub refused_next : (q : VarBind) (more_left : List VarBind) → left ≡ q ∷ more_left → stream new ≡ extended start sent
+    pub refused_next : (q : VarBind) (more_left : List VarBind) → left ≡ q ∷ more_left → stream new ≡ stream_after start sent
         → IsCutOff old all fault.Memory new
     refused_next q more_left next e = (
       p ∷ more,

@@ -4,12 +4,12 @@ use Rattle.std.proofs.{lemmas.Grind.common_steps, lemmas.Bool.and_parts}
 use Rattle.std.specs.{Prelude.codes, Prelude.if◌then◌else◌, Prelude.decimal, Fmt.signed_decimal, List.flat_map, List.list_all}
 use Rattle.snmp_oid.specs.Numeric.{numeric_text}
 use Rattle.snmp_wire.specs.Message.{Datum, VarBind, integer_value, octet_string, object_id, counter32, gauge32, time_ticks, counter64}
-use Rattle.smi_value.specs.{declared.letters.Letters.Letters, Letters.AreLetters, Pieces.dotted, Pieces.quoted, Value.ShowsValue}
+use Rattle.smi_value.specs.{declared.letters.Letters.Letters, Letters.AreLetters, Pieces.printable_or_dot, Pieces.quoted, Value.ShowsValue}
 use Rattle.smi_value.specs.declared.letters.NameForm.TheVariants as names
 use Rattle.smi_value.specs.declared.letters.TypeForm.TheVariants as types
 use Rattle.smi_value.specs.declared.letters.StringForm.TheVariants as strings
 use Rattle.smi_value.specs.Pieces as pieces
-use Rattle.smi_value.specs.Texts.{escaped, hexadecimal_text, is_printable}
+use Rattle.smi_value.specs.Texts.{escape_octet, hexadecimal_text, is_printable}
 use Rattle.smi_show.specs.Line.{IsLine}
 use Rattle.snmp_tools.specs.{Lines.AreLines, RowText.row_line, RowText.string_text, RowText.value_text}
 use Rattle.smi_tree.specs.{Tree.Contents}
@@ -38,13 +38,13 @@ HasNoSyntax mib = (o : List ℕ) → nearest_syntax mib o ≡ None
 -- ---- strings
 
 -- if each octet is printable, no dots are written
-without_dots : (xs : List ℕ) → list_all is_printable xs ≡ true → flat_map (λ x. escaped (dotted x)) xs ≡ flat_map escaped xs
+without_dots : (xs : List ℕ) → list_all is_printable xs ≡ true → flat_map (λ x. escape_octet (printable_or_dot x)) xs ≡ flat_map escape_octet xs
 without_dots [] e = refl
 without_dots (x ∷ xs) e = grind (arith, common_steps, and_parts, without_dots xs)
 
 text_is : (xs : List ℕ) (b : Bool) → list_all is_printable xs ≡ b
     → (if b then codes "STRING: " ++ quoted xs else codes "Hex-STRING: " ++ hexadecimal_text xs)
-    ≡ (if b then codes "STRING: \"" ++ flat_map escaped xs ++ codes "\"" else codes "Hex-STRING: " ++ hexadecimal_text xs)
+    ≡ (if b then codes "STRING: \"" ++ flat_map escape_octet xs ++ codes "\"" else codes "Hex-STRING: " ++ hexadecimal_text xs)
 text_is xs true e = ap (λ (t : List ℕ). codes "STRING: \"" ++ t ++ codes "\"") (without_dots xs e)
 text_is xs false e = refl
 
@@ -54,7 +54,7 @@ string_is (x ∷ xs) = text_is (x ∷ xs) (list_all is_printable (x ∷ xs)) ref
 
 -- ---- values
 
--- a number after the name of its type
+-- a text of a type's name, a shown number and nothing else is the name followed by the number
 number_is : (word shown number text : List ℕ) → shown ≡ number → text ≡ word ++ shown ++ [] → text ≡ word ++ number
 number_is word shown number text e whole = whole ∙ append-nil (word ++ shown) ∙ ap (λ (t : List ℕ). word ++ t) e
 

@@ -8,9 +8,9 @@ use Rattle.snmp_oid.specs.Identifier.{IsWire, wire}
 use Rattle.snmp_io.specs.{Files.Holdings, Files.MayHold, Steps.AreDone, Steps.IsFirstToFail}
 use Rattle.snmp_net.specs.Address.{Address, address_of}
 use Rattle.snmp_words.specs.Words.{texts_at}
-use Rattle.snmp_tools.specs.Asking.{HasAgent, IsNameIfGiven, IsReached, MibsFail, NameFails, ReachFails, agent_step, community_step, letters_step}
+use Rattle.snmp_tools.specs.Asking.{HasAgent, IsOptionalName, IsReached, MibsFail, NameFails, ReachFails, agent_step, community_step, letters_step}
 use Rattle.snmp_tools.specs.Asking.{version_step}
-use Rattle.snmp_tools.specs.{private.Planned.chosen, Letters.Choices, Message.Fault, Message.out_of_memory, Message.unsendable, load.Loaded.IsMibOf}
+use Rattle.snmp_tools.specs.{private.Planned.chosen, Letters.Choices, FaultText.Fault, FaultText.out_of_memory, FaultText.unsendable, load.Loaded.IsMibOf}
 use Rattle.snmp_tools.specs.{private.Start.BeginFails, private.Start.ResumeFails, declared.plan.Orders.Orders, declared.plan.Plan.Plan}
 use Rattle.snmp_tools.specs.private.Planned.{AgentFails, AreOrdersOf, HasTextsOf, NamesFail, ShowingFails, plan_of, question_of}
 use Rattle.snmp_tools.specs.Question.{AreNames, AskFor, AskWords, FailsBy, FailsFor, HasMeaning, HasSendable, HasUnsendable, IsDoneBy, IsDoneFor}
@@ -22,7 +22,7 @@ use Rattle.snmp_tools.specs.declared.plan.Question.TheVariants as questions
 use Rattle.smi_tree.specs.{Tree.Contents}
 use Rattle.snmp_tools.proofs.Texts.{texts-more, texts-parts}
 
--- the text of an optional reference, or of the default
+-- the text of an optional reference or its default is the text of the reference, or that of the default if there is none
 pub text_or : (o : Option (Bor (List ℕ))) (d r : Bor (List ℕ)) → r ≡ unwrap_or o d → r.now ≡ unwrap_or (option_map (λ s. s.now) o) d.now
 text_or None d r e = ap (λ (s : Bor (List ℕ)). s.now) e
 text_or (Some t) d r e = ap (λ (s : Bor (List ℕ)). s.now) e
@@ -87,7 +87,7 @@ module _ (mib : Contents) (P : LaterStep → Type 0) (one : (text o : List ℕ) 
   each_text (text ∷ texts) [] e = absurd e
   each_text (text ∷ texts) (o ∷ os) e = (one text o e.0, each_text texts os e.1)
 
-  each_after : (given planned : Option (List ℕ)) → IsNameIfGiven mib given planned → AreDone P (goes_on_after (λ text. name_step text ∷ []) given)
+  each_after : (given planned : Option (List ℕ)) → IsOptionalName mib given planned → AreDone P (goes_on_after (λ text. name_step text ∷ []) given)
   each_after None planned h = tt
   each_after (Some text) planned h = (one text h.0 h.1, tt)
 
@@ -96,7 +96,7 @@ module _ (mib : Contents) (P : LaterStep → Type 0) (one : (text o : List ℕ) 
   each_name (walk bulk letters after name) choices (subtree w) q = (one (root_text name) w.root q.root, each_after after w.after q.goes_on)
   each_name request choices question q = absurd q
 
--- one more text means one more identifier
+-- if the first `i` texts mean the identifiers `os`, and the text at `i` means `o`, then the first `i + 1` texts mean `os` followed by `o`
 pub more_names : (mib : Contents) (texts : List (Bor (List ℕ))) (i : ℕ) (d : Bor (List ℕ)) (os : List (List ℕ)) (o : List ℕ) → i < length texts
     → AreNames mib (texts_at (take i texts)) os → TextMeans mib (get_or texts i d).now (Ok o)
     → AreNames mib (texts_at (take (i + 1) texts)) (os ++ o ∷ [])
@@ -192,7 +192,7 @@ module _ (words : AskWords) (files : Holdings) (why : Fault) where
       loaded : (why ≡ out_of_memory) ⊎ RefusedBy (reaching_steps words.request) → IsLateRefusal words files mib why
       loaded h = record { loaded = loading_done; fails = h }
 
-      -- a name has no meaning
+      -- if a request fails at its names, then memory ran out or one of its steps for the names was the first to fail
       at_names : (request : Request) → NamesFail request mib why → (why ≡ out_of_memory) ⊎ RefusedBy (name_steps request)
       at_names (get texts) (inl e) = inl e
       at_names (get texts) (inr h) =
@@ -215,7 +215,7 @@ module _ (words : AskWords) (files : Holdings) (why : Fault) where
       names_done = each_name mib DoneBy (λ text o means. (o, means))
 
       -- the name to continue after is neither the root nor below it, or can't be sent
-      resumed : (root after : List ℕ) (text : List ℕ) (given planned : Option (List ℕ)) → IsNameIfGiven mib given planned → planned ≡ Some after
+      resumed : (root after : List ℕ) (text : List ℕ) (given planned : Option (List ℕ)) → IsOptionalName mib given planned → planned ≡ Some after
           → TextMeans mib text (Ok root) → ResumeFails root after (unwrap_or given []) why
           → RefusedBy (goes_on_after (λ t. below_step text t ∷ sent_step t ∷ []) given)
       resumed root after text None planned h e means f = let no : ⊥ = cc in absurd no
@@ -246,7 +246,7 @@ module _ (words : AskWords) (files : Holdings) (why : Fault) where
         only_agent : HasAgent words.asking.agent agent
         only_agent = subst (HasAgent words.asking.agent) over only
 
-        -- the agent isn't reached
+        -- if memory runs out, or if the agent can't be reached, then the job is refused for that reason
         pub unreached : (why ≡ out_of_memory) ⊎ ReachFails files mib agent why → IsLateRefusal words files mib why
         unreached (inl e) = loaded (inl e)
         unreached (inr f) =

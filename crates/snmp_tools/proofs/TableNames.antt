@@ -1,10 +1,10 @@
 -- The names of a table file are what their texts mean by a tree (`names_are_meant`,
--- `front_named`, `front_unnamed`).
+-- `prefix_named`, `prefix_unnamed`).
 use Rattle.std.proofs.Common.{◌≡◌, ◌∙◌, ℕ, List, Option, Some, None, Result, Ok, Err, ap, refl, sym, subst}
 use Rattle.std.specs.Result.{result_ok}
 use Rattle.snmp_oid.specs.Identifier.{IsIdentifier}
-use Rattle.snmp_agent.specs.table.Format.{IsFrontRead, Names, bar, names_by, numeric_names}
-use Rattle.smi_show.specs.{name.Meaning.meaning, name.Meant.FrontMeans, name.Meant.TextMeans}
+use Rattle.snmp_agent.specs.table.Format.{IsLeadingName, Names, bar, names_by, numeric_names}
+use Rattle.smi_show.specs.{name.Meaning.meaning, name.Meant.PrefixMeans, name.Meant.TextMeans}
 use Rattle.smi_show.specs.declared.name.error.NameError.{NameError}
 use Rattle.snmp_tools.specs.{serve.TableFile.names_in, serve.TableFile.AreNamesIn}
 use Rattle.smi_tree.specs.{Tree.Contents}
@@ -40,19 +40,19 @@ names_are_meant found one tree text o =
     at (Err why) h e = let no : ⊥ = cc in absurd no
 
 module _ (one : OneMeaning) (tree : Contents) (meant : AreNamesIn tree (names_in tree)) where
-  pub front_named : (text o : List ℕ) (size : ℕ) → IsIdentifier o → FrontMeans tree bar text (Ok (o, size))
-      → IsFrontRead (names_in tree) text (Some (o, size))
-  front_named text o size is h = record {
-    front = h.0;
-    place = h.1;
+  pub prefix_named : (text o : List ℕ) (size : ℕ) → IsIdentifier o → PrefixMeans tree bar text (Ok (o, size))
+      → IsLeadingName (names_in tree) text (Some (o, size))
+  prefix_named text o size is h = record {
+    prefix = h.0;
+    is_prefix = h.1;
     named = (((meant h.0 o).1 h.2, is), λ p k. one_name one tree h.0 p o ((meant h.0 p).0 k.0) h.2);
     size = h.3;
   }
 
-  pub front_unnamed : (text : List ℕ) (why : NameError) → FrontMeans tree bar text (Err why) → IsFrontRead (names_in tree) text None
-  front_unnamed text why h = record {
-    front = h.0;
-    place = h.1;
+  pub prefix_unnamed : (text : List ℕ) (why : NameError) → PrefixMeans tree bar text (Err why) → IsLeadingName (names_in tree) text None
+  prefix_unnamed text why h = record {
+    prefix = h.0;
+    is_prefix = h.1;
     named = λ p k. no_name one tree h.0 p why ((meant h.0 p).0 k.0) h.2;
     size = tt;
   }

@@ -12,18 +12,19 @@ use Rattle.snmp_agent.specs.{table.Exact.HasOne, table.Listing.variables, table.
 use Rattle.snmp_agent.specs.table.Stated.{AreTableBy, IsTableIn, IsTableOf}
 use Rattle.snmp_agent.specs.table.Table as table
 use Rattle.snmp_agent.specs.table.Table.{IsGet, IsMibView, IsRow, MibView}
-use Rattle.snmp_walk.specs.{Link.Agents, Link.OneOf, Ordered.AreOrdered, Room.HasRoomForEach, Room.IsShort, Walker.Walker}
+use Rattle.snmp_walk.specs.{Link.Agents, Link.OneOf, Ordered.AreOrdered, Room.HasRoomForEach, Room.IsShort, WalkState.WalkState}
 use Rattle.snmp_walk.specs.Walk.{or_only, rest_of, rows_below}
 use Rattle.snmp_walk.specs.declared.mode.Method.TheVariants as method
 use Rattle.snmp_walk.specs.declared.mode.Mode.TheVariants as mode
 use Rattle.smi_show.specs.{name.Meant.TextMeans}
 use Rattle.smi_tree.specs.{Bare.bare, Tree.IsTree}
-use Rattle.snmp_io.specs.{Files.Holdings, Count.HasRisen, Output.IsWritten, Output.Stream, Output.TakesFront, Output.extended, Streams.extended-nil}
+use Rattle.snmp_io.specs.{Files.Holdings, Count.HasIncreased, Output.IsWritten, Output.Stream, Output.TakesPrefix, Output.stream_after}
+use Rattle.snmp_io.specs.{Streams.stream_after-nil}
 use Rattle.snmp_net.specs.Address.{Address, IsAgent, udp, table as table_at}
 use Rattle.snmp_words.specs.Words.{ServeWords, StateJob, WalkWords, snmpd, walk_line}
 use Rattle.snmp_tools.specs.{serve.TableFile.names_in, serve.TableFile.AreNamesIn, Headline.IsAsk, Headline.IsMishap, Headline.WritesRowsOf}
 use Rattle.snmp_tools.specs.{Lines.AreLines, private.Planned.numeric_walk, RowText.row_line, Letters.HaveChosen, Letters.no_choices}
-use Rattle.snmp_tools.specs.{Answer.IsFeasible, Answer.agent_over, Answer.first_of, Asking.AreShown, Asking.IsNameIfGiven}
+use Rattle.snmp_tools.specs.{Answer.IsFeasible, Answer.agent_over, Answer.first_of, Asking.AreShown, Asking.IsOptionalName}
 use Rattle.snmp_tools.specs.Question.{AskFor, Plan, Walk, of_walk, root_text, subtree}
 use Rattle.snmp_tools.specs.BothEnds.{IsAskInNumbers, IsWalkInNumbers}
 use Rattle.snmp_tools.specs.TableWalk as page
@@ -83,7 +84,7 @@ words_ask read words root agent version numeric short is none whole from identif
     method = refl;
     counts = refl;
     root = subst (λ (n : Option (List ℕ)). TextMeans bare (root_text n) (Ok root)) (sym from) (read bare root identifier);
-    goes_on = subst (λ (a : Option (List ℕ)). IsNameIfGiven bare a None) (sym whole) refl;
+    goes_on = subst (λ (a : Option (List ℕ)). IsOptionalName bare a None) (sym whole) refl;
   };
 }
 
@@ -151,28 +152,28 @@ are_walked ls root got (row ∷ more) are is_got = page.below (λ e. cc) are
 -- ---- what is written
 
 -- a prefix of the lines of the first rows is one of the lines of all rows
-front_is : (mib : Contents) (before after : Stream) (rows first rest : List VarBind) (text : List ℕ) → HasNoSyntax mib → rows ≡ first ++ rest
+prefix_is : (mib : Contents) (before after : Stream) (rows first rest : List VarBind) (text : List ℕ) → HasNoSyntax mib → rows ≡ first ++ rest
     → AreLines mib numeric_letters first text ⊎ ((shown : List ℕ) × AreLines mib numeric_letters rows shown × (text ≡ shown ++ []))
-    → TakesFront before text after → TakesFront before (flat_map row_line rows) after
-front_is mib before after rows first rest text none parts (inl are) taken = grind (arith, common_steps, flat_map-append, lines_are, append_assoc)
-front_is mib before after rows first rest text none parts (inr (shown, are, whole)) taken = grind (arith, common_steps, append-nil, lines_are)
+    → TakesPrefix before text after → TakesPrefix before (flat_map row_line rows) after
+prefix_is mib before after rows first rest text none parts (inl are) taken = grind (arith, common_steps, flat_map-append, lines_are, append_assoc)
+prefix_is mib before after rows first rest text none parts (inr (shown, are, whole)) taken = grind (arith, common_steps, append-nil, lines_are)
 
 all_are : (mib : Contents) (before after : Stream) (rows : List VarBind) (text : List ℕ) → HasNoSyntax mib
-    → ((shown : List ℕ) × AreLines mib numeric_letters rows shown × (text ≡ shown ++ [])) → after ≡ extended before text
-    → after ≡ extended before (flat_map row_line rows)
+    → ((shown : List ℕ) × AreLines mib numeric_letters rows shown × (text ≡ shown ++ [])) → after ≡ stream_after before text
+    → after ≡ stream_after before (flat_map row_line rows)
 all_are mib before after rows text none (shown, are, whole) written = grind (arith, common_steps, append-nil, lines_are)
 
 -- if there are no warnings, no octets were written for them
 no_warnings : (before now : Stream) → (now ≡ before) ⊎ IsWritten before [] now → IsWritten before [] now
-no_warnings before now (inl same) = inl (same ∙ sym (extended-nil before))
+no_warnings before now (inl same) = inl (same ∙ sym (stream_after-nil before))
 no_warnings before now (inr written) = written
 
 mishap_is : (before after err_before err_after : Stream) (status : ℕ) → (status ≡ 0) ⊎ IsMishap [] before after err_before err_after status
-    → (status ≡ 0) ⊎ ((status ≡ 1) × (HasRisen before.faults after.faults
+    → (status ≡ 0) ⊎ ((status ≡ 1) × (HasIncreased before.faults after.faults
     ⊎ ((now : Stream) × IsWritten err_before [] now × IsWritten now (codes "Out of memory.\n") err_after)))
 mishap_is before after err_before err_after status (inl zero_status) = inl zero_status
 mishap_is before after err_before err_after status (inr (one, inl risen)) = inr (one, inl risen)
-mishap_is before after err_before err_after status (inr (one, inr (now, told, same))) = grind (arith, common_steps, no_warnings)
+mishap_is before after err_before err_after status (inr (one, inr (now, was_reported, same))) = grind (arith, common_steps, no_warnings)
 
 -- ---- what the walk needs
 
@@ -190,7 +191,7 @@ only_is_long got (row ∷ more) = omega arith
 
 -- if strings are short, there is room for each row
 abbrev pub ShortHaveRoom : Type 0
-ShortHaveRoom = (agents : Agents) (view : MibView) (first : Walker) → first.community ≡ agents.community → length agents.community ≤ 30
+ShortHaveRoom = (agents : Agents) (view : MibView) (first : WalkState) → first.community ≡ agents.community → length agents.community ≤ 30
     → 1472 ≤ agents.max_size → length first.asked ≤ 128 → IsMibView view → ((p : VarBind) → IsRow view p → IsShort p.value)
     → HasRoomForEach agents view first
 
@@ -274,11 +275,11 @@ module _ (loads : IsTree [] bare []) (read : NumbersAreRead) (named : AreNamesIn
         are_rows = (w.got, w.is_got, refl);
       } in
       let written = writes rows ask in
-      let first = written.front_written in
+      let first = written.prefix_written in
       record {
         rows = rows;
         are_walked = w.gives;
-        front = front_is bare before after rows first.0 first.1 first.2 bare_has_no_syntax first.3 first.4 first.5;
+        prefix = prefix_is bare before after rows first.0 first.1 first.2 bare_has_no_syntax first.3 first.4 first.5;
         all = λ zero_status. (
             let whole = written.all_written_at_status_0 zero_status in
             all_are bare before after rows whole.0 bare_has_no_syntax whole.1 whole.2
@@ -320,6 +321,6 @@ module _ (loads : IsTree [] bare []) (read : NumbersAreRead) (named : AreNamesIn
           table = w.by_names;
           are_rows = (w.got, w.is_got, refl);
         };
-        front = λ before after p. front_is bare before after rows p.0 p.1 p.2 bare_has_no_syntax p.3 p.4 p.5;
+        prefix = λ before after p. prefix_is bare before after rows p.0 p.1 p.2 bare_has_no_syntax p.3 p.4 p.5;
         all = λ before after p. all_are bare before after rows p.0 bare_has_no_syntax p.1 p.2;
       }

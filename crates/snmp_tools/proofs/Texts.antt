@@ -2,15 +2,15 @@
 use Rattle.std.proofs.Common.{arith, ◌≡◌, ◌∙◌, ◌+◌, ◌<◌, ap, ℕ, List, [], ◌∷◌, ◌++◌, Option, Some, None, inl, inr, Bor, sym, append_assoc, drop}
 use Rattle.std.proofs.Common.{get_or, length, take}
 use Rattle.std.proofs.{lemmas.Grind.common_steps, lemmas.List.drop_more, lemmas.List.map-append, lemmas.List.take-append-drop, lemmas.List.take_more}
-use Rattle.snmp_io.specs.{Draft.Written, Draft.Adds, Output.Stream, Output.extended}
+use Rattle.snmp_io.specs.{Draft.Written, Draft.Adds, Output.Stream, Output.stream_after}
 use Rattle.snmp_words.specs.Words.{texts_at}
-use Rattle.snmp_tools.specs.{Lines.IsTextPrinted, Lines.StopsAtText, Message.Fault}
+use Rattle.snmp_tools.specs.{Lines.IsTextPrinted, Lines.StopsAtText, FaultText.Fault}
 
 -- if `a` and then `b` are appended, `a ++ b` is
 pub adds_both : (old middle new : Written) (a b : List ℕ) → Adds old a middle → Adds middle b new → Adds old (a ++ b) new
 adds_both old middle new a b one two = grind (arith, common_steps, append_assoc)
 
--- the same if the second text has two pieces
+-- if `a` is appended and then `b ++ c`, then `a ++ b ++ c` is
 pub adds_after : (old middle new : Written) (a b c : List ℕ) → Adds old a middle → Adds middle (b ++ c) new → Adds old (a ++ b ++ c) new
 adds_after old middle new a b c one two = grind (arith, common_steps, append_assoc, adds_both)
 
@@ -29,8 +29,8 @@ texts-parts texts i d inside =
 
 -- if no fault is reported, the text was printed
 pub printed : (before after : Stream) (text line : List ℕ) (fault : Option Fault) → text ≡ line → fault ≡ None → IsTextPrinted before text after fault
-    → after ≡ extended before line
-printed before after text line fault same none (inl (is, e)) = is ∙ ap (extended before) same
+    → after ≡ stream_after before line
+printed before after text line fault same none (inl (is, e)) = is ∙ ap (stream_after before) same
 printed before after text line fault same none (inr (inl (kept, e))) = let no : ⊥ = cc in absurd no
 printed before after text line fault same none (inr (inr (fails, e))) = let no : ⊥ = cc in absurd no
 

@@ -9,14 +9,14 @@ use Rattle.snmp_io.specs.{Files.Holdings, Files.Holds, Files.MayHold, Output.Str
 use Rattle.snmp_tools.specs.load.Files.{AreModulesOf, IsFilesRefusal, Refusal, no_memory, texts}
 use Rattle.snmp_tools.specs.load.Loaded.{IsLoaded, LoadFacts}
 use Rattle.snmp_tools.specs.{Asking.MibsFail, load.Loaded.AreLoaded, declared.failure.Failure.Failure}
-use Rattle.snmp_tools.specs.Message.{Fault, bad_modules, fault_of, modules_fault, out_of_memory, outcome_of}
+use Rattle.snmp_tools.specs.FaultText.{Fault, bad_modules, fault_of, modules_fault, out_of_memory, outcome_of}
 
 -- if a `?` returns the failure `f`, the outcome is its fault
 pub outcome_err : {T : Type 0} (r : Result T Failure) (f : Failure) → IsErrAnd r (λ e. e ≡ f) → outcome_of r ≡ Some (fault_of f)
 outcome_err (Ok x) f h = absurd h
 outcome_err (Err e) f h = ap (λ (x : Failure). Some (fault_of x)) h
 
--- the same, if only the fault of the failure is known
+-- if the failure that is returned has the fault `why`, the outcome is `why`
 pub outcome_as : {T : Type 0} (r : Result T Failure) (why : Fault) → IsErrAnd r (λ e. fault_of e ≡ why) → outcome_of r ≡ Some why
 outcome_as (Ok x) why h = absurd h
 outcome_as (Err e) why h = ap Some h
@@ -25,7 +25,7 @@ pub if_err : {T : Type 0} (P : Failure → Type 0) (r : Result T Failure) (f : F
 if_err P (Ok x) f h p = absurd h
 if_err P (Err e) f h p = subst P (sym h) p
 
--- a load of the same files
+-- if two lists of paths are equal, then a load of the files at one is a load of the files at the other
 pub loads_from : (files : Holdings) (given paths : List (Bor (List ℕ))) (tree : Contents) (before after : Stream) → given ≡ paths
     → IsLoaded (MayHold files) (texts given) tree before after → IsLoaded (MayHold files) (texts paths) tree before after
 loads_from files given paths tree before after same =

@@ -4,16 +4,17 @@ use Rattle.snmp_oid.specs.Identifier.{IsWire, wire}
 use Rattle.snmp_agent.specs.{table.Listing.variables, table.Table.IsGet, table.Table.MibView}
 use Rattle.snmp_wire.specs.{Canon.canon, Message.Message, Message.VarBind}
 use Rattle.snmp_walk.specs.{Facts.HasNone, Facts.IsDone, Facts.IsLawfulEnd, Link.Agents}
-use Rattle.snmp_walk.specs.{Link.IsUnanswered, Ran.IsGotOver, Ran.IsWalkedOver, Request.resumed}
-use Rattle.snmp_walk.specs.{Request.started, Room.HasIds, Room.HasRoomForEach, Walk.rest_of}
-use Rattle.snmp_walk.specs.{Walk.walk_of, Walker.Walker, declared.end.WalkEnd.WalkEnd}
+use Rattle.snmp_walk.specs.{Link.IsUnanswered, RunResult.IsGotOver, RunResult.IsWalkedOver}
+use Rattle.snmp_walk.specs.{Request.resume_state}
+use Rattle.snmp_walk.specs.{Request.start_state, Room.HasIds, Room.HasRoomForEach, Walk.rest_of}
+use Rattle.snmp_walk.specs.{Walk.walk_of, WalkState.WalkState, declared.end.WalkEnd.WalkEnd}
 use Rattle.snmp_walk.specs.{declared.link.Link.Ghosts as LinkFacts, Ordered.IsAtOrBelow}
 use Rattle.snmp_walk.specs.Get.{AreGot, HasRoomForGet, IsEndOfGet, IsTooBig, get_request}
 use Rattle.snmp_walk.specs.declared.end.SinkFault.TheVariants as sink
 use Rattle.snmp_walk.specs.declared.end.WalkEnd.TheVariants as ending
 use Rattle.snmp_tools.specs.Question.{Plan, Question, Walk, names, subtree}
 
--- ---- over a table
+-- ---- the answer of an agent over a table
 
 -- the agent in memory over the table `view`
 abbrev pub agent_over : Plan → MibView → Agents
@@ -24,12 +25,12 @@ agent_over plan view =
 abbrev pub request_for : Plan → List (List ℕ) → Message
 request_for plan os = get_request plan.community 1 os
 
-abbrev pub first_after : Option (List ℕ) → (community : List ℕ) → Walk → Walker
-first_after None community w = started w.root w.mode w.method community 1
-first_after (Some after) community w = resumed w.root after w.method community 1
+abbrev pub first_after : Option (List ℕ) → (community : List ℕ) → Walk → WalkState
+first_after None community w = start_state w.root w.mode w.method community 1
+first_after (Some after) community w = resume_state w.root after w.method community 1
 
 -- the walk before its first request, which has the id 1
-abbrev pub first_of : (community : List ℕ) → Walk → Walker
+abbrev pub first_of : (community : List ℕ) → Walk → WalkState
 first_of community w = first_after w.after community w
 
 abbrev pub AreRowsAfter : Option (List ℕ) → Walk → MibView → List VarBind → Type 0
@@ -95,7 +96,7 @@ HasReason (subtree w) plan view given end =
 -- none (`refused`), and the run ended with `end`.
 pub record IsAsked (plan : Plan) (question : Question) (view : MibView)
     (given refused : List VarBind) (end : WalkEnd) : Type 0 where
-  pub front : (rows : List VarBind) → AreRowsOf question view rows
+  pub prefix : (rows : List VarBind) → AreRowsOf question view rows
       → (more : List VarBind) × (rows ≡ (given ++ refused) ++ more)
   pub whole : (rows : List VarBind) → AreRowsOf question view rows → IsDone end → given ≡ rows
   pub linked : end ≢ ending.Link

@@ -13,8 +13,8 @@ use Rattle.snmp_tools.specs.{serve.TableFile.HasTable, serve.TableFile.TableFail
 use Rattle.snmp_agent.specs.table.Table.{MibView}
 use Rattle.snmp_net.specs.Address.{Address, IsAgent, table, udp}
 use Rattle.snmp_words.specs.Words.{AskingWords}
-use Rattle.snmp_tools.specs.Message.{Fault, bad_agent, bad_letter, bad_modules, bad_name}
-use Rattle.snmp_tools.specs.Message.{bad_version, long_community}
+use Rattle.snmp_tools.specs.FaultText.{Fault, bad_agent, bad_letter, bad_modules, bad_name}
+use Rattle.snmp_tools.specs.FaultText.{bad_version, long_community}
 use Rattle.smi_tree.specs.{Tree.Contents}
 
 -- ---- arguments, before any file is read
@@ -66,9 +66,9 @@ NameFails tree text why =
     (error : NameError) × TextMeans tree text (Err error) × (why ≡ bad_name error text)
 
 -- `name` is the identifier that the text means, or None if there is no text
-abbrev pub IsNameIfGiven : Contents → Option (List ℕ) → Option (List ℕ) → Type 0
-IsNameIfGiven mib None name = name ≡ None
-IsNameIfGiven mib (Some text) name =
+abbrev pub IsOptionalName : Contents → Option (List ℕ) → Option (List ℕ) → Type 0
+IsOptionalName mib None name = name ≡ None
+IsOptionalName mib (Some text) name =
     (o : List ℕ) × TextMeans mib text (Ok o) × (name ≡ Some o)
 
 -- the agent's table file defines a table, or the agent is reached over the network

@@ -12,7 +12,7 @@ use Rattle.snmp_agent.specs.{Event.Event, Event.InTurn, Reply.Agent, Serving.Are
 use Rattle.snmp_agent.specs.{table.Format.Names, table.Stated.IsTableOf, table.Table.MibView}
 use Rattle.snmp_agent.specs.declared.server.Served.{Served}
 use Rattle.snmp_io.specs.Files.{Holdings, Holds}
-use Rattle.snmp_io.specs.Output.{Stream, TakesFront, extended}
+use Rattle.snmp_io.specs.Output.{Stream, TakesPrefix, stream_after}
 use Rattle.snmp_net.specs.{Address.IsAgent, Address.udp, declared.links.Links.Ghosts as Network}
 use Rattle.snmp_oid.specs.Numeric.{numeric_text}
 use Rattle.snmp_walk.specs.Network.{Happening, IsFaithful, of_agents, of_walk}
@@ -20,14 +20,14 @@ use Rattle.snmp_walk.specs.{Tries.Happens, declared.end.WalkEnd.WalkEnd}
 use Rattle.snmp_walk.specs.declared.link.Link.{Ghosts as LinkFacts}
 use Rattle.snmp_wire.specs.Message.{VarBind}
 use Rattle.snmp_words.specs.Words.{ServeWords, StateJob, WalkWords, snmpd}
-use Rattle.snmp_tools.specs.serve.Outcome.{counts_line, listening_line}
+use Rattle.snmp_tools.specs.serve.ServeResult.{counts_line, listening_line}
 use Rattle.snmp_tools.specs.serve.Service.{IsPlaced, served_agent}
-use Rattle.snmp_tools.specs.{serve.TableFile.AreNamesIn, Lines.IsTextPrinted, Message.Fault}
-use Rattle.snmp_tools.specs.{load.Loaded.AreLoaded, Outcome.IsLinked, Outcome.IsReported}
-use Rattle.snmp_tools.specs.{Outcome.IsShownOver}
+use Rattle.snmp_tools.specs.{serve.TableFile.AreNamesIn, Lines.IsTextPrinted, FaultText.Fault}
+use Rattle.snmp_tools.specs.{load.Loaded.AreLoaded, AskResult.IsLinked, AskResult.IsReported}
+use Rattle.snmp_tools.specs.{AskResult.IsShownOver}
 use Rattle.snmp_tools.specs.{RowText.row_line, Seen.Seen, TableWalk.AreWalked}
 use Rattle.snmp_tools.specs.Answer.{AreRowsOf, IsAskedOver}
-use Rattle.snmp_tools.specs.Headline.{IsFrontWritten, IsWholeWritten}
+use Rattle.snmp_tools.specs.Headline.{IsPrefixWritten, IsWholeWritten}
 use Rattle.snmp_tools.specs.Question.{AskFor, AskWords, Plan, Question, names, of_walk as asking_of}
 use Rattle.snmp_tools.specs.Question.{subtree}
 use Rattle.smi_tree.specs.{Tree.Contents}
@@ -123,7 +123,7 @@ ServesInTurn {N} {V} {D} {P} {E} net endpoint_at happens =
 pub data IsAtServer {N V D P E : Type 0} (net : Network N V D) (endpoint_at : D → E)
     (happens : E → Event P → E → Type 0) (words : ServeWords) (view : MibView)
     (before after : Seen N) (status : ℕ) (events : List (Event P)) : Type 0 where
-  unserved : events ≡ [] → TakesFront before.out (listening_line words.listen) after.out
+  unserved : events ≡ [] → TakesPrefix before.out (listening_line words.listen) after.out
       → status ≢ 0
       → IsAtServer net endpoint_at happens words view before after status events
   served : (at : IsPlaced words) (door later : D) (opened : N) (counts : Served)
@@ -132,7 +132,7 @@ pub data IsAtServer {N V D P E : Type 0} (net : Network N V D) (endpoint_at : D 
       → net.serves opened door (served_agent words view) words.turns counts after.links later
       → AreTurnsAt endpoint_at happens door (served_agent words view) words.turns counts later
       events
-      → IsTextPrinted (extended before.out (listening_line words.listen)) (counts_line counts)
+      → IsTextPrinted (stream_after before.out (listening_line words.listen)) (counts_line counts)
       after.out fault
       → IsReported fault warned after.err status
       → IsAtServer net endpoint_at happens words view before after status events
@@ -164,8 +164,8 @@ pub record PrintsServed {N V C M W D P E : Type 0} (net : Network N V C) (wire :
       server_status served
   -- Whatever fails, a prefix of the lines of the first rows is written, or of the whole text, and
   -- nothing else.
-  pub front_written : AreEndsOfOneRun asked served
-      → IsFrontWritten ask.mib ask.plan rows before.out after.out
+  pub prefix_written : AreEndsOfOneRun asked served
+      → IsPrefixWritten ask.mib ask.plan rows before.out after.out
   -- At status 0 the whole text is written.
   pub all_written_at_status_0 : AreEndsOfOneRun asked served → status ≡ 0
       → IsWholeWritten ask.mib ask.plan rows before.out after.out
@@ -195,7 +195,7 @@ pub record IsAskInNumbers (words : WalkWords) (files : Holdings) (serving : Serv
   pub rows : List VarBind
   pub are_walked : AreWalked lines root rows
   pub ask : IsAskOfServer (asking_of false words) files serving server_files rows
-  pub front : (before after : Stream) → IsFrontWritten ask.mib ask.plan rows before after
-      → TakesFront before (flat_map row_line rows) after
+  pub prefix : (before after : Stream) → IsPrefixWritten ask.mib ask.plan rows before after
+      → TakesPrefix before (flat_map row_line rows) after
   pub all : (before after : Stream) → IsWholeWritten ask.mib ask.plan rows before after
-      → after ≡ extended before (flat_map row_line rows)
+      → after ≡ stream_after before (flat_map row_line rows)

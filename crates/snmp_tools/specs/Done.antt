@@ -6,11 +6,12 @@ use Rattle.snmp_net.specs.declared.links.Links.{Ghosts as Network}
 use Rattle.snmp_words.specs.Words.{ServeWords, StateJob, Stated, TranslateWords, snmpbulkwalk}
 use Rattle.snmp_words.specs.Words.{snmpd, snmpget, snmptranslate, snmpwalk}
 use Rattle.snmp_tools.specs.{load.Loaded.LoadFacts, load.Loaded.any_load, Headline.WritesRowsOf}
-use Rattle.snmp_tools.specs.{Message.Fault, Usage.AreFaultless}
-use Rattle.snmp_tools.specs.{Outcome.IsOutcome, Outcome.IsReported, Outcome.IsRun, Seen.Seen}
-use Rattle.snmp_tools.specs.{serve.Outcome.IsServeOutcome, translate.Outcome.IsTranslateOutcome}
+use Rattle.snmp_tools.specs.{FaultText.Fault, Usage.AreFaultless}
+use Rattle.snmp_tools.specs.{AskResult.IsOutcome, AskResult.IsReported, AskResult.IsRun, Seen.Seen}
+use Rattle.snmp_tools.specs.{serve.ServeResult.IsServeOutcome}
+use Rattle.snmp_tools.specs.{translate.TranslateResult.IsTranslateOutcome}
 use Rattle.snmp_tools.specs.Question.{AskWords, of_get, of_walk}
-use Rattle.snmp_tools.specs.translate.Headline.{PrintsAll, PrintsFront}
+use Rattle.snmp_tools.specs.translate.Headline.{PrintsAll, PrintsPrefix}
 
 -- what is promised of a job that asks an agent, between the states `before` and `after` of the
 -- world outside
@@ -30,7 +31,7 @@ pub record IsTranslated (Loads : LoadFacts) (words : TranslateWords) (files : Ho
   -- at status 0 the texts of all names are printed, and nothing else
   pub all_at_status_0 : status ≡ 0 → PrintsAll words files out_before out_after
   -- whatever fails, nothing is printed, or a prefix of the texts of the first names
-  pub front : PrintsFront words files out_before out_after
+  pub prefix : PrintsPrefix words files out_before out_after
 
 -- how snmpd ended, and what it reports after the warnings about its modules
 pub record IsServeRun {N V D : Type 0} (net : Network N V D) (Loads : LoadFacts)
@@ -57,8 +58,8 @@ IsJobDone {N} {V} {D} net wire Loads (snmpbulkwalk words) before after status =
 IsJobDone {N} {V} {D} net wire Loads (snmpd words) before after status =
     IsServeRun net Loads words before after status
 
--- What is promised of the arguments of a command line: if they have no fault, what is promised of
--- the job that they ask for.
+-- If the arguments `words` have no fault, then what is promised of the job that they ask for
+-- holds: it ended with `status`, and took the world outside from `before` to `after`.
 abbrev pub AreWordsDone : {N V D : Type 0} → Network N V D → LinkFacts V → (words : List (List ℕ))
     → (before after : Seen N) → (status : ℕ) → Type 0
 AreWordsDone {N} {V} {D} net wire words before after status = (job : Stated) → AreFaultless words

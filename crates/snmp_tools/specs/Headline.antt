@@ -12,8 +12,8 @@ use Rattle.snmp_tools.specs.{Lines.AreLines, Lines.count_text, load.Loaded.AreLo
 use Rattle.smi_names.specs.declared.nodes.warning.Warning.{Warning}
 use Rattle.snmp_agent.specs.{table.Format.Names, table.Stated.IsTableOf, table.Table.MibView}
 use Rattle.snmp_wire.specs.Message.{VarBind}
-use Rattle.snmp_io.specs.{Count.HasRisen, Files.Holdings, Files.Holds}
-use Rattle.snmp_io.specs.Output.{IsWritten, Stream, TakesFront, extended}
+use Rattle.snmp_io.specs.{Count.HasIncreased, Files.Holdings, Files.Holds}
+use Rattle.snmp_io.specs.Output.{IsWritten, Stream, TakesPrefix, stream_after}
 use Rattle.snmp_net.specs.Address.{table}
 use Rattle.snmp_tools.specs.Answer.{AreRowsOf, IsFeasible}
 use Rattle.snmp_tools.specs.Question.{AskFor, AskWords, Plan, counts_in}
@@ -42,25 +42,25 @@ IsWholeText mib plan rows text = (shown : List ℕ) × AreLines mib plan.letters
     × (text ≡ shown ++ count_text (counts_in plan.question) (length rows))
 
 -- a prefix of the lines of the first rows was written, or of the whole text
-abbrev pub IsFrontWritten : Contents → Plan → (rows : List VarBind) → (before after : Stream)
+abbrev pub IsPrefixWritten : Contents → Plan → (rows : List VarBind) → (before after : Stream)
     → Type 0
-IsFrontWritten mib plan rows before after =
+IsPrefixWritten mib plan rows before after =
     (first : List VarBind) × (rest : List VarBind) × (text : List ℕ) × (rows ≡ first ++ rest)
     × (AreLines mib plan.letters first text ⊎ IsWholeText mib plan rows text)
-    × TakesFront before text after
+    × TakesPrefix before text after
 
 -- the whole text was written
 abbrev pub IsWholeWritten : Contents → Plan → (rows : List VarBind) → (before after : Stream)
     → Type 0
 IsWholeWritten mib plan rows before after =
-    (text : List ℕ) × IsWholeText mib plan rows text × (after ≡ extended before text)
+    (text : List ℕ) × IsWholeText mib plan rows text × (after ≡ stream_after before text)
 
 -- The status is 1, and the output failed or memory ran out. The latter is reported, after the
 -- warnings about the modules if these were loaded before. If standard error fails, it takes a
 -- prefix of each.
 abbrev pub IsMishap : List Warning → (before after err_before err_after : Stream) → ℕ → Type 0
 IsMishap warnings before after err_before err_after status = (status ≡ 1)
-    × (HasRisen before.faults after.faults
+    × (HasIncreased before.faults after.faults
     ⊎ ((warned : Stream) × IsWritten warned (codes "Out of memory.\n") err_after
     × ((warned ≡ err_before) ⊎ IsWritten err_before (warning_lines warnings) warned)))
 
@@ -70,7 +70,7 @@ pub record WritesRows (words : AskWords) (files : Holdings) (rows : List VarBind
     : Type 0 where
   -- Whatever fails, a prefix of the lines of the first rows is written, or of the whole text, and
   -- nothing else.
-  pub front_written : IsFrontWritten ask.mib ask.plan rows before after
+  pub prefix_written : IsPrefixWritten ask.mib ask.plan rows before after
   -- At status 0 the whole text is written.
   pub all_written_at_status_0 : status ≡ 0 → IsWholeWritten ask.mib ask.plan rows before after
   -- If the plan is feasible, the status is 0, unless the output fails or memory runs out.

@@ -4,7 +4,8 @@ use Rattle.std.specs.Prelude.{[], ◌∷◌, pos}
 use Rattle.std.proofs.Props.{props}
 use Rattle.std.specs.{Char.is_ascii_digit, List.list_all, List.list_any, Str.Parse.digits_value}
 use Rattle.snmp_io.specs.Steps.{AreDone, IsFirstToFail}
-use Rattle.snmp_walk.specs.{Walker.IsMethod, declared.mode.Method.Method, declared.mode.Mode.Mode}
+use Rattle.snmp_walk.specs.{WalkState.IsMethod, declared.mode.Method.Method}
+use Rattle.snmp_walk.specs.{declared.mode.Mode.Mode}
 use Rattle.snmp_walk.specs.declared.mode.Method.TheVariants as method
 use Rattle.snmp_walk.specs.declared.mode.Mode.TheVariants as mode
 

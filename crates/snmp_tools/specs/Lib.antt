@@ -5,8 +5,8 @@ pub mod Done
 pub mod Headline
 pub mod Letters
 pub mod Lines
-pub mod Message
-pub mod Outcome
+pub mod FaultText
+pub mod AskResult
 pub mod Question
 pub mod Seen
 pub mod Usage

@@ -7,8 +7,8 @@ use Rattle.snmp_wire.specs.Message.{VarBind}
 use Rattle.snmp_walk.specs.{declared.end.SinkFault.SinkFault, declared.end.WalkEnd.WalkEnd}
 use Rattle.snmp_walk.specs.declared.end.SinkFault.TheVariants as fault
 use Rattle.snmp_walk.specs.declared.end.WalkEnd.TheVariants as ending
-use Rattle.snmp_io.specs.Output.{FailsWithin, Stream, extended}
-use Rattle.snmp_tools.specs.{Message.Fault, Message.no_output, Message.out_of_memory}
+use Rattle.snmp_io.specs.Output.{FailsWithin, Stream, stream_after}
+use Rattle.snmp_tools.specs.{FaultText.Fault, FaultText.no_output, FaultText.out_of_memory}
 use Rattle.smi_tree.specs.{Tree.Contents}
 
 -- `text` is the lines of the bindings by the letters of -O, one after the other
@@ -24,9 +24,9 @@ abbrev pub IsPrintedUpTo : Contents → Letters → Stream → (rows refused : L
     → Stream → Type 0
 IsPrintedUpTo mib letters before rows refused (ending.Sink fault.Output) after =
     (text : List ℕ) × (line : List ℕ) × AreLines mib letters rows text
-    × AreLines mib letters refused line × FailsWithin (extended before text) line after
+    × AreLines mib letters refused line × FailsWithin (stream_after before text) line after
 IsPrintedUpTo mib letters before rows refused _ after =
-    (text : List ℕ) × AreLines mib letters rows text × (after ≡ extended before text)
+    (text : List ℕ) × AreLines mib letters rows text × (after ≡ stream_after before text)
 
 -- `text` isn't printed because memory ran out, or only a prefix of it because the output failed
 abbrev pub StopsAtText : (before : Stream) → (text : List ℕ) → (after : Stream) → Option Fault
@@ -39,7 +39,7 @@ StopsAtText before text after fault =
 abbrev pub IsTextPrinted : (before : Stream) → (text : List ℕ) → (after : Stream) → Option Fault
     → Type 0
 IsTextPrinted before text after fault =
-    ((after ≡ extended before text) × (fault ≡ None)) ⊎ StopsAtText before text after fault
+    ((after ≡ stream_after before text) × (fault ≡ None)) ⊎ StopsAtText before text after fault
 
 -- the line of -Cp
 abbrev pub count_line : ℕ → List ℕ
@@ -56,7 +56,7 @@ count_text counts count = if counts then count_line count else []
 abbrev pub TakesLine : Contents → Letters → Stream → VarBind → Result (Unit {0}) SinkFault → Stream
     → Type 0
 TakesLine mib letters before binding (Ok _) after = (line : List ℕ)
-    × IsLine mib letters binding.name binding.value line × (after ≡ extended before line)
+    × IsLine mib letters binding.name binding.value line × (after ≡ stream_after before line)
 TakesLine mib letters before binding (Err fault.Output) after = (line : List ℕ)
     × IsLine mib letters binding.name binding.value line × FailsWithin before line after
 TakesLine mib letters before binding (Err fault.Memory) after = after ≡ before

@@ -10,11 +10,11 @@ use Rattle.snmp_walk.specs.{declared.mode.Method.Method, declared.mode.Mode.Mode
 use Rattle.snmp_words.specs.Words.{AskingWords, GetWords, WalkWords}
 use Rattle.snmp_net.specs.Address.{Address, IsAgent}
 use Rattle.snmp_tools.specs.Asking.{AreShown, AskingFails, AskingStep, HasAgent, IsAskingDone}
-use Rattle.snmp_tools.specs.Asking.{IsNameIfGiven, IsReached, MibsFail, NameFails, ReachFails}
+use Rattle.snmp_tools.specs.Asking.{IsOptionalName, IsReached, MibsFail, NameFails, ReachFails}
 use Rattle.snmp_tools.specs.Asking.{agent_step, community_step, letters_step, version_step}
 use Rattle.snmp_tools.specs.Letters.{Choices, HaveChosen, IsFirstUnknown, method_of, mode_of}
 use Rattle.snmp_tools.specs.Letters.{no_choices}
-use Rattle.snmp_tools.specs.Message.{Fault, bad_letter, out_of_memory, outside_root, unsendable}
+use Rattle.snmp_tools.specs.FaultText.{Fault, bad_letter, out_of_memory, outside_root, unsendable}
 use Rattle.snmp_io.specs.{Files.Holdings, Files.MayHold, Steps.AreDone, Steps.IsFirstToFail}
 use Rattle.snmp_tools.specs.load.Loaded.{IsMibOf}
 use Rattle.smi_tree.specs.{Tree.Contents}
@@ -95,7 +95,7 @@ pub record IsWalkOf (bulk : Bool) (choices : Choices) (after name : Option (List
   pub method : w.method ≡ method_of bulk choices
   pub counts : w.counts ≡ choices.counts
   pub root : TextMeans mib (root_text name) (Ok w.root)
-  pub goes_on : IsNameIfGiven mib after w.after
+  pub goes_on : IsOptionalName mib after w.after
 
 -- the request asks this question, with these choices of -C
 abbrev pub IsQuestionOf : Request → Choices → Contents → Question → Type 0
@@ -131,7 +131,7 @@ pub data LoadingStep : Type 0 where
   choices_step : LoadingStep
   mibs_step : LoadingStep
 
--- these steps, in order
+-- the steps up to loading the modules, in order
 abbrev pub loading_steps : List LoadingStep
 loading_steps = asking version_step ∷ asking letters_step ∷ choices_step ∷ asking community_step
     ∷ asking agent_step ∷ mibs_step ∷ []

@@ -6,7 +6,8 @@ use Rattle.snmp_wire.specs.ber.Value.{Datum, integer_value, octet_string, null_v
 use Rattle.snmp_wire.specs.ber.Value.{ip_address, counter32, gauge32, time_ticks, opaque_octets}
 use Rattle.snmp_wire.specs.ber.Value.{counter64, no_such_object, no_such_instance, end_of_mib_view}
 use Rattle.snmp_wire.specs.Message.{VarBind}
-use Rattle.smi_value.specs.Texts.{address_text, clock_text, days_text, escaped, hexadecimal_text}
+use Rattle.smi_value.specs.Texts.{address_text, clock_text, days_text, escape_octet}
+use Rattle.smi_value.specs.Texts.{hexadecimal_text}
 use Rattle.smi_value.specs.Texts.{is_printable}
 
 -- a string: in quotes if each octet is printable, otherwise in hexadecimal
@@ -14,7 +15,7 @@ abbrev pub string_text : List ℕ → List ℕ
 string_text [] = codes "\"\""
 string_text (octet ∷ more) =
     if list_all is_printable (octet ∷ more)
-    then codes "STRING: \"" ++ flat_map escaped (octet ∷ more) ++ codes "\""
+    then codes "STRING: \"" ++ flat_map escape_octet (octet ∷ more) ++ codes "\""
     else codes "Hex-STRING: " ++ hexadecimal_text (octet ∷ more)
 
 -- a value after the name of its type, or what NULL and the exceptions say

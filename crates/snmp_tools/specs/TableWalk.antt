@@ -13,8 +13,8 @@ use Rattle.snmp_wire.specs.Message.{VarBind, no_such_object, no_such_instance}
 use Rattle.snmp_agent.specs.table.Format.{IsMarked, first_format}
 use Rattle.snmp_agent.specs.table.Text.{AreTable, HasPrefix, HasRow}
 use Rattle.snmp_walk.specs.Room.{IsShort}
-use Rattle.snmp_io.specs.{Count.HasRisen, Files.Holdings, Files.Holds}
-use Rattle.snmp_io.specs.Output.{IsWritten, Stream, TakesFront, extended}
+use Rattle.snmp_io.specs.{Count.HasIncreased, Files.Holdings, Files.Holds}
+use Rattle.snmp_io.specs.Output.{IsWritten, Stream, TakesPrefix, stream_after}
 use Rattle.snmp_tools.specs.RowText.{row_line}
 
 -- ---- what is asked for
@@ -70,9 +70,9 @@ pub record PrintsRows (lines : List (List ℕ)) (root : List ℕ)
   pub rows : List VarBind
   pub are_walked : AreWalked lines root rows
   -- whatever fails, a prefix of their lines is written, and nothing else
-  pub front : TakesFront before (flat_map row_line rows) after
+  pub prefix : TakesPrefix before (flat_map row_line rows) after
   -- at status 0 all of their lines are written
-  pub all : status ≡ 0 → after ≡ extended before (flat_map row_line rows)
+  pub all : status ≡ 0 → after ≡ stream_after before (flat_map row_line rows)
   -- If strings are short and there are fewer rows than ids of requests, the status is 0, unless
   -- the output fails or memory runs out. The latter is reported, and nothing before it; if
   -- standard error fails, it takes a prefix of the report.
@@ -80,5 +80,5 @@ pub record PrintsRows (lines : List (List ℕ)) (root : List ℕ)
       → length rows ≤ 2147483644
       → (status ≡ 0)
       ⊎ ((status ≡ 1)
-      × (HasRisen before.faults after.faults ⊎ ((now : Stream) × IsWritten err_before [] now
+      × (HasIncreased before.faults after.faults ⊎ ((now : Stream) × IsWritten err_before [] now
       × IsWritten now (codes "Out of memory.\n") err_after)))

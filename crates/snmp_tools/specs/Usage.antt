@@ -1,6 +1,6 @@
 -- Arguments without a fault, and what is done with others.
 use Rattle.std.specs.Prelude.{◌≡◌, ◌⊎◌, ℕ, List, [], false, true, codes, string_bytes}
-use Rattle.snmp_io.specs.Output.{FailsWithin, IsWritten, Stream, extended}
+use Rattle.snmp_io.specs.Output.{FailsWithin, IsWritten, Stream, stream_after}
 use Rattle.snmp_words.specs.{Command.faults_of, Command.is_taken, Words.HasFaultOf}
 use Rattle.snmp_words.specs.{Words.IsForUser, declared.UsageError.UsageError}
 use Rattle.snmp_words.specs.declared.UsageError.TheVariants.{Memory, Parse}
@@ -13,7 +13,7 @@ AreFaultless words = (is_taken words ≡ true) ⊎ (faults_of words ≡ [])
 -- output failed, which was reported, and the status is 1
 abbrev pub PrintsHelp : List ℕ → (before after err_before err_after : Stream) → ℕ → Type 0
 PrintsHelp text before after err_before err_after status =
-    ((after ≡ extended before text) × (err_after ≡ err_before) × (status ≡ 0))
+    ((after ≡ stream_after before text) × (err_after ≡ err_before) × (status ≡ 0))
     ⊎ (FailsWithin before text after × IsWritten err_before (codes "The output failed.\n") err_after
     × (status ≡ 1))
 

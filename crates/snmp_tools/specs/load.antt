@@ -1,4 +1,4 @@
 pub mod Files
 pub mod Loaded
-pub mod Message
+pub mod FaultText
 pub mod Warned

@@ -1,3 +1,3 @@
-pub mod Outcome
+pub mod ServeResult
 pub mod Service
 pub mod TableFile

@@ -1,5 +1,5 @@
 pub mod Headline
-pub mod Outcome
+pub mod TranslateResult
 pub mod Refusal
 pub mod Style
 pub mod Text

@@ -3,10 +3,11 @@ ghost use Rattle.std.specs.Prelude.{◌≡◌, ◌++◌, ◌∷◌, codes, OnOk,
 ghost use Rattle.std.specs.Fmt.{signed_decimal};
 ghost use Rattle.snmp_oid.specs.Numeric.{numeric_text};
 ghost use Rattle.snmp_io.specs.Draft.{Adds};
-ghost use Rattle.snmp_tools.specs.Message.{end_message, error_status_text, name_fault, status_name};
-ghost use Rattle.snmp_tools.specs.Message.{table_message, fault_of, fault_message, status_of};
-ghost use Rattle.snmp_tools.specs.Message.{modules_fault};
-ghost use Rattle.snmp_tools.specs.load.Message.{refusal_of};
+ghost use Rattle.snmp_tools.specs.FaultText.{end_message, error_status_text, name_fault};
+ghost use Rattle.snmp_tools.specs.FaultText.{status_name};
+ghost use Rattle.snmp_tools.specs.FaultText.{table_message, fault_of, fault_message, status_of};
+ghost use Rattle.snmp_tools.specs.FaultText.{modules_fault};
+ghost use Rattle.snmp_tools.specs.load.FaultText.{refusal_of};
 ghost use Rattle.snmp_tools.specs.declared.failure.Failure.TheVariants.{Memory};
 
 use crate::load::{FilesError, at_line, unreadable_text};

@@ -3,8 +3,8 @@ ghost use Rattle.std.specs.Prelude.{◌≡◌, ◌++◌, codes, IfOk, OnErr};
 ghost use Rattle.snmp_io.specs.Output.{IsWritten};
 ghost use Rattle.snmp_words.specs.Words.{job_words};
 ghost use Rattle.snmp_tools.specs.Done.{IsJobDone, IsJobOutcome};
-ghost use Rattle.snmp_tools.specs.Message.{fault_of, fault_message, outcome_of};
-ghost use Rattle.snmp_tools.specs.{Outcome.IsReported, Seen.seen, load.Loaded.any_load};
+ghost use Rattle.snmp_tools.specs.FaultText.{fault_of, fault_message, outcome_of};
+ghost use Rattle.snmp_tools.specs.{AskResult.IsReported, Seen.seen, load.Loaded.any_load};
 
 use crate::failure::Failure;
 use crate::load::{ModuleLoader, one_list_of_modules};
@@ -33,10 +33,10 @@ use std::alloc::{AllocError, Global};
 ///   the job can end: which step refused it, over which link it asked, what it printed, how it
 ///   left the network, and what it reported. `rows_written` is about a table file whose text is
 ///   known (`specs/Headline.antt`). Whatever fails, only a prefix of the lines is written
-///   (`front_written`). At status 0 all of them are (`all_written_at_status_0`), and the status is
+///   (`prefix_written`). At status 0 all of them are (`all_written_at_status_0`), and the status is
 ///   0 if nothing prevents it (`ends_at_status_0`).
 /// - snmptranslate (`IsTranslated`): `outcome` and `is_reported` say the same of it. Whatever
-///   fails, only a prefix of the names' texts is printed (`front`). At status 0 all of them are
+///   fails, only a prefix of the names' texts is printed (`prefix`). At status 0 all of them are
 ///   (`all_at_status_0`). The network stays as it was.
 /// - snmpd (`IsServeRun`): `outcome` and `reported` say the same of it.
 pub fn run_job<F: Files, L: Links, O: Output, E: Output>(

@@ -6,7 +6,7 @@ ghost use Rattle.std.specs.Prelude.{◌≡◌, IfErr, IfOk, List, OnErr, ℕ, On
 ghost use Rattle.smi_text.specs.declared.trees.tree.Module.{Module};
 ghost use Rattle.snmp_tools.specs.load.Files.{AreModulesOf, IsFilesRefusal, no_memory, texts};
 ghost use Rattle.snmp_io.specs.{Files.Holds, Files.MayHold, Output.Stream};
-ghost use Rattle.snmp_tools.specs.load.{Loaded.IsLoaded, Loaded.any_load, Message.refusal_of};
+ghost use Rattle.snmp_tools.specs.load.{Loaded.IsLoaded, Loaded.any_load, FaultText.refusal_of};
 
 mod error;
 mod read;

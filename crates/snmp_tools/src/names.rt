@@ -4,8 +4,8 @@ ghost use Rattle.std.specs.Prelude.{option_map};
 ghost use Rattle.smi_show.specs.name.Meant.{TextMeans};
 ghost use Rattle.snmp_oid.specs.Identifier.{IsWire, wire};
 ghost use Rattle.snmp_words.specs.Words.{texts_at};
-ghost use Rattle.snmp_tools.specs.{Asking.IsNameIfGiven, Asking.NameFails, Message.fault_of};
-ghost use Rattle.snmp_tools.specs.{Message.out_of_memory};
+ghost use Rattle.snmp_tools.specs.{Asking.IsOptionalName, Asking.NameFails, FaultText.fault_of};
+ghost use Rattle.snmp_tools.specs.{FaultText.out_of_memory};
 ghost use Rattle.snmp_tools.specs.Question.{AreNames, HasMeaning, HasSendable, HasUnsendable};
 ghost use Rattle.snmp_io.specs.Steps.{IsFirstToFail};
 ghost use Rattle.smi_tree.specs.{Tree.Contents};
@@ -40,11 +40,11 @@ pub(crate) fn read_name<'a>(tree: &Tree, text: &'a str, oid: &mut Oid) -> Result
 }
 
 /// Returns the identifier that the name `text` means, or `None` if there is no `text`.
-pub(crate) fn name_if_given<'a>(
+pub(crate) fn optional_name<'a>(
     tree: &Tree,
     text: Option<&'a str>,
 ) -> Result<Option<Oid>, Failure<'a>>
-    ensures ok { IfOk result (IsNameIfGiven tree.now (option_map (λ t. t.now) text.entry)) }
+    ensures ok { IfOk result (IsOptionalName tree.now (option_map (λ t. t.now) text.entry)) }
     ensures err { IfErr result (λ e.
         (t : List ℕ) × (option_map (λ t. t.now) text.entry ≡ Some t)
         × NameFails tree.now t (fault_of e)) }
@@ -83,9 +83,9 @@ pub(crate) fn check_names<'a>(texts: &[&'a str], names: &[Oid]) -> Result<(), Fa
         → IfErr result (λ e. IsFirstToFail (texts_at texts.now) (HasSendable mib)
         (HasUnsendable mib) (fault_of e)) }
 {
-    'names: for (place, name) in names.iter().enumerate() {
+    'names: for (index, name) in names.iter().enumerate() {
         let Ok(_) = name.to_wire() else {
-            return Err(Failure::NotWire(texts[place]));
+            return Err(Failure::NotWire(texts[index]));
         };
     }
     Ok(())

@@ -1,8 +1,8 @@
 //! The plan of a job that asks an agent: its arguments are judged in order, up to the first
 //! without a meaning, and then its names are looked up.
 ghost use Rattle.std.specs.Prelude.{◌≡◌, ◌≤◌, length, IfErr, IfOk};
-ghost use Rattle.snmp_walk.specs.Walker.{IsMethod};
-ghost use Rattle.snmp_tools.specs.{Asking.HasAgent, Letters.IsMethod-prop, Message.fault_of};
+ghost use Rattle.snmp_walk.specs.WalkState.{IsMethod};
+ghost use Rattle.snmp_tools.specs.{Asking.HasAgent, Letters.IsMethod-prop, FaultText.fault_of};
 ghost use Rattle.snmp_io.specs.Files.{Holdings};
 ghost use Rattle.snmp_tools.specs.Question.{AskFor, HasChosen, IsEarlyRefusal, IsQuestionOf};
 ghost use Rattle.snmp_tools.specs.Question.{counts_in};
@@ -12,7 +12,7 @@ mod judge;
 mod request;
 
 use crate::failure::Failure;
-use crate::names::{name, name_if_given, read_names};
+use crate::names::{name, optional_name, read_names};
 pub(crate) use choices::Choices;
 use judge::{read_agent, read_shown};
 pub(crate) use request::{AskJob, Request};
@@ -36,8 +36,8 @@ impl<'j, 'a> Plan<'j, 'a> {
     ghost use Rattle.snmp_tools.specs.private.Planned.{AreOrdersOf, HasTextsOf, NamesFail};
     ghost use Rattle.snmp_tools.specs.private.Planned.{ask_words, plan_of};
 
-    /// Returns the plan of `job`, with names by `tree`. `orders` must be what its arguments say.
-    /// Fails if a name has no meaning, or if memory runs out.
+    /// Returns the plan of `job`, with its names looked up in `tree`. `orders` must be what its
+    /// arguments say. Fails if a name has no meaning, or if memory runs out.
     pub(crate) fn read(
         alloc: Global,
         job: AskJob<'j, 'a>,
@@ -125,8 +125,8 @@ impl<'j, 'a> Question<'j, 'a> {
         }
     }
 
-    // Returns the question of `request`, with names by `tree`. `choices` must be those of its
-    // letters of `-C`. Fails as `Plan::read` does.
+    // Returns what `request` asks an agent for, with its names looked up in `tree`. `choices` must
+    // be what its letters of `-C` choose. Fails if a name has no meaning, or if memory runs out.
     fn read(
         alloc: Global,
         request: Request<'j, 'a>,
@@ -156,7 +156,7 @@ impl<'j, 'a> Question<'j, 'a> {
                     root_text,
                     root: name(tree, root_text)?,
                     after_text,
-                    after: name_if_given(tree, after)?,
+                    after: optional_name(tree, after)?,
                     mode: choices.mode(),
                     method: choices.method(bulk),
                     counts: choices.counts,

@@ -2,9 +2,9 @@
 //! reaches the agent, and prints the lines of the answer.
 ghost use Rattle.std.specs.Prelude.{◌≡◌};
 ghost use Rattle.snmp_io.specs.{Files.MayHold, Output.Stream};
-ghost use Rattle.snmp_tools.specs.{Answer.end_in_memory, Message.outcome_of, load.Loaded.IsMibOf};
+ghost use Rattle.snmp_tools.specs.{Answer.end_in_memory, FaultText.outcome_of, load.Loaded.IsMibOf};
 ghost use Rattle.snmp_tools.specs.{Question.counts_in, Seen.seen};
-ghost use Rattle.snmp_tools.specs.Outcome.{IsFinished, IsOutcome, IsOutcomeBy};
+ghost use Rattle.snmp_tools.specs.AskResult.{IsFinished, IsOutcome, IsOutcomeBy};
 ghost use Rattle.snmp_tools.specs.private.Planned.{AreOrdersOf, ask_words, plan_of};
 
 mod lines;
@@ -44,7 +44,7 @@ pub(crate) fn ask<'a, F: ModuleLoader<E>, L: Links, O: Output, E: Messages>(
     ask_by(alloc, job, orders, &tree, files, links, out)
 }
 
-/// Asks an agent and prints the lines of its answer, by the names and types of `tree`.
+/// Asks an agent and prints the lines of its answer. Names and types are looked up in `tree`.
 fn ask_by<'a, F: Files, L: Links, O: Output>(
     alloc: Global,
     job: AskJob<'_, 'a>,

@@ -3,10 +3,11 @@ ghost use Rattle.std.specs.Prelude.{◌≡◌, ◌≤◌, IfErr, IfOk, OnOk, len
 ghost use Rattle.snmp_io.specs.{Files.Holdings, Output.Stream};
 ghost use Rattle.snmp_net.specs.Address.{IsHostAndPort};
 ghost use Rattle.snmp_words.specs.Words.{serve_words};
-ghost use Rattle.snmp_tools.specs.Message.{fault_of, outcome_of};
+ghost use Rattle.snmp_tools.specs.FaultText.{fault_of, outcome_of};
 ghost use Rattle.snmp_tools.specs.{Seen.seen, serve.Service.ServiceFails};
-ghost use Rattle.snmp_tools.specs.serve.Outcome.{IsServeOutcome, IsServedBy, IsServing, ServesAt};
-ghost use Rattle.snmp_tools.specs.serve.Outcome.{counts_line, listening_line};
+ghost use Rattle.snmp_tools.specs.serve.ServeResult.{IsServeOutcome, IsServedBy, IsServing};
+ghost use Rattle.snmp_tools.specs.serve.ServeResult.{ServesAt};
+ghost use Rattle.snmp_tools.specs.serve.ServeResult.{counts_line, listening_line};
 
 use crate::failure::Failure;
 use crate::load::ModuleLoader;
@@ -21,9 +22,9 @@ use snmp_walk::WalkEnd;
 use snmp_words::ServeJob;
 use std::alloc::{AllocError, Global};
 
-/// Serves a table file as the arguments of snmpd ask, with names by its module files. Prints where
-/// requests are received, serves the turns, and prints how many requests were replied to and how
-/// many dropped.
+/// Serves a table file as the arguments of snmpd ask, with its names looked up in the module
+/// files. Prints where requests are received, serves the turns, and prints how many requests were
+/// replied to and how many dropped.
 ///
 /// Before a socket is opened, the arguments are judged, then the module files and then the table
 /// file. Warnings about the modules go to `err`. If a write to `err` fails, nothing else changes.
@@ -40,17 +41,17 @@ pub(crate) fn serve_table<'a, F: ModuleLoader<E>, L: Links, O: Output, E: Messag
         (seen (F.text_at files.now) links.new (O.stream out.new) (E.stream err.new))
         (outcome_of result) }
 {
-    let place = place_of(job)?;
+    let address = listen_address(job)?;
     let tree = files.load(alloc, &job.mibs, err)?;
-    serve_by(alloc, job, place, &tree, files, links, out)
+    serve_by(alloc, job, address, &tree, files, links, out)
 }
 
 // Returns the address of `--listen`. Fails if the community has more than 255 octets, or if that
 // isn't a valid address.
-fn place_of<'a>(job: &ServeJob<'a>) -> Result<UdpAddress<'a>, Failure<'a>>
+fn listen_address<'a>(job: &ServeJob<'a>) -> Result<UdpAddress<'a>, Failure<'a>>
     ensures short_community { OnOk result (length job.now.community.now ≤ 255) }
-    ensures place { IfOk result (λ place.
-        IsHostAndPort job.now.listen.now place.host.now place.port) }
+    ensures address { IfOk result (λ address.
+        IsHostAndPort job.now.listen.now address.host.now address.port) }
     ensures refused { (files : Holdings) → IfErr result (λ e.
         ServiceFails (serve_words job.now) files (fault_of e)) }
 {
@@ -58,17 +59,17 @@ fn place_of<'a>(job: &ServeJob<'a>) -> Result<UdpAddress<'a>, Failure<'a>>
         return Err(Failure::Community);
     }
     match UdpAddress::read(job.listen) {
-        Some(place) => Ok(place),
+        Some(address) => Ok(address),
         None => Err(Failure::Agent(job.listen)),
     }
 }
 
-// Serves the table file at the address `place`, with names by `tree`. The file is read before a
-// socket is opened.
+// Serves the table file at the address `address`, with its names looked up in `tree`. The file is
+// read before a socket is opened.
 fn serve_by<'a, F: Files, L: Links, O: Output>(
     alloc: Global,
     job: &ServeJob<'a>,
-    place: UdpAddress<'a>,
+    address: UdpAddress<'a>,
     tree: &Tree,
     files: &F,
     links: &mut L,
@@ -76,12 +77,12 @@ fn serve_by<'a, F: Files, L: Links, O: Output>(
 ) -> Result<(), Failure<'a>>
     requires { length job.now.community.now ≤ 255 }
     ensures { (err : Stream) → IsServedBy L.Links (serve_words job.now)
-        place.entry.host.now place.entry.port tree.now
+        address.entry.host.now address.entry.port tree.now
         (seen (F.text_at files.now) links.old (O.stream out.old) err)
         (seen (F.text_at files.now) links.new (O.stream out.new) err) (outcome_of result) }
 {
     let table = table_at(alloc, tree, files, job.table)?;
-    let mut door = match links.bind(place.host, place.port) {
+    let mut door = match links.bind(address.host, address.port) {
         Ok(door) => door,
         Err(_) => return Err(Failure::Ended(job.listen, WalkEnd::Link)),
     };

@@ -1,8 +1,8 @@
 //! Reads table files, with names by a tree of modules.
 ghost use Rattle.std.specs.Prelude.{◌≡◌, ◌⊎◌, IfErr, IfOk};
-ghost use Rattle.snmp_tools.specs.Message.{fault_of, out_of_memory};
+ghost use Rattle.snmp_tools.specs.FaultText.{fault_of, out_of_memory};
 ghost use Rattle.snmp_tools.specs.serve.TableFile.{AreNamesIn, HasTable, TableFails, names_in};
-ghost use Rattle.snmp_agent.specs.table.Format.{IsFrontRead};
+ghost use Rattle.snmp_agent.specs.table.Format.{IsLeadingName};
 ghost use Rattle.smi_tree.specs.{Tree.Contents};
 
 use crate::failure::Failure;
@@ -13,8 +13,8 @@ use snmp_io::{FileFault, Files};
 use snmp_oid::Oid;
 use std::alloc::Global;
 
-/// Returns the table that the file at `path` defines, with names by `tree`. Fails if the file
-/// can't be read, at its first line with a fault, or if memory runs out.
+/// Returns the table that the file at `path` defines, with its names looked up in `tree`. Fails if
+/// the file can't be read, at its first line with a fault, or if memory runs out.
 pub(crate) fn table_at<'a, F: Files>(
     alloc: Global,
     tree: &Tree,
@@ -47,8 +47,8 @@ struct TreeNames<'a> {
 impl<'a> Resolver for TreeNames<'a> {
     ghost names = { λ n. names_in n.tree.now };
 
-    fn front(&self, text: &[u8]) -> Option<(Oid, usize)>
-        ensures { IsFrontRead (names_in self.now.tree.now) text.now result }
+    fn leading_name(&self, text: &[u8]) -> Option<(Oid, usize)>
+        ensures { IsLeadingName (names_in self.now.tree.now) text.now result }
     {
         names_are_meant();
         one_meaning();
@@ -64,7 +64,8 @@ impl<'a> Resolver for TreeNames<'a> {
     }
 }
 
-/// The names of a table file, as they are looked up, are what their texts mean.
+/// Looking up a text of a table file finds an identifier if and only if the text means it as a
+/// name (`TextMeans`).
 ///
 /// A law: the call does nothing, and its caller may use what it ensures.
 pub(crate) fn names_are_meant()

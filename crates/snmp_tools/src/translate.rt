@@ -4,14 +4,15 @@
 //! Built on the command line, on module files, and on names and details as text. The module `job`
 //! calls it, and reports what failed.
 ghost use Rattle.snmp_words.specs.Words.{translate_words, texts_at};
-ghost use Rattle.snmp_tools.specs.{Message.outcome_of, translate.Outcome.IsTranslateOutcome};
-ghost use Rattle.snmp_tools.specs.{Message.fault_of, Message.no_output};
+ghost use Rattle.snmp_tools.specs.{FaultText.outcome_of};
+ghost use Rattle.snmp_tools.specs.{translate.TranslateResult.IsTranslateOutcome};
+ghost use Rattle.snmp_tools.specs.{FaultText.fault_of, FaultText.no_output};
 ghost use Rattle.snmp_tools.specs.{translate.Text.IsShown, translate.Text.IsTextOf};
 ghost use Rattle.snmp_tools.specs.{translate.Refusal.TranslationFails};
 ghost use Rattle.std.specs.Prelude.{◌≡◌, ◌++◌, ◌<◌, ℕ, List, [], length};
 ghost use Rattle.std.specs.Prelude.{IfErr, IfOk, OnErr, OnOk, None, Some};
-ghost use Rattle.snmp_tools.specs.translate.Outcome.{HasNoText, IsPrinting};
-ghost use Rattle.snmp_io.specs.{Files.Holdings, Output.FailsWithin, Output.extended};
+ghost use Rattle.snmp_tools.specs.translate.TranslateResult.{HasNoText, IsPrinting};
+ghost use Rattle.snmp_io.specs.{Files.Holdings, Output.FailsWithin, Output.stream_after};
 ghost use Rattle.smi_value.specs.Letters.{has_letter};
 ghost use Rattle.snmp_tools.specs.translate.Style.{IsStyleOf, first_other_of_t};
 
@@ -161,7 +162,8 @@ fn append_shown(tree: &Tree, style: Style, oid: &Oid, lines: &mut Vec<u8>) -> Re
 
 /// Writes the waiting lines, and empties their buffer.
 fn write_waiting<'a, O: Output>(lines: &mut Vec<u8>, out: &mut O) -> Result<(), Failure<'a>>
-    ensures written { OnOk result ((O.stream out.new ≡ extended (O.stream out.old) lines.old.items)
+    ensures written { OnOk result ((O.stream out.new
+        ≡ stream_after (O.stream out.old) lines.old.items)
         × (lines.new.items ≡ [])) }
     ensures refused { IfErr result (λ e. (fault_of e ≡ no_output) × (0 < length lines.old.items)
         × FailsWithin (O.stream out.old) lines.old.items (O.stream out.new)) }

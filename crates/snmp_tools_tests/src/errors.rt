@@ -2,7 +2,7 @@
 
 use smi_show::NameError;
 use smi_text::{LexError, ParseError};
-use snmp_agent::{EndpointFault, PutError, TableError, Why};
+use snmp_agent::{DropReason, EndpointFault, PutError, TableError};
 use snmp_io::{FileFault, OutputFault};
 use snmp_oid::{OidError, OidTextError};
 use snmp_walk::{LinkFault, SinkFault, StartError};
@@ -31,11 +31,11 @@ fn errors_of_messages_have_their_texts(rt: HostRuntime) {
         assert!(rt; says(rt.alloc(), error, text));
     }
     for (error, text) in [
-        (Why::Undecodable, "no message"),
-        (Why::Version, "another version than 2c"),
-        (Why::Community, "another community"),
-        (Why::Pdu, "no request that is served"),
-        (Why::TooLong, "no reply fits"),
+        (DropReason::Undecodable, "no message"),
+        (DropReason::Version, "another version than 2c"),
+        (DropReason::Community, "another community"),
+        (DropReason::Pdu, "no request that is served"),
+        (DropReason::TooLong, "no reply fits"),
     ] {
         assert!(rt; says(rt.alloc(), error, text));
     }

@@ -28,7 +28,7 @@ impl<'a> Link for Expecting<'a> {
     ghost use Rattle.snmp_walk.specs.Link.{Agents};
     ghost use Rattle.snmp_walk.specs.Traffic.{Traffic};
 
-    ghost keeps = { λ _. ⊥ };
+    ghost records = { λ _. ⊥ };
 
     ghost honest = { λ _. ⊥ };
 
@@ -40,9 +40,9 @@ impl<'a> Link for Expecting<'a> {
 
     ghost ready = { λ _ _ _. ⊥ };
 
-    ghost brings = { λ _ _ _. Unit {0} };
+    ghost delivers = { λ _ _ _. Unit {0} };
 
-    ghost keeping = { λ _ h. h };
+    ghost recording = { λ _ h. h };
 
     ghost lawful = { λ _ h. absurd h };
 

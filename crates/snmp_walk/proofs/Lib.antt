@@ -1,37 +1,37 @@
-pub mod NameLemmas
-pub mod RowLemmas
-mod MemberLemmas
-pub mod RequestLemmas
-pub mod FrontLemmas
-pub mod TrailLemmas
-pub mod StandingLemmas
-pub mod TableLemmas
-pub mod AskingLemmas
-pub mod SinkLemmas
-pub mod SendLemmas
-pub mod MoveLemmas
-pub mod RunLemmas
-pub mod JoinLemmas
-pub mod CaseLemmas
-pub mod PartLemmas
-pub mod TablesLemmas
-pub mod FactLemmas
-pub mod BulkLemmas
-pub mod HonestLemmas
-pub mod RoomLemmas
-pub mod ShortLemmas
-pub mod SwiftLemmas
-pub mod FullLemmas
-pub mod ArenaLemmas
-pub mod MemoryLemmas
-pub mod LostLemmas
-mod TryLemmas
-pub mod GetLemmas
-pub mod LawLemmas
-mod JudgedLemmas
-pub mod GetEndLemmas
-pub mod GetFactLemmas
-pub mod FreshLemmas
-pub mod NetworkLemmas
-mod GivenLemmas
-pub mod LooseLemmas
+pub mod Names
+pub mod SortedRows
+mod Members
+pub mod RequestParts
+pub mod ReplyRows
+pub mod Trail
+pub mod StepProgress
+pub mod OneTable
+pub mod StepRequest
+pub mod Sinks
+pub mod Runs
+pub mod Moves
+pub mod RunResult
+pub mod Variables
+pub mod ComputedStep
+pub mod Progress
+pub mod Tables
+pub mod Facts
+pub mod Bulk
+pub mod OwnReply
+pub mod Room
+pub mod ShortRows
+pub mod EnoughRoom
+pub mod FullReplies
+pub mod Arenas
+pub mod MemoryLinks
+pub mod Lost
+mod TryLoops
+pub mod GetNames
+pub mod Ordered
+mod StepRules
+pub mod GetEnds
+pub mod Gets
+pub mod FreshWalk
+pub mod Networks
+mod ReplyFacts
+pub mod LooseLinks

@@ -5,7 +5,7 @@ use Rattle.snmp_walk.specs.declared.arena.Span.{Span}
 pub record Store : Type 0 where
   pub datagrams : List (List ℕ)
   -- the number of datagrams, and of octets, for which memory is reserved
-  pub places : ℕ
+  pub free_spans : ℕ
   pub room : ℕ
 
 abbrev pub cut_at : List ℕ → Span → List ℕ

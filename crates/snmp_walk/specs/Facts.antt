@@ -3,8 +3,8 @@ use Rattle.std.specs.Prelude.{◌≡◌, ℕ, ◌+◌, ◌*◌, ◌≤◌, ◌<�
 use Rattle.std.specs.Prelude.{flat_map, replicate, Option}
 use Rattle.snmp_walk.specs.{declared.mode.Mode.Mode, Traffic.Traffic, Traffic.Lost}
 use Rattle.snmp_walk.specs.{declared.end.WalkEnd.WalkEnd, declared.rows.Step.Step, Read.rows_in}
-use Rattle.snmp_walk.specs.{Ordered.AreOrdered, Walk.rest_of, Walk.walk_from, Judged.MeansBy}
-use Rattle.snmp_walk.specs.{Walker.Walker, Walker.IsWalker}
+use Rattle.snmp_walk.specs.{Ordered.AreOrdered, Walk.rest_of, Walk.walk_from, StepRules.MeansBy}
+use Rattle.snmp_walk.specs.{WalkState.WalkState, WalkState.IsWalkState}
 use Rattle.snmp_walk.specs.declared.mode.Mode.TheVariants as mode
 use Rattle.snmp_walk.specs.Run.{Try, sent_by, AreTries, IsEachSent}
 use Rattle.snmp_oid.specs.Identifier.{Precedes}
@@ -14,23 +14,23 @@ use Rattle.snmp_agent.specs.{table.Table.MibView, table.Table.IsGet, table.Listi
 use Rattle.snmp_walk.specs.declared.rows.Step.TheVariants as step
 use Rattle.snmp_walk.specs.declared.mode.Phase.TheVariants as phase
 use Rattle.snmp_walk.specs.Request.{asked_for, request_of, first_phase}
-use Rattle.snmp_walk.specs.Standing.{Reaches, IsPartOfWalk, Ends, Rises, Named, CountsAll}
-use Rattle.snmp_walk.specs.Standing.{IsReplyEnd}
+use Rattle.snmp_walk.specs.Progress.{Reaches, IsPartOfWalk, Ends, Increases, Named, CountsAll}
+use Rattle.snmp_walk.specs.Progress.{IsReplyEnd}
 use Rattle.snmp_walk.specs.Link.{Agents, OneOf, IsNextFrom, IsGotFrom, IsTooLarge, IsUnanswered}
 use Rattle.snmp_walk.specs.Link.{Outcome, answered, missed, cut_off}
 use Rattle.snmp_walk.specs.Room.{HasRoomForAll}
-use Rattle.snmp_walk.specs.Tables.{IsOfWalk, AreFromTables, IsInEach, IsGivenOnce, CountsNames}
+use Rattle.snmp_walk.specs.Tables.{IsOfWalk, AreFromTables, IsInEach, OccursOnce, CountsNames}
 use Rattle.snmp_walk.specs.Tables.{HasRoomInEach, HasIdsFor}
 
--- a walk that has taken no reply yet, and asks for its root or from a name that begins with it
-pub record IsFresh (w : Walker) : Type 0 where
+-- a walk that has taken no reply yet, and that begins at its root or at a name below it
+pub record IsFresh (w : WalkState) : Type 0 where
   pub phase : w.phase ≡ first_phase w.mode
   pub count : w.count ≡ 0
   pub begins : (s : List ℕ) × (w.asked ≡ w.root ++ s)
 
 -- The last datagrams sent are the request of w: at least one unless the link failed, and exactly
 -- `tries` if no reply arrived.
-pub record IsLastSent (tries : ℕ) (end : WalkEnd) (new : Traffic) (w : Walker) : Type 0 where
+pub record IsLastSent (tries : ℕ) (end : WalkEnd) (new : Traffic) (w : WalkState) : Type 0 where
   pub earlier : List (List ℕ)
   pub times : ℕ
   pub sent : new.sent ≡ earlier ++ replicate times (canon (request_of w))
@@ -48,19 +48,19 @@ rows_read readings = flat_map (λ r. r.rows) readings
 
 -- The walk read these datagrams, in order, as these rows, and its state went from v to w. Each
 -- datagram answered the request that waited then, and the link went from one state to the next,
--- from `old` to `new`. `Tried` says what came of a request over the link. `IsWalker` holds of each
--- state in which the walk waited.
-abbrev pub AreRead : {L : Type 0} → (Tried : Walker → L → Outcome → L → Type 0) → Walker → L
-    → List Reading → Walker → L → Type 0
+-- from `old` to `new`. `Tried` says what came of a request over the link. `IsWalkState` holds of
+-- each state in which the walk waited.
+abbrev pub AreRead : {L : Type 0} → (Tried : WalkState → L → Outcome → L → Type 0) → WalkState → L
+    → List Reading → WalkState → L → Type 0
 AreRead {L} Tried v old [] w new = (w ≡ v) × (new ≡ old)
 AreRead {L} Tried v old (r ∷ more) w new =
-    IsWalker v × (u : Walker) × (between : L) × Tried v old (answered r.datagram) between
+    IsWalkState v × (u : WalkState) × (between : L) × Tried v old (answered r.datagram) between
     × MeansBy v r.datagram (step.Rows r.rows) u × AreRead Tried u between more w new
 
 -- The walk that began as `first` passed on exactly the rows that it read in the replies to its
 -- requests. These took the link from `old` to `new`, and the walk to state w.
-pub record HasRead {L : Type 0} (Tried : Walker → L → Outcome → L → Type 0) (first : Walker)
-    (old : L) (w : Walker) (new : L) (given : List VarBind) : Type 0 where
+pub record HasRead {L : Type 0} (Tried : WalkState → L → Outcome → L → Type 0) (first : WalkState)
+    (old : L) (w : WalkState) (new : L) (given : List VarBind) : Type 0 where
   pub readings : List Reading
   pub rows : given ≡ rows_read readings
   pub are_read : AreRead Tried first old readings w new
@@ -68,50 +68,50 @@ pub record HasRead {L : Type 0} (Tried : Walker → L → Outcome → L → Type
 -- The last request of the walk that began as `first`, over the link in state `old`, had this
 -- outcome. The walk had passed on all of `rows` but `more`, and sent the request in state w, the
 -- link being in state `now`. `Sent` says how the request was sent.
-pub record IsAskedLast {L : Type 0} (Tried : Walker → L → Outcome → L → Type 0)
-    (Sent : Walker → Type 0) (first : Walker) (old : L) (rows : List VarBind) (new : L)
-    (outcome : Outcome) (w : Walker) (more : List VarBind) : Type 0 where
+pub record IsAskedLast {L : Type 0} (Tried : WalkState → L → Outcome → L → Type 0)
+    (Sent : WalkState → Type 0) (first : WalkState) (old : L) (rows : List VarBind) (new : L)
+    (outcome : Outcome) (w : WalkState) (more : List VarBind) : Type 0 where
   pub now : L
   pub given : List VarBind
   pub parts : rows ≡ given ++ more
-  pub walker : IsWalker w
+  pub walker : IsWalkState w
   pub id : first.id ≤ w.id
   pub read : HasRead Tried first old w now given
-  pub reaches : Reaches Rises Named first w given
+  pub reaches : Reaches Increases Named first w given
   pub sent : Sent w
   pub tried : Tried w now outcome new
 
 -- the reply to the last request is read as the last rows and this end
-abbrev pub IsReadSo : (Asked : Outcome → Walker → List VarBind → Type 0) → WalkEnd → Type 0
+abbrev pub IsReadSo : (Asked : Outcome → WalkState → List VarBind → Type 0) → WalkEnd → Type 0
 IsReadSo Asked end =
-    (datagram : List ℕ) × (w : Walker) × (more : List VarBind) × Asked (answered datagram) w more
-    × (over : Walker) × MeansBy w datagram (step.Last more end) over
+    (datagram : List ℕ) × (w : WalkState) × (more : List VarBind) × Asked (answered datagram) w more
+    × (over : WalkState) × MeansBy w datagram (step.Last more end) over
 
 -- the reply to the last request is read as the last rows passed on, then the one that the sink
 -- refused, and perhaps more
-abbrev pub IsRefusedSo : (Asked : Outcome → Walker → List VarBind → Type 0)
+abbrev pub IsRefusedSo : (Asked : Outcome → WalkState → List VarBind → Type 0)
     → (refused : List VarBind) → Type 0
 IsRefusedSo Asked refused =
-    (datagram : List ℕ) × (w : Walker) × (more : List VarBind) × Asked (answered datagram) w more
-    × (read : Step) × (over : Walker) × (left : List VarBind) × MeansBy w datagram read over
+    (datagram : List ℕ) × (w : WalkState) × (more : List VarBind) × Asked (answered datagram) w more
+    × (read : Step) × (over : WalkState) × (left : List VarBind) × MeansBy w datagram read over
     × (rows_in read ≡ more ++ (refused ++ left))
 
 -- Why a walk ended, whatever the link delivered. `Asked` says what came of its last request. A
 -- reply was read as this end; no reply arrived, or the link failed; or the sink refused a row of
 -- the reply. A request of a walk is never too long.
-abbrev pub IsEndOfRun : (Asked : Outcome → Walker → List VarBind → Type 0)
+abbrev pub IsEndOfRun : (Asked : Outcome → WalkState → List VarBind → Type 0)
     → (refused : List VarBind) → WalkEnd → Type 0
 IsEndOfRun Asked refused ending.RequestTooLong = ⊥
-IsEndOfRun Asked refused ending.NoResponse = (w : Walker) × Asked missed w []
-IsEndOfRun Asked refused ending.Link = (w : Walker) × Asked cut_off w []
+IsEndOfRun Asked refused ending.NoResponse = (w : WalkState) × Asked missed w []
+IsEndOfRun Asked refused ending.Link = (w : WalkState) × Asked cut_off w []
 IsEndOfRun Asked refused (ending.Sink fault) = IsRefusedSo Asked refused
 IsEndOfRun Asked refused why = IsReadSo Asked why
 
 -- What is promised of a walk over any link, which it took from `old` to `new`: the names of the
 -- rows passed on, and then of the one that was refused, increase; a walk that is done has counted
 -- the rows; and each end has its reason.
-pub record EndFacts {L : Type 0} (Tried : Walker → L → Outcome → L → Type 0)
-    (Sent : Walker → Type 0) (first : Walker) (old : L) (rows refused : List VarBind)
+pub record EndFacts {L : Type 0} (Tried : WalkState → L → Outcome → L → Type 0)
+    (Sent : WalkState → Type 0) (first : WalkState) (old : L) (rows refused : List VarBind)
     (end : WalkEnd) (new : L) : Type 0 where
   pub rising : AreOrdered (rows ++ refused)
   pub counted : CountsAll end rows
@@ -120,45 +120,45 @@ pub record EndFacts {L : Type 0} (Tried : Walker → L → Outcome → L → Typ
 -- How a walk can end over an honest link, after these rows. It waited in state w for the reply
 -- that ended it. That reply had none of the rows if it was an error or had no bindings, and
 -- otherwise the last ones. If no reply arrived, `Silent` holds of w.
-abbrev pub IsLawfulEnd : Agents → (Walker → Type 0) → Walker → List VarBind → WalkEnd → Type 0
+abbrev pub IsLawfulEnd : Agents → (WalkState → Type 0) → WalkState → List VarBind → WalkEnd → Type 0
 IsLawfulEnd agents Silent first rows ending.Link = Unit {0}
 IsLawfulEnd agents Silent first rows (ending.Sink fault) = Unit {0}
 IsLawfulEnd agents Silent first rows ending.NoResponse =
-    (w : Walker) × IsWalker w × Reaches (IsNextFrom agents) (IsGotFrom agents) first w rows
+    (w : WalkState) × IsWalkState w × Reaches (IsNextFrom agents) (IsGotFrom agents) first w rows
     × Silent w
 IsLawfulEnd agents Silent first rows (ending.Fault status index) =
-    (w : Walker) × Reaches (IsNextFrom agents) (IsGotFrom agents) first w rows
+    (w : WalkState) × Reaches (IsNextFrom agents) (IsGotFrom agents) first w rows
     × Ends (IsNextFrom agents) (IsGotFrom agents) (IsTooLarge agents) first w rows
     (ending.Fault status index)
 IsLawfulEnd agents Silent first rows (ending.NoProgress asked) =
-    (w : Walker) × Reaches (IsNextFrom agents) (IsGotFrom agents) first w rows
+    (w : WalkState) × Reaches (IsNextFrom agents) (IsGotFrom agents) first w rows
     × Ends (IsNextFrom agents) (IsGotFrom agents) (IsTooLarge agents) first w rows
     (ending.NoProgress asked)
 IsLawfulEnd agents Silent first rows why =
-    (w : Walker) × (given : List VarBind) × (more : List VarBind) × (rows ≡ given ++ more)
+    (w : WalkState) × (given : List VarBind) × (more : List VarBind) × (rows ≡ given ++ more)
     × Reaches (IsNextFrom agents) (IsGotFrom agents) first w given
     × Ends (IsNextFrom agents) (IsGotFrom agents) (IsTooLarge agents) first w rows why
 
 -- if the end is an error status, a reply without bindings, no reply, or a failure of the link,
 -- then `rows` is empty
-abbrev pub BringsNone : WalkEnd → List VarBind → Type 0
-BringsNone (ending.Fault status index) rows = rows ≡ []
-BringsNone (ending.NoProgress asked) rows = rows ≡ []
-BringsNone ending.NoResponse rows = rows ≡ []
-BringsNone ending.Link rows = rows ≡ []
-BringsNone _ rows = Unit {0}
+abbrev pub DeliversNoRows : WalkEnd → List VarBind → Type 0
+DeliversNoRows (ending.Fault status index) rows = rows ≡ []
+DeliversNoRows (ending.NoProgress asked) rows = rows ≡ []
+DeliversNoRows ending.NoResponse rows = rows ≡ []
+DeliversNoRows ending.Link rows = rows ≡ []
+DeliversNoRows _ rows = Unit {0}
 
 -- How a walk ended over an honest link, by its last request. In state w, it had passed on the
 -- first of these rows and waited for the reply to that request, which had the others. All that a
 -- lawful end says of some state holds of w.
-pub record IsEndedBy (agents : Agents) (Silent Sent : Walker → Type 0) (first : Walker)
+pub record IsEndedBy (agents : Agents) (Silent Sent : WalkState → Type 0) (first : WalkState)
     (rows : List VarBind) (end : WalkEnd) : Type 0 where
-  pub w : Walker
+  pub w : WalkState
   pub given : List VarBind
   pub more : List VarBind
   pub parts : rows ≡ given ++ more
-  pub none : BringsNone end more
-  pub walker : IsWalker w
+  pub none : DeliversNoRows end more
+  pub walker : IsWalkState w
   pub id : first.id ≤ w.id
   pub reaches : Reaches (IsNextFrom agents) (IsGotFrom agents) first w given
   pub ends : IsReplyEnd end
@@ -168,7 +168,8 @@ pub record IsEndedBy (agents : Agents) (Silent Sent : Walker → Type 0) (first 
 
 -- The last datagrams sent are the request of w, once for each try, and one of the agents has no
 -- reply to it or the last deliveries used lost it.
-pub record HasNoReply (agents : Agents) (tries : ℕ) (old new : Traffic) (w : Walker) : Type 0 where
+pub record HasNoReply (agents : Agents) (tries : ℕ) (old new : Traffic)
+    (w : WalkState) : Type 0 where
   pub earlier : List (List ℕ)
   pub sent : new.sent ≡ earlier ++ replicate tries (canon (request_of w))
   pub lost : IsUnanswered agents (canon (request_of w))
@@ -177,12 +178,12 @@ pub record HasNoReply (agents : Agents) (tries : ℕ) (old new : Traffic) (w : W
       × Lost agents (earlier ++ canon (request_of w) ∷ []) (canon (request_of w)) used tries 0)
 
 -- one of the agents has no reply to the request of w
-abbrev pub HasNone : Agents → Walker → Type 0
+abbrev pub HasNone : Agents → WalkState → Type 0
 HasNone agents w = IsUnanswered agents (canon (request_of w))
 
 -- what the walk returns of one table; `got` is the result of a Get of the name that the walk
 -- begins from
-abbrev pub walk_at : Walker → MibView → VarBind → List VarBind
+abbrev pub walk_at : WalkState → MibView → VarBind → List VarBind
 walk_at first view got = walk_from first.mode first.root first.asked got (variables view)
 
 abbrev pub IsDone : WalkEnd → Type 0
@@ -204,7 +205,7 @@ IsDoneOrCutOff why = IsDoneOrStopped why
 -- What is promised of a walk if each reply that it read is a reply of one of these agents to the
 -- waiting request. It gave `rows` to the sink, and then the one that was refused, if any was. If
 -- no reply arrived, `Silent` holds of the state that waited.
-pub record GivenFacts (agents : Agents) (Silent : Walker → Type 0) (first : Walker)
+pub record ReplyFacts (agents : Agents) (Silent : WalkState → Type 0) (first : WalkState)
     (rows refused : List VarBind) (end : WalkEnd) : Type 0 where
   -- each row is the next instance, in one of the tables, after the name before it; before them
   -- comes the root's own, if the mode says so; in their place, a plain walk may return the result
@@ -232,11 +233,11 @@ pub record GivenFacts (agents : Agents) (Silent : Walker → Type 0) (first : Wa
   -- each name of the walk that all tables have, and that doesn't come after the last name given,
   -- was given once
   pub common_names : (name : List ℕ) → IsOfWalk first name → IsInEach agents name
-      → (front : List VarBind) (last : VarBind) → rows ≡ front ++ last ∷ []
-      → (Precedes last.name name → ⊥) → IsGivenOnce rows name
+      → (prefix : List VarBind) (last : VarBind) → rows ≡ prefix ++ last ∷ []
+      → (Precedes last.name name → ⊥) → OccursOnce rows name
   -- a walk that is done gave each name of the walk that all tables have, once
   pub common_at_done : IsDone end → (name : List ℕ) → IsOfWalk first name → IsInEach agents name
-      → IsGivenOnce rows name
+      → OccursOnce rows name
   -- a plain walk that is done gave at least one row
   pub some_at_done : IsDone end → first.mode ≡ mode.Plain → rows ≢ []
   -- If each single binding of each table has room, and there are enough ids for the names below
@@ -246,11 +247,11 @@ pub record GivenFacts (agents : Agents) (Silent : Walker → Type 0) (first : Wa
 
 -- What is promised of a walk over an honest link, over which earlier runs had lower ids. It gave
 -- `rows` to the sink, and then the one that was refused, if any was.
-pub record WalkFacts (agents : Agents) (tries : ℕ) (old : Traffic) (first : Walker)
+pub record WalkFacts (agents : Agents) (tries : ℕ) (old : Traffic) (first : WalkState)
     (rows refused : List VarBind) (end : WalkEnd) (new : Traffic) : Type 0 where
   -- each reply that was read is a reply of one of the agents to the waiting request; if none
   -- arrived, one of the agents has none or the deliveries lost it
-  pub given : GivenFacts agents (HasNoReply agents tries old new) first rows refused end
+  pub given : ReplyFacts agents (HasNoReply agents tries old new) first rows refused end
   -- the walk ended by what came of the request sent last
   pub last_request : IsEndedBy agents (HasNoReply agents tries old new) (IsLastSent tries end new)
       first rows end
@@ -271,7 +272,7 @@ gets _ = 1
 -- What is promised of the requests of a walk that passed on `rows`, over a link that lists the
 -- datagrams sent. `honest` says that the link is honest and that earlier runs had lower ids.
 pub record SendFacts (agents : Agents) (honest : Type 0) (tries : ℕ) (old : Traffic)
-    (first : Walker) (rows : List VarBind) (end : WalkEnd) (new : Traffic) : Type 0 where
+    (first : WalkState) (rows : List VarBind) (end : WalkEnd) (new : Traffic) : Type 0 where
   pub requests : List Try
   pub sent : new.sent ≡ old.sent ++ sent_by requests
   -- their ids increase by one, and each request is sent at most `tries` times

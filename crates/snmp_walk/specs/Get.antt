@@ -9,7 +9,7 @@ use Rattle.snmp_wire.specs.{Name.asking, Canon.canon, Spelling.Spells}
 use Rattle.snmp_wire.specs.Message.{VarBind, Message, end_of_mib_view}
 use Rattle.snmp_agent.specs.Reply.{AreAnswers, IsResponse, Fits, response}
 use Rattle.snmp_walk.specs.{declared.end.WalkEnd.WalkEnd, declared.rows.Step.Step, Names.is_end}
-use Rattle.snmp_walk.specs.{Judged.IsResponseTo, Traffic.Traffic, Traffic.Lost}
+use Rattle.snmp_walk.specs.{StepRules.IsResponseTo, Traffic.Traffic, Traffic.Lost}
 use Rattle.snmp_walk.specs.declared.rows.Step.TheVariants as step
 use Rattle.snmp_walk.specs.declared.end.WalkEnd.TheVariants as ending
 use Rattle.snmp_walk.specs.Link.{Agents, OneOf, IsUnanswered, Outcome, answered, missed, cut_off}
@@ -53,9 +53,9 @@ pub record WaitingGet : Type 0 where
 
 -- m is the reply to the Get's request, as what came of it (`Tried`) says: a Response with its
 -- community and id, and over an honest link the Response of one of the agents to it.
-abbrev pub IsBrought : (Tried : Outcome → Type 0) → Agents → (honest : Type 0) → List ℕ → ℕ
+abbrev pub IsDelivered : (Tried : Outcome → Type 0) → Agents → (honest : Type 0) → List ℕ → ℕ
     → List (List ℕ) → Message → Type 0
-IsBrought Tried agents honest community id names m =
+IsDelivered Tried agents honest community id names m =
     IsResponseTo community id m
     × (honest → (view : MibView) × OneOf agents.tables view × (community ≡ agents.community)
     × IsResponse view agents.max_size (get_request community id names) m)

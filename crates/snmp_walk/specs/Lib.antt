@@ -3,10 +3,10 @@ pub mod Instances
 pub mod Walk
 pub mod Ordered
 pub mod Trail
-pub mod Walker
+pub mod WalkState
 pub mod Request
-pub mod Judged
-pub mod Standing
+pub mod StepRules
+pub mod Progress
 pub mod Link
 pub mod Responses
 pub mod Traffic
@@ -22,11 +22,11 @@ pub mod Tables
 pub mod Get
 pub mod Facts
 pub mod Network
-pub mod Ran
+pub mod RunResult
 pub mod Served
 pub mod Arena
 pub mod Memory
 pub mod MemoryNetwork
-pub mod CarriesLaws
+pub mod MemoryNetworkIsFaithful
 pub mod Loose
 pub mod private

@@ -3,7 +3,8 @@ use Rattle.std.specs.Prelude.{pos, ◌≡◌, ℕ, ◌^◌, ◌<◌, ◌≤◌, 
 use Rattle.snmp_wire.specs.declared.kind.Kind.TheVariants as kind
 use Rattle.snmp_wire.specs.{Message.VarBind, Message.Message, Canon.canon}
 use Rattle.snmp_agent.specs.table.Table.{MibView, IsGet, IsNext, IsMibView}
-use Rattle.snmp_agent.specs.{Reply.Agent, Reply.IsReply, Reply.IsDropped, declared.config.Why.Why}
+use Rattle.snmp_agent.specs.{Reply.Agent, Reply.IsReply, Reply.IsDropped}
+use Rattle.snmp_agent.specs.{declared.config.DropReason.DropReason}
 
 -- the agents that may reply: the tables that they serve, their community, and the greatest size of
 -- their messages
@@ -60,7 +61,7 @@ IsReplyFrom agents datagram reply = (view : MibView) × OneOf agents.tables view
 pub record IsUnanswered (agents : Agents) (datagram : List ℕ) : Type 0 where
   pub view : MibView
   pub one : OneOf agents.tables view
-  pub why : Why
+  pub why : DropReason
   pub dropped : IsDropped (agent_in agents view) datagram why
 
 -- What came of a request: it was answered by this datagram; each try of it missed the reply; or

@@ -7,7 +7,7 @@ use Rattle.snmp_wire.specs.ber.Length.{IsElement, IsLongLength}
 use Rattle.snmp_wire.specs.{ber.Number.AreOctets, Canon.canon, Message.Message, Name.asking}
 use Rattle.snmp_wire.specs.{Spelling.Spells, Spelling.sequence_tag}
 use Rattle.snmp_agent.specs.Reply.{Agent, Fits, IsDropped, IsReply, agent_of, response}
-use Rattle.snmp_agent.specs.declared.config.Why.{Why}
+use Rattle.snmp_agent.specs.declared.config.DropReason.{DropReason}
 use Rattle.snmp_walk.specs.{declared.loose.LooseLink.LooseLink, declared.loose.Way.Way}
 use Rattle.snmp_walk.specs.{Link.Agents, Memory.agents_over}
 use Rattle.snmp_walk.specs.declared.loose.Way.TheVariants as way
@@ -115,4 +115,4 @@ IsSentBack old octets new = (used : Way) × UsesWay old used new
 -- a receive returns nothing, since the agent drops the datagram sent last
 abbrev pub IsDroppedBy : LooseLink → LooseLink → Type 0
 IsDroppedBy old new = (used : Way) × UsesWay old used new
-    × (why : Why) × IsDropped (agent_at old) (last_sent old) why
+    × (why : DropReason) × IsDropped (agent_at old) (last_sent old) why

@@ -3,7 +3,7 @@ use Rattle.std.specs.Prelude.{◌≡◌, ℕ, ◌+◌, ◌<◌, ◌≤◌, ◌�
 use Rattle.std.specs.Prelude.{Some, None}
 use Rattle.std.specs.List.{slice_get}
 use Rattle.snmp_agent.specs.{table.Table.MibView, declared.config.Config.Config}
-use Rattle.snmp_agent.specs.{declared.config.Why.Why, Reply.IsReply, Reply.IsDropped}
+use Rattle.snmp_agent.specs.{declared.config.DropReason.DropReason, Reply.IsReply, Reply.IsDropped}
 use Rattle.snmp_walk.specs.{declared.memory.MemoryLink.MemoryLink, Link.Agents, Link.AreLawful}
 use Rattle.snmp_walk.specs.{Link.agent_in, Traffic.Traffic, Traffic.datagram_at}
 
@@ -32,7 +32,7 @@ pub record IsHonest (link : MemoryLink) : Type 0 where
 
 -- `link` has memory for `sends` more datagrams of `octets` octets in total
 pub record IsReadyFor (link : MemoryLink) (sends octets : ℕ) : Type 0 where
-  pub places : sends ≤ link.arena.places
+  pub free_spans : sends ≤ link.arena.free_spans
   pub room : octets ≤ link.arena.room
 
 -- `number` is that of the datagram whose reply the next delivery delivers, or 0 if it delivers
@@ -49,10 +49,10 @@ IsNextNumber sent ahead number left =
 -- `uses[number - 1]` in `tables`, or the last table if `uses` has fewer items.
 abbrev pub IsTableFor : List MibView → (uses : List ℕ) → (number : ℕ) → MibView → Type 0
 IsTableFor tables uses number view =
-    ((before : ℕ) × (place : ℕ) × (number ≡ before + 1) × (slice_get uses before ≡ Some place)
-    × (slice_get tables place ≡ Some view))
+    ((before : ℕ) × (index : ℕ) × (number ≡ before + 1) × (slice_get uses before ≡ Some index)
+    × (slice_get tables index ≡ Some view))
     ⊎ ((length uses < number)
-    × ((front : List MibView) × (tables ≡ front ++ view ∷ [])))
+    × ((prefix : List MibView) × (tables ≡ prefix ++ view ∷ [])))
 
 -- `octets` are the reply to datagram `number`, by the agent of the table for it
 pub record IsReplyOf (agents : Agents) (uses : List ℕ) (sent : List (List ℕ)) (number : ℕ)
@@ -68,7 +68,7 @@ abbrev pub HasNoReplyOf : Agents → (uses : List ℕ) → (sent : List (List �
     → Type 0
 HasNoReplyOf agents uses sent number =
     (datagram_at sent number ≡ None)
-    ⊎ ((datagram : List ℕ) × (view : MibView) × (why : Why)
+    ⊎ ((datagram : List ℕ) × (view : MibView) × (why : DropReason)
     × (datagram_at sent number ≡ Some datagram) × IsTableFor agents.tables uses number view
     × IsDropped (agent_in agents view) datagram why)
 
@@ -88,8 +88,8 @@ pub record UsesDelivery (old : MemoryLink) (number : ℕ) (new : MemoryLink) : T
   pub next : IsNextNumber (traffic_of old).sent (traffic_of old).ahead number (traffic_of new).ahead
 
 -- a receive returns `octets`, the reply to the datagram that the next delivery names
-abbrev pub IsBroughtBy : MemoryLink → List ℕ → MemoryLink → Type 0
-IsBroughtBy old octets new = (number : ℕ) × UsesDelivery old number new
+abbrev pub IsDeliveredBy : MemoryLink → List ℕ → MemoryLink → Type 0
+IsDeliveredBy old octets new = (number : ℕ) × UsesDelivery old number new
     × IsReplyOf (agents_of old) old.uses.now (traffic_of old).sent number octets
 
 -- a receive returns nothing: the next delivery names no datagram, or one without a reply

@@ -2,23 +2,23 @@
 use Rattle.std.specs.Prelude.{◌≤◌, ◌<◌, ◌+◌, ◌*◌, ℕ, List, length, replicate}
 use Rattle.snmp_wire.specs.Message.{VarBind}
 use Rattle.snmp_walk.specs.{Moves.Moves, Run.AreTries, Run.IsEachSent, Run.Try, Run.sent_by}
-use Rattle.snmp_walk.specs.{Walker.Walker, declared.link.Link.Ghosts as LinkFacts}
+use Rattle.snmp_walk.specs.{WalkState.WalkState, declared.link.Link.Ghosts as LinkFacts}
 
 -- sends of the datagrams `tried`, in order, and at most `receives` receives took the link from
 -- `old` to `new`, and `failed` says whether the last of these calls failed
 abbrev pub IsMoved : {W : Type 0} → LinkFacts W → W → (tried : List (List ℕ)) → (receives : ℕ)
     → (failed : Type 0) → W → Type 0
-IsMoved {W} facts old tried receives failed new = Moves facts.keeps facts.honest facts.agents
+IsMoved {W} facts old tried receives failed new = Moves facts.records facts.honest facts.agents
     facts.traffic facts.fault_count facts.ready old tried receives failed new
 
 -- over a link that lists the datagrams sent, there are at most 64 receives for each of them
 abbrev pub AreFew : {W : Type 0} → LinkFacts W → W → (receives : ℕ) → W → Type 0
-AreFew {W} facts old receives new = facts.keeps old
+AreFew {W} facts old receives new = facts.records old
     → receives + 64 * length (facts.traffic old).sent ≤ 64 * length (facts.traffic new).sent
 
 -- requests of the walk that began as `first` and passed on these rows took the link from `old` to
 -- `new`: their ids increase by one, and each was tried 1 to `tries` times
-pub record IsMovedByRequests {W : Type 0} (facts : LinkFacts W) (tries : ℕ) (first : Walker)
+pub record IsMovedByRequests {W : Type 0} (facts : LinkFacts W) (tries : ℕ) (first : WalkState)
     (given : List VarBind) (old : W) (failed : Type 0) (new : W) : Type 0 where
   pub requests : List Try
   pub are_tries : AreTries tries first given first.id requests

@@ -1,6 +1,6 @@
 -- How sends and receives change a link, whatever it delivers.
 use Rattle.std.specs.Prelude.{◌≡◌, ◌+◌, ◌≤◌, ℕ, List, [], ◌∷◌, ◌++◌, length, Option}
-use Rattle.snmp_io.specs.Count.{HasRisen}
+use Rattle.snmp_io.specs.Count.{HasIncreased}
 use Rattle.snmp_walk.specs.{Link.Agents, Traffic.Traffic}
 
 -- the total length of these datagrams in octets
@@ -12,10 +12,10 @@ octets_in (datagram ∷ more) = length datagram + octets_in more
 -- `before` to `after`: all of them or, if `failed` holds, perhaps all but the last.
 pub record AreSent (tried : List (List ℕ)) (failed : Type 0) (before after : List (List ℕ)) :
     Type 0 where
-  pub front : List (List ℕ)
+  pub prefix : List (List ℕ)
   pub left : List (List ℕ)
-  pub parts : tried ≡ front ++ left
-  pub sent : after ≡ before ++ front
+  pub parts : tried ≡ prefix ++ left
+  pub sent : after ≡ before ++ prefix
   pub all : (failed → ⊥) → left ≡ []
   pub but_one : length left ≤ 1
 
@@ -40,7 +40,7 @@ pub record Moves {W : Type 0} (Keeps Honest : W → Type 0) (agents_of : W → A
   pub used : Honest old → AreUsed (traffic_of old).ahead receives (traffic_of new).ahead
   -- its fault count has increased if a call failed, and is the same if none did
   pub count : (failed → ⊥) → faults_of new ≡ faults_of old
-  pub fault : failed → HasRisen (faults_of old) (faults_of new)
+  pub fault : failed → HasIncreased (faults_of old) (faults_of new)
   -- if it was ready for these sends and more, no call failed, and it is ready for the others
   pub ready : (sends octets : ℕ) → Ready old (sends + length tried) (octets + octets_in tried)
       → (failed → ⊥) × Ready new sends octets

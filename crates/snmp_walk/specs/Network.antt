@@ -4,7 +4,7 @@ use Rattle.std.specs.Prelude.{pos, ◌≡◌, ◌⊎◌, ℕ, List, [], ◌∷�
 use Rattle.std.specs.Prelude.{Some, None, Result, Ok, Err}
 use Rattle.snmp_agent.specs.Event.{Event, came, silence, receive_failed, sent, send_failed}
 use Rattle.snmp_agent.specs.{Reply.Agent, Reply.IsDropped, Reply.IsReply, Serving.AreTurns}
-use Rattle.snmp_agent.specs.{declared.config.Why.Why, table.Table.MibView}
+use Rattle.snmp_agent.specs.{declared.config.DropReason.DropReason, table.Table.MibView}
 use Rattle.snmp_agent.specs.declared.server.Served.{Served}
 use Rattle.snmp_walk.specs.declared.end.LinkFault.{LinkFault}
 use Rattle.snmp_wire.specs.{Message.Message, Spelling.Spells}
@@ -119,5 +119,5 @@ event_of_got (Err _) buffer = receive_failed
 abbrev pub RepliesTo : Agent → (request : Option (List ℕ)) → Event (Unit {0}) → Type 0
 RepliesTo agent request (came peer r) = (d : List ℕ) × (request ≡ Some d) × IsReply agent d r
 RepliesTo agent request silence = (request ≡ None)
-    ⊎ ((d : List ℕ) × (why : Why) × (request ≡ Some d) × IsDropped agent d why)
+    ⊎ ((d : List ℕ) × (why : DropReason) × (request ≡ Some d) × IsDropped agent d why)
 RepliesTo agent request _ = Unit {0}

@@ -3,7 +3,7 @@ use Rattle.std.specs.Prelude.{◌≡◌, ℕ, true, List, [], ◌∷◌, ◌++�
 use Rattle.std.specs.Prelude.{None}
 use Rattle.snmp_wire.specs.{Message.VarBind, Message.Message, Spelling.Spells}
 use Rattle.snmp_walk.specs.{declared.end.SinkFault.SinkFault, declared.rows.Step.Step}
-use Rattle.snmp_walk.specs.{private.Course.Heard, private.Taken.awaits, Sink.Given}
+use Rattle.snmp_walk.specs.{private.Course.Heard, private.ComputedStep.awaits, Sink.TakesAll}
 use Rattle.snmp_walk.specs.declared.end.WalkEnd.TheVariants as ending
 use Rattle.snmp_walk.specs.declared.rows.Step.TheVariants as step
 use Rattle.snmp_walk.specs.private.Course as heard
@@ -18,19 +18,19 @@ rows_in (step.Last rows why) = rows
 -- ---- for private functions
 
 -- whether the walk or the Get continues after a step, or how it ends
-abbrev pub leads_to : Step → Heard
-leads_to (step.Last rows why) = heard.ends why
-leads_to _ = heard.goes_on
+abbrev pub heard_after : Step → Heard
+heard_after (step.Last rows why) = heard.ends why
+heard_after _ = heard.goes_on
 
 -- The rows of a step were given to the sink, which went from `before` to `after`, until it refused
 -- one. `what` says whether the walk or the Get continues then, or how it ends.
 pub data Delivers {S : Type 0} (takes : S → VarBind → Result (Unit {0}) SinkFault → S → Type 0)
     (given : Step) (before : S) (what : Heard) (after : S) : Type 0 where
-  all_given : what ≡ leads_to given → Given takes before (rows_in given) after
+  all_taken : what ≡ heard_after given → TakesAll takes before (rows_in given) after
       → Delivers takes given before what after
   is_refused : (fault : SinkFault) (rows : List VarBind) (p : VarBind) (left : List VarBind)
       (between : S) → rows_in given ≡ rows ++ p ∷ left → what ≡ heard.ends (ending.Sink fault)
-      → Given takes before rows between → takes between p (Err fault) after
+      → TakesAll takes before rows between → takes between p (Err fault) after
       → Delivers takes given before what after
 
 -- `datagram` encodes the reply with this community and request-id, which was read as one step

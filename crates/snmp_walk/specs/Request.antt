@@ -4,7 +4,7 @@ use Rattle.snmp_oid.specs.Identifier.{wire}
 use Rattle.snmp_wire.specs.{Canon.canon, declared.kind.Kind.Kind, Message.Message, Name.asking}
 use Rattle.snmp_wire.specs.{Range.IsMessageInRange}
 use Rattle.snmp_wire.specs.declared.kind.Kind.TheVariants as kind
-use Rattle.snmp_walk.specs.{declared.mode.Mode.Mode, declared.mode.Phase.Phase, Walker.Walker}
+use Rattle.snmp_walk.specs.{declared.mode.Mode.Mode, declared.mode.Phase.Phase, WalkState.WalkState}
 use Rattle.snmp_walk.specs.declared.mode.Mode.TheVariants as mode
 use Rattle.snmp_walk.specs.declared.mode.Method.{Method}
 use Rattle.snmp_walk.specs.declared.mode.Method.TheVariants as method
@@ -17,8 +17,8 @@ first_phase mode.Include = phase.First
 first_phase _ = phase.Rows
 
 -- the state of a walk before its first request
-abbrev pub started : List ℕ → Mode → Method → List ℕ → ℕ → Walker
-started root mode method community id = record {
+abbrev pub start_state : List ℕ → Mode → Method → List ℕ → ℕ → WalkState
+start_state root mode method community id = record {
   root = root;
   mode = mode;
   method = method;
@@ -30,8 +30,8 @@ started root mode method community id = record {
 }
 
 -- the state of a walk that is resumed after a name
-abbrev pub resumed : List ℕ → List ℕ → Method → List ℕ → ℕ → Walker
-resumed root after method community id = record {
+abbrev pub resume_state : List ℕ → List ℕ → Method → List ℕ → ℕ → WalkState
+resume_state root after method community id = record {
   root = root;
   mode = mode.NoLast;
   method = method;
@@ -59,7 +59,7 @@ request_repetitions phase.Rows (method.Bulk repetitions) = repetitions
 request_repetitions _ method = pos 0
 
 -- the waiting request: one name, with the value NULL
-abbrev pub request_of : Walker → Message
+abbrev pub request_of : WalkState → Message
 request_of w = record {
   version = pos 1;
   community = w.community;

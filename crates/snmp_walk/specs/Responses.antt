@@ -5,7 +5,7 @@ use Rattle.snmp_wire.specs.declared.kind.Kind.TheVariants as kind
 use Rattle.snmp_wire.specs.Message.{VarBind, Message}
 use Rattle.snmp_agent.specs.table.Table.{MibView, IsNext}
 use Rattle.snmp_agent.specs.Reply.{IsRequest, IsWhole, Fits, response, no_error, too_big}
-use Rattle.snmp_walk.specs.{Link.Agents, Link.OneOf, Standing.IsChain}
+use Rattle.snmp_walk.specs.{Link.Agents, Link.OneOf, Progress.IsChain}
 
 -- An agent of this table, whose messages have at most `max_size` octets, may send the Response r
 -- to q: what was asked for; tooBig, if that is longer; or, to a GetBulk of one name, at most

@@ -5,7 +5,7 @@ use Rattle.snmp_wire.specs.Message.{no_such_object, no_such_instance, end_of_mib
 use Rattle.snmp_wire.specs.Canon.{canon}
 use Rattle.snmp_agent.specs.table.Table.{MibView, IsRow}
 use Rattle.snmp_agent.specs.{table.Listing.variables, Reply.IsBulk}
-use Rattle.snmp_walk.specs.{Walk.rest_of, Walker.Walker, Request.request_of}
+use Rattle.snmp_walk.specs.{Walk.rest_of, WalkState.WalkState, Request.request_of}
 use Rattle.snmp_walk.specs.Link.{Agents, OneOf, full_response}
 
 -- The agents' messages have room for p: the Response with p only, and with the greatest
@@ -24,7 +24,7 @@ IsShort _ = Unit {0}
 -- Whichever table replies, the agents' messages have room for all bindings that the GetBulk of w
 -- asks for: the Response with them, and with the greatest request-id, isn't longer than their
 -- greatest size.
-abbrev pub HasRoomForAll : Agents → Walker → Type 0
+abbrev pub HasRoomForAll : Agents → WalkState → Type 0
 HasRoomForAll agents w = (view : MibView) → OneOf agents.tables view → (all : List VarBind)
     → IsBulk view (request_of w) all
     → length (canon (full_response agents.community 2147483647 all)) ≤ agents.max_size
@@ -38,7 +38,7 @@ IsException _ = ⊥
 
 -- The walk's requests have the agents' community, and there is room for each single row of the
 -- table, and for the name that the walk begins from with an exception.
-pub record HasRoomForEach (agents : Agents) (view : MibView) (first : Walker) : Type 0 where
+pub record HasRoomForEach (agents : Agents) (view : MibView) (first : WalkState) : Type 0 where
   pub community : first.community ≡ agents.community
   -- if a row has room, so has its name with endOfMibView
   pub rows : (p : VarBind) → IsRow view p → HasRoom agents p
@@ -46,6 +46,6 @@ pub record HasRoomForEach (agents : Agents) (view : MibView) (first : Walker) : 
       → HasRoom agents (record { name = first.asked; value = v })
 
 -- There are enough ids for a request for each row below the root, one more, and a Get.
-abbrev pub HasIds : Walker → MibView → Type 0
+abbrev pub HasIds : WalkState → MibView → Type 0
 HasIds first view = first.id + length (rest_of first.root first.asked
     (variables view)) + 2 ≤ 2147483647

@@ -3,7 +3,8 @@ use Rattle.std.specs.Prelude.{◌≡◌, ℕ, ◌+◌, ◌^◌, ◌<◌, ◌≤�
 use Rattle.std.specs.Prelude.{pos, replicate}
 use Rattle.snmp_wire.specs.{Message.VarBind, Message.Message, Canon.canon}
 use Rattle.snmp_walk.specs.declared.mode.Mode.TheVariants as mode
-use Rattle.snmp_walk.specs.{declared.mode.Phase.Phase, Walker.Walker, declared.mode.Method.Method}
+use Rattle.snmp_walk.specs.{declared.mode.Phase.Phase, WalkState.WalkState}
+use Rattle.snmp_walk.specs.{declared.mode.Method.Method}
 use Rattle.snmp_walk.specs.{Names.is_end, Room.HasRoomForAll, Link.Agents, Link.OneOf}
 use Rattle.snmp_walk.specs.declared.mode.Phase.TheVariants as phase
 use Rattle.snmp_walk.specs.Request.{asked_for, request_of}
@@ -11,7 +12,7 @@ use Rattle.std.specs.List.{list_any}
 
 -- a request of a walk, by the walk's state, and how many times it was sent
 pub record Try : Type 0 where
-  pub by : Walker
+  pub by : WalkState
   pub times : ℕ
 
 -- the datagrams of these requests, as many times as each was sent
@@ -31,7 +32,7 @@ IsNameIn (p ∷ rows) name = (name ≡ p.name) ⊎ IsNameIn rows name
 -- A Get asks for the name that the walk begins from: the first request of a walk that includes its
 -- root, and the last one of a plain walk. Any other request asks from that name, or from the name
 -- of a row that was passed on.
-abbrev pub AsksFor : Walker → List VarBind → Phase → Walker → Type 0
+abbrev pub AsksFor : WalkState → List VarBind → Phase → WalkState → Type 0
 AsksFor first rows phase.First by = (by.asked ≡ first.asked) × (first.mode ≡ mode.Include)
     × (by.id ≡ first.id)
 AsksFor first rows phase.Rows by = (by.asked ≡ first.asked) ⊎ IsNameIn rows by.asked
@@ -39,13 +40,13 @@ AsksFor first rows phase.Last by = (by.asked ≡ first.asked) × (first.mode ≡
 AsksFor first rows phase.Over by = ⊥
 
 -- the walk that began as `first`, and passed on these rows, sent a request in state `by`
-pub record Asks (first : Walker) (rows : List VarBind) (by : Walker) : Type 0 where
+pub record Asks (first : WalkState) (rows : List VarBind) (by : WalkState) : Type 0 where
   pub same : by ≡ record first { phase = by.phase; asked = by.asked; id = by.id; count = by.count }
   pub name : AsksFor first rows by.phase by
 
 -- the requests of a walk in order, with ids that increase by one from `id` on, each sent at most
 -- `tries` times
-abbrev pub AreTries : ℕ → Walker → List VarBind → ℕ → List Try → Type 0
+abbrev pub AreTries : ℕ → WalkState → List VarBind → ℕ → List Try → Type 0
 AreTries tries first rows id [] = Unit {0}
 AreTries tries first rows id (t ∷ more) =
     (t.by.id ≡ id) × (id < 2 ^ 31) × (t.times ≤ tries) × Asks first rows t.by
@@ -59,6 +60,6 @@ IsFull method bindings = (length bindings ≡ asked_for method)
     ⊎ (list_any (λ p. is_end p.value) bindings ≡ true)
 
 -- if the agents have room for all bindings that w asks for, a reply m without an error has them
-abbrev pub IsFullReply : Agents → Walker → Message → Type 0
+abbrev pub IsFullReply : Agents → WalkState → Message → Type 0
 IsFullReply agents w m = HasRoomForAll agents w → w.phase ≡ phase.Rows → m.a ≡ pos 0
     → IsFull w.method m.bindings

@@ -3,8 +3,9 @@ use Rattle.std.specs.Prelude.{◌≡◌, ℕ, List, [], ◌∷◌, ◌++◌, map
 use Rattle.snmp_agent.specs.Event.{Event, InTurn}
 use Rattle.snmp_agent.specs.{Reply.agent_of, Serving.AreTurns, declared.server.Served.Served}
 use Rattle.snmp_wire.specs.Message.{VarBind}
-use Rattle.snmp_walk.specs.Facts.{GivenFacts, IsDoneOrStopped}
-use Rattle.snmp_walk.specs.{Link.Agents, Memory.agents_over, Ran.IsWalkedOver, Walker.Walker}
+use Rattle.snmp_walk.specs.Facts.{ReplyFacts, IsDoneOrStopped}
+use Rattle.snmp_walk.specs.{Link.Agents, Memory.agents_over, RunResult.IsWalkedOver}
+use Rattle.snmp_walk.specs.{WalkState.WalkState}
 use Rattle.snmp_walk.specs.Network.{Happening, at_agents, at_walk}
 use Rattle.snmp_walk.specs.Tables.{CountsNames, HasIdsFor, HasRoomInEach}
 use Rattle.snmp_walk.specs.declared.end.WalkEnd.{WalkEnd}
@@ -33,14 +34,15 @@ IsServedBy {N} {Peer} carries turn_count old e new =
 -- What is known of a walk over a link to the agents at the other end of a network. `prompt` says
 -- that the network loses and delays nothing.
 pub record IsWalkServed {W : Type 0} (facts : LinkFacts W) (agents : Agents) (prompt : Type 0)
-    (link after : W) (tries : ℕ) (first : Walker) (given refused : List VarBind) (end : WalkEnd) :
+    (link after : W) (tries : ℕ) (first : WalkState) (given refused : List VarBind)
+    (end : WalkEnd) :
     Type 0 where
   -- what `run_walk` promises of a walk over any link: how each request was tried, and why the walk
   -- ended
   pub walked : IsWalkedOver facts link after tries first given refused end
   -- Whatever the network loses, repeats and delays, each row passed on is the agent's next
   -- instance. The rows are a prefix of the walk, and all of it if the walk is done.
-  pub served : GivenFacts agents (λ w. Unit {0}) first given refused end
+  pub served : ReplyFacts agents (λ w. Unit {0}) first given refused end
   -- Over a network that loses and delays nothing, the walk is done unless the network or the sink
   -- fails, if each binding of the table has room and there are enough ids for its names.
   pub done_if_prompt : prompt → (k : ℕ) → CountsNames agents first k

@@ -6,11 +6,11 @@ use Rattle.snmp_walk.specs.{declared.end.SinkFault.SinkFault, declared.end.WalkE
 use Rattle.snmp_walk.specs.declared.end.WalkEnd.TheVariants as ending
 
 -- the sink took these bindings, and went from `old` to `new`
-abbrev pub Given : {S : Type 0} → (S → VarBind → Result (Unit {0}) SinkFault → S → Type 0) → S
+abbrev pub TakesAll : {S : Type 0} → (S → VarBind → Result (Unit {0}) SinkFault → S → Type 0) → S
     → List VarBind → S → Type 0
-Given {S} takes old [] new = new ≡ old
-Given {S} takes old (p ∷ more) new = (between : S) × takes old p (Ok tt) between
-    × Given takes between more new
+TakesAll {S} takes old [] new = new ≡ old
+TakesAll {S} takes old (p ∷ more) new = (between : S) × takes old p (Ok tt) between
+    × TakesAll takes between more new
 
 -- `refused` is one binding, which the sink refused
 abbrev pub Refused : {S : Type 0} → (S → VarBind → Result (Unit {0}) SinkFault → S → Type 0) → S
@@ -23,5 +23,5 @@ Refused {S} takes old refused fault new = (p : VarBind) × (refused ≡ p ∷ []
 abbrev pub Took : {S : Type 0} → (S → VarBind → Result (Unit {0}) SinkFault → S → Type 0) → S
     → (rows refused : List VarBind) → WalkEnd → S → Type 0
 Took {S} takes old rows refused (ending.Sink fault) new = (between : S)
-    × Given takes old rows between × Refused takes between refused fault new
-Took {S} takes old rows refused _ new = Given takes old rows new × (refused ≡ [])
+    × TakesAll takes old rows between × Refused takes between refused fault new
+Took {S} takes old rows refused _ new = TakesAll takes old rows new × (refused ≡ [])

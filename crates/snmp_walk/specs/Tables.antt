@@ -4,26 +4,26 @@ use Rattle.snmp_oid.specs.Identifier.{IsBelow, Precedes}
 use Rattle.snmp_wire.specs.Message.{VarBind}
 use Rattle.snmp_agent.specs.{table.Table.MibView, table.Table.IsRow, table.Listing.variables}
 use Rattle.snmp_walk.specs.declared.mode.Mode.TheVariants as mode
-use Rattle.snmp_walk.specs.{Run.IsNameIn, Walk.rest_of, Walker.Walker, Room.HasRoomForEach}
+use Rattle.snmp_walk.specs.{Run.IsNameIn, Walk.rest_of, WalkState.WalkState, Room.HasRoomForEach}
 use Rattle.snmp_walk.specs.Link.{Agents, OneOf, IsGotFrom}
 
 -- the name is below the walk's root, and comes after the name that the walk begins from
-abbrev pub IsBelowRoot : Walker → List ℕ → Type 0
+abbrev pub IsBelowRoot : WalkState → List ℕ → Type 0
 IsBelowRoot first name = IsBelow name first.root × Precedes first.asked name
 
 -- the walk returns variables with this name: it is below the root or, in a walk that includes the
 -- root, the root's own
-abbrev pub IsOfWalk : Walker → List ℕ → Type 0
+abbrev pub IsOfWalk : WalkState → List ℕ → Type 0
 IsOfWalk first name = IsBelowRoot first name ⊎ ((first.mode ≡ mode.Include) × (name ≡ first.asked))
 
 -- p is a variable of one of the tables, with a name that the walk returns
-abbrev pub IsFromTable : Agents → Walker → VarBind → Type 0
+abbrev pub IsFromTable : Agents → WalkState → VarBind → Type 0
 IsFromTable agents first p = (view : MibView) × OneOf agents.tables view × IsRow view p
     × IsOfWalk first p.name
 
 -- Each binding returned is a variable of one of the tables; or a plain walk returned only the
 -- result of a Get of the name that it begins from.
-abbrev pub AreFromTables : Agents → Walker → List VarBind → Type 0
+abbrev pub AreFromTables : Agents → WalkState → List VarBind → Type 0
 AreFromTables agents first given =
     ((p : VarBind) → OneOf given p → IsFromTable agents first p)
     ⊎ ((first.mode ≡ mode.Plain) × (p : VarBind) × (given ≡ p ∷ [])
@@ -38,33 +38,33 @@ abbrev pub IsInEach : Agents → List ℕ → Type 0
 IsInEach agents name = (view : MibView) → OneOf agents.tables view → HasName view name
 
 -- exactly one of the bindings has this name
-pub record IsGivenOnce (given : List VarBind) (name : List ℕ) : Type 0 where
+pub record OccursOnce (given : List VarBind) (name : List ℕ) : Type 0 where
   pub before : List VarBind
   pub binding : VarBind
-  pub behind : List VarBind
-  pub parts : given ≡ before ++ binding ∷ behind
+  pub suffix : List VarBind
+  pub parts : given ≡ before ++ binding ∷ suffix
   pub named : binding.name ≡ name
   pub not_before : IsNameIn before name → ⊥
-  pub not_behind : IsNameIn behind name → ⊥
+  pub not_after_it : IsNameIn suffix name → ⊥
 
 -- `names` has every name below the root that one of the tables has, and maybe others
-abbrev pub HoldsNames : Agents → Walker → List (List ℕ) → Type 0
+abbrev pub HoldsNames : Agents → WalkState → List (List ℕ) → Type 0
 HoldsNames agents first names = (view : MibView) → OneOf agents.tables view
     → (p : VarBind) → IsRow view p → IsBelowRoot first p.name → OneOf names p.name
 
 -- k counts the names below the root: those of the rows that the one table has there, or those in a
 -- list that has the names of several tables.
-pub data CountsNames (agents : Agents) (first : Walker) (k : ℕ) : Type 0 where
+pub data CountsNames (agents : Agents) (first : WalkState) (k : ℕ) : Type 0 where
   of_table : (view : MibView) → agents.tables ≡ view ∷ []
       → k ≡ length (rest_of first.root first.asked (variables view)) → CountsNames agents first k
   of_tables : (names : List (List ℕ)) → HoldsNames agents first names → k ≡ length names
       → CountsNames agents first k
 
 -- there is room for each single binding of each table
-abbrev pub HasRoomInEach : Agents → Walker → Type 0
+abbrev pub HasRoomInEach : Agents → WalkState → Type 0
 HasRoomInEach agents first = (view : MibView) → OneOf agents.tables view
     → HasRoomForEach agents view first
 
 -- there are enough ids for a request for each of k names, one more, and a Get
-abbrev pub HasIdsFor : Walker → ℕ → Type 0
+abbrev pub HasIdsFor : WalkState → ℕ → Type 0
 HasIdsFor first k = first.id + k + 2 ≤ 2147483647

@@ -3,7 +3,7 @@ use Rattle.std.specs.Prelude.{◌≡◌, ◌<◌, ℕ, ◌⊎◌, List, [], ◌�
 use Rattle.snmp_agent.specs.Event.{Event, came, silence, receive_failed, sent, send_failed}
 use Rattle.snmp_wire.specs.{Message.Message, Spelling.Spells, Canon.canon}
 pub use Rattle.snmp_agent.specs.Event.{InTurn}
-use Rattle.snmp_walk.specs.{Walker.Walker, Request.request_of, Judged.IsResponseTo}
+use Rattle.snmp_walk.specs.{WalkState.WalkState, Request.request_of, StepRules.IsResponseTo}
 use Rattle.snmp_walk.specs.{Traffic.Receives, Moved.IsMoved, declared.link.Link.Ghosts as LinkFacts}
 use Rattle.snmp_walk.specs.Link.{OneOf, Outcome, answered, missed, cut_off}
 
@@ -17,7 +17,7 @@ IsNotAwaited community id datagram = (m : Message) → Spells m datagram
 abbrev pub Happens : {L : Type 0} → LinkFacts L → L → Event (Unit {0}) → L → Type 0
 Happens {L} facts old (sent peer datagram) new = facts.sends old datagram new
 Happens {L} facts old (send_failed peer datagram) new = facts.send_fails old datagram new
-Happens {L} facts old (came peer datagram) new = facts.brings old datagram new
+Happens {L} facts old (came peer datagram) new = facts.delivers old datagram new
 Happens {L} facts old silence new = facts.is_silent old new
 Happens {L} facts old receive_failed new = facts.receive_fails old new
 
@@ -38,13 +38,13 @@ Gets {L} facts old given new = IsMoved facts old [] 1 ⊥ new
     (facts.traffic old).ahead given (facts.traffic new).ahead)
 
 -- a receive returned the datagram
-abbrev pub Brings : {L : Type 0} → LinkFacts L → L → List ℕ → L → Type 0
-Brings {L} facts old datagram new = facts.brings old datagram new
+abbrev pub ReceivesDatagram : {L : Type 0} → LinkFacts L → L → List ℕ → L → Type 0
+ReceivesDatagram {L} facts old datagram new = facts.delivers old datagram new
     × Gets facts old (Some datagram) new
 
 -- a receive returned nothing
-abbrev pub BringsNothing : {L : Type 0} → LinkFacts L → L → L → Type 0
-BringsNothing {L} facts old new = facts.is_silent old new × Gets facts old None new
+abbrev pub ReceivesNothing : {L : Type 0} → LinkFacts L → L → L → Type 0
+ReceivesNothing {L} facts old new = facts.is_silent old new × Gets facts old None new
 
 -- a receive failed, and used no delivery
 abbrev pub ReceiveFails : {L : Type 0} → LinkFacts L → L → L → Type 0
@@ -54,8 +54,9 @@ ReceiveFails {L} facts old new = facts.receive_fails old new
 -- How a try ends after `strays` datagrams that weren't the reply: a receive returns the reply; or
 -- a receive returns nothing, or there were 64 datagrams; or a receive fails.
 abbrev pub EndsTry : {L : Type 0} → LinkFacts L → (strays : ℕ) → L → Outcome → L → Type 0
-EndsTry {L} facts strays old (answered datagram) new = (strays < 64) × Brings facts old datagram new
-EndsTry {L} facts strays old missed new = ((strays < 64) × BringsNothing facts old new)
+EndsTry {L} facts strays old (answered datagram) new = (strays < 64)
+    × ReceivesDatagram facts old datagram new
+EndsTry {L} facts strays old missed new = ((strays < 64) × ReceivesNothing facts old new)
     ⊎ ((strays ≡ 64) × (new ≡ old))
 EndsTry {L} facts strays old cut_off new = (strays < 64) × ReceiveFails facts old new
 
@@ -64,7 +65,7 @@ EndsTry {L} facts strays old cut_off new = (strays < 64) × ReceiveFails facts o
 pub record AreReceives {L : Type 0} (facts : LinkFacts L) (Other : List ℕ → Type 0) (old : L)
     (outcome : Outcome) (new : L) (strays : List (List ℕ)) : Type 0 where
   pub last : L
-  pub brought : InTurn (Brings facts) old strays last
+  pub brought : InTurn (ReceivesDatagram facts) old strays last
   pub others : (datagram : List ℕ) → OneOf strays datagram → Other datagram
   pub over : EndsTry facts (length strays) last outcome new
 
@@ -101,6 +102,6 @@ AreTried {L} facts Other request tries old outcome new =
     × IsLastTry facts Other request before outcome new
 
 -- what came of the request whose reply the walk w waits for, in at most `tries` tries
-abbrev pub IsTried : {L : Type 0} → LinkFacts L → (tries : ℕ) → Walker → L → Outcome → L → Type 0
+abbrev pub IsTried : {L : Type 0} → LinkFacts L → (tries : ℕ) → WalkState → L → Outcome → L → Type 0
 IsTried {L} facts tries w old outcome new = AreTried facts (IsNotAwaited w.community w.id)
     (canon (request_of w)) tries old outcome new

@@ -1,5 +1,5 @@
 pub mod Codec
 pub mod Course
-pub mod Heard
-pub mod Reading
-pub mod Taken
+pub mod OwnReply
+pub mod ReplyRows
+pub mod ComputedStep

@@ -28,7 +28,7 @@ impl Model for Arena {
 
     ghost view = { λ a. record {
       datagrams = cut a.octets.items a.spans.items;
-      places = vec_capacity a.spans - vec_len a.spans;
+      free_spans = vec_capacity a.spans - vec_len a.spans;
       room = vec_capacity a.octets - vec_len a.octets;
     } };
 
@@ -53,8 +53,9 @@ impl Arena {
     /// before stays reserved, also if memory runs out.
     pub(crate) fn reserve(&mut self, sends: usize, octets: usize) -> Result<(), AllocError>
         ensures datagrams { self.new.datagrams ≡ self.old.datagrams }
-        ensures reserved { OnOk result ((sends ≤ self.new.places) × (octets ≤ self.new.room)) }
-        ensures kept { (self.old.places ≤ self.new.places) × (self.old.room ≤ self.new.room) }
+        ensures reserved { OnOk result ((sends ≤ self.new.free_spans) × (octets ≤ self.new.room)) }
+        ensures kept { (self.old.free_spans ≤ self.new.free_spans)
+            × (self.old.room ≤ self.new.room) }
     {
         self.spans.reserve_exact(sends)?;
         self.octets.reserve_exact(octets)
@@ -66,10 +67,10 @@ impl Arena {
         ensures added { OnOk result (self.new.datagrams ≡ self.old.datagrams ++ datagram.now ∷ []) }
         ensures unchanged { OnErr result (self.new.datagrams ≡ self.old.datagrams) }
         ensures kept { OnErr result
-            ((self.old.places ≤ self.new.places) × (self.old.room ≤ self.new.room)) }
-        ensures ready { (s o : ℕ) → s + 1 ≤ self.old.places
+            ((self.old.free_spans ≤ self.new.free_spans) × (self.old.room ≤ self.new.room)) }
+        ensures ready { (s o : ℕ) → s + 1 ≤ self.old.free_spans
             → o + length datagram.now ≤ self.old.room
-            → IsOk result × (s ≤ self.new.places) × (o ≤ self.new.room) }
+            → IsOk result × (s ≤ self.new.free_spans) × (o ≤ self.new.room) }
     {
         let span = Span {
             start: self.octets.len(),

@@ -6,7 +6,8 @@ ghost use Rattle.snmp_wire.specs.Canon.{canon, canon_binding, canon_bindings, Is
 ghost use Rattle.std.specs.{Bool.nat_eq, Cmp.Lexicographic.pointwise, List.AllByRecursion};
 ghost use Rattle.snmp_wire.specs.{ber.Value.null_value, Message.Message, Message.VarBind};
 ghost use Rattle.snmp_wire.specs.{Message.var_bind, Range.IsBindingInRange, Range.IsMessageInRange};
-ghost use Rattle.snmp_walk.specs.{Names.is_end, private.Taken.awaits, Ran.IsGotOver, Ran.IsRun};
+ghost use Rattle.snmp_walk.specs.{Names.is_end, private.ComputedStep.awaits, RunResult.IsGotOver};
+ghost use Rattle.snmp_walk.specs.{RunResult.IsRun};
 ghost use Rattle.snmp_walk.specs.Get.{asked_names, get_request, are_for as are_these, answers_of};
 
 use crate::laws::codec;
@@ -29,7 +30,7 @@ use std::marker::Model;
 ///
 /// The clause `ran` says that the sink was passed some bindings, and perhaps refused one more
 /// (`IsRun`). What is known of these bindings and of the end are the fields of `IsGotOver`
-/// (`specs/Ran.antt`). Over any link:
+/// (`specs/RunResult.antt`). Over any link:
 ///
 /// - `named`: the names passed are those asked for, in order, and all of them if the Get is done.
 /// - `reason`: the end has its reason in what the link delivered.
@@ -159,7 +160,7 @@ impl<'n> Waiter for Get<'n> {
     fn read<'a>(&mut self, reply: &MessageRef<'a>, end: &mut WalkEnd) -> Judgement<'a> {
         let (rows, how) = match read_message(self.names, reply) {
             Ok(rows) => (rows, WalkEnd::Done(self.names.len() as u64)),
-            Err(fault) => (Rows::front(reply.bindings(), 0), fault),
+            Err(fault) => (Rows::read_rows(reply.bindings(), 0), fault),
         };
         *end = how;
         Judgement::Ends(rows)
@@ -179,7 +180,7 @@ fn read_message<'a>(names: &[Oid], message: &MessageRef<'a>) -> Result<Rows<'a>,
     if !are_for(names, message.bindings()) {
         return Err(WalkEnd::BadReply);
     }
-    Ok(Rows::front(message.bindings(), names.len()))
+    Ok(Rows::read_rows(message.bindings(), names.len()))
 }
 
 /// Writes the Get of `names` to the start of `out` and returns its length. Returns `None` if it
@@ -242,7 +243,7 @@ fn write_names(names: &[Oid], out: &mut [u8; MAX_DATAGRAM]) -> Option<usize>
 {
     let mut total = 0;
     'names: for name in names {
-        let binding = asked(name);
+        let binding = request_binding(name);
         total = match append(&binding, total, &mut out[..]) {
             Some(total) => total,
             None => return None,
@@ -252,7 +253,7 @@ fn write_names(names: &[Oid], out: &mut [u8; MAX_DATAGRAM]) -> Option<usize>
 }
 
 /// Returns the binding of a request for `name`: its wire form, with NULL.
-fn asked<'a>(name: &Oid) -> Binding<'a>
+fn request_binding<'a>(name: &Oid) -> Binding<'a>
     requires { IsWire (wire name.now) }
     ensures value { var_bind result ≡ record { name = wire name.now; value = null_value } }
     ensures range { IsBindingInRange (record { name = wire name.now; value = null_value }) }

@@ -5,14 +5,15 @@ ghost use Rattle.snmp_oid.specs.Identifier.{IsWire, IsBelow, Precedes, wire};
 ghost use Rattle.snmp_wire.specs.Message.{Message, VarBind};
 ghost use Rattle.snmp_agent.specs.table.Table.{MibView, IsMibView, IsRow, IsGet};
 ghost use Rattle.snmp_agent.specs.table.Listing.{variables};
-ghost use Rattle.snmp_walk.specs.{declared.mode.Mode.Mode, declared.rows.Step.Step, Judged.Means};
+ghost use Rattle.snmp_walk.specs.{declared.mode.Mode.Mode, declared.rows.Step.Step};
+ghost use Rattle.snmp_walk.specs.{StepRules.Means};
 ghost use Rattle.snmp_walk.specs.{Walk.rows_below, Walk.walk_of, Walk.rest_of, private.Codec.Codec};
 ghost use Rattle.snmp_walk.specs.{Link.Agents, Link.OneOf, Ordered.AreOrdered, Ordered.IsResumable};
 ghost use Rattle.snmp_walk.specs.Loose.{agent_at, agents_at, last_sent, ways_left};
 ghost use Rattle.snmp_walk.specs.{Request.request_of, Room.HasRoomForEach, Room.IsShort};
-ghost use Rattle.snmp_walk.specs.{Appends.Appends, Ran.AreOfLowerIds, Sink.Took};
+ghost use Rattle.snmp_walk.specs.{Appends.Appends, RunResult.AreOfLowerIds, Sink.Took};
 ghost use Rattle.snmp_walk.specs.declared.end.WalkEnd.{WalkEnd};
-ghost use Rattle.snmp_walk.specs.{Walker.IsWalker, Walker.Walker};
+ghost use Rattle.snmp_walk.specs.{WalkState.IsWalkState, WalkState.WalkState};
 ghost use Rattle.snmp_walk.specs.Network.{AreReplies, AreRepliesOrErrors, AreServed, Happening};
 ghost use Rattle.snmp_walk.specs.Network.{IsFaithful, of_walk};
 ghost use Rattle.snmp_walk.specs.{declared.loose.LooseLink.LooseLink, Tries.Happens, Tries.InTurn};
@@ -22,7 +23,7 @@ use crate::{Link, LooseLink, Way};
 use snmp_agent::{Endpoint, one_answer, shortest_reply};
 use snmp_oid::order;
 use snmp_wire::{
-    element_sizes, encoding_is_strict, message_sizes, one_spelling, pieces, spelt_is_of_type,
+    element_sizes, encoding_is_of_type, encoding_is_strict, message_sizes, one_spelling, pieces,
     strict_is_read,
 };
 
@@ -53,13 +54,13 @@ pub fn instances_below()
 /// A law: the call does nothing, and its caller may use what it ensures.
 pub fn rest_of_a_walk()
     ensures rest { (view : MibView) (mode : Mode) (root : List ℕ) (got p : VarBind)
-        (front more : List VarBind) → IsMibView view → IsGet view (wire root) got
-        → walk_of mode root got (variables view) ≡ front ++ p ∷ more
+        (prefix more : List VarBind) → IsMibView view → IsGet view (wire root) got
+        → walk_of mode root got (variables view) ≡ prefix ++ p ∷ more
         → more ≡ rest_of root p.name (variables view) }
     // This also holds of a walk that is resumed.
     ensures rest_again { (view : MibView) (root o : List ℕ) (p : VarBind)
-        (front more : List VarBind) → IsMibView view
-        → rest_of root o (variables view) ≡ front ++ p ∷ more
+        (prefix more : List VarBind) → IsMibView view
+        → rest_of root o (variables view) ≡ prefix ++ p ∷ more
         → more ≡ rest_of root p.name (variables view) }
     // After each of its names a walk can be resumed.
     ensures resumable { (view : MibView) (mode : Mode) (root : List ℕ) (got p : VarBind)
@@ -72,7 +73,7 @@ pub fn rest_of_a_walk()
 ///
 /// A law: the call does nothing, and its caller may use what it ensures.
 pub fn short_rows_have_room()
-    ensures { (agents : Agents) (view : MibView) (first : Walker)
+    ensures { (agents : Agents) (view : MibView) (first : WalkState)
         → first.community ≡ agents.community → length agents.community ≤ 30
         → 1472 ≤ agents.max_size → length first.asked ≤ 128 → IsMibView view
         → ((p : VarBind) → IsRow view p → IsShort p.value) → HasRoomForEach agents view first }
@@ -82,8 +83,8 @@ pub fn short_rows_have_room()
 ///
 /// A law: the call does nothing, and its caller may use what it ensures.
 pub fn requests_are_short()
-    ensures short { (w : Walker) → IsWalker w → length (canon (request_of w)) ≤ 1000 }
-    ensures read { (w : Walker) → IsWalker w → Spells (request_of w) (canon (request_of w)) }
+    ensures short { (w : WalkState) → IsWalkState w → length (canon (request_of w)) ≤ 1000 }
+    ensures read { (w : WalkState) → IsWalkState w → Spells (request_of w) (canon (request_of w)) }
 {
     codec();
 }
@@ -103,8 +104,8 @@ pub fn parts_of_lists()
         → OneOf ys q → Precedes p.name q.name }
 {}
 
-/// A sink that appends each binding to a list holds those of a walk that it didn't refuse, after the
-/// ones that it held before.
+/// A sink that appends each binding to a list holds those of a walk that it didn't refuse, after
+/// the ones that it held before.
 ///
 /// A law: the call does nothing, and its caller may use what it ensures.
 pub fn appended_bindings()
@@ -120,13 +121,13 @@ pub fn lower_ids()
         → AreOfLowerIds sent higher }
 {}
 
-/// By the rules of `specs/Judged.antt`, each message means exactly one thing to a walk.
+/// By the rules of `specs/StepRules.antt`, each message means exactly one thing to a walk.
 ///
 /// A law: the call does nothing, and its caller may use what it ensures.
 pub fn messages_mean()
-    ensures found { (w : Walker) (m : Message) → (given : Step) × (new : Walker)
+    ensures found { (w : WalkState) (m : Message) → (given : Step) × (new : WalkState)
         × Means w m given new }
-    ensures only { (w : Walker) (m : Message) (given other : Step) (new after : Walker)
+    ensures only { (w : WalkState) (m : Message) (given other : Step) (new after : WalkState)
         → Means w m given new → Means w m other after → (given ≡ other) × (new ≡ after) }
 {
     order();
@@ -164,7 +165,7 @@ pub fn loose_replies()
         → AreReplies (agents_at link) events }
 {
     codec();
-    spelt_is_of_type();
+    encoding_is_of_type();
 }
 
 /// The laws of the crates below about names, messages and their encodings, tables and replies.

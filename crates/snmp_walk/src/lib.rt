@@ -40,7 +40,7 @@ mod rows;
 mod run;
 mod sink;
 mod tries;
-mod walker;
+mod walk_core;
 
 pub use end::{LinkFault, SinkFault, StartError, WalkEnd};
 pub use get::run_get;
@@ -50,7 +50,7 @@ pub use mode::{Method, Mode, Phase};
 pub use rows::{Rows, Step};
 pub use run::run_walk;
 pub use sink::Sink;
-pub use walker::WalkCore;
+pub use walk_core::WalkCore;
 
 // Laws, which only proofs call, and walks over networks and agents, which only tests run.
 pub use laws::{

@@ -16,7 +16,7 @@ pub trait Link {
     ghost use Rattle.snmp_walk.specs.Traffic.{Traffic, Receives, received};
 
     /// `keeps link`: the traffic of `link` lists every datagram sent over it.
-    ghost keeps: { Self → Type 0 };
+    ghost records: { Self → Type 0 };
 
     /// `honest link`: all that `link` delivers are replies of its agents, as its traffic says.
     ghost honest: { Self → Type 0 };
@@ -34,9 +34,9 @@ pub trait Link {
     /// succeed, and so does every receive into a buffer of at least 65507 octets.
     ghost ready: { Self → ℕ → ℕ → Type 0 };
 
-    /// `brings old octets new`: a receive in state `old` can return `octets` and leave the link in
-    /// state `new`.
-    ghost brings: { Self → List ℕ → Self → Type 0 };
+    /// `delivers old octets new`: a receive in state `old` can return `octets` and leave the link
+    /// in state `new`.
+    ghost delivers: { Self → List ℕ → Self → Type 0 };
 
     /// `sends old octets new`: a send of `octets` in state `old` can succeed and leave the link in
     /// state `new`.
@@ -63,7 +63,7 @@ pub trait Link {
         ensures sends { OnOk result (sends self.old datagram.now self.new) }
         ensures send_fails { OnErr result (send_fails self.old datagram.now self.new) }
         ensures unchanged { OnErr result (traffic self.new ≡ traffic self.old) }
-        ensures moves { Moves keeps honest agents traffic fault_count ready self.old
+        ensures moves { Moves records honest agents traffic fault_count ready self.old
             (datagram.now ∷ []) 0 (IsErr result) self.new };
 
     /// Receives a datagram into the start of `buffer` and returns its length. Returns `None` if
@@ -71,8 +71,8 @@ pub trait Link {
     /// were.
     fn receive(&mut self, buffer: &mut [u8]) -> Result<Option<usize>, LinkFault>
         ensures length { IfOk result (λ got. IfSome got (λ n. n ≤ length buffer.old)) }
-        ensures brings { IfOk result (λ got. IfSome got
-            (λ n. brings self.old (take n buffer.new) self.new)) }
+        ensures delivers { IfOk result (λ got. IfSome got
+            (λ n. delivers self.old (take n buffer.new) self.new)) }
         ensures silent { IfOk result (λ got. IfNone got (is_silent self.old self.new)) }
         ensures receive_fails { OnErr result (receive_fails self.old self.new) }
         ensures reply { honest self.old → 65507 ≤ length buffer.old
@@ -80,7 +80,7 @@ pub trait Link {
             (traffic self.old).ahead (received got buffer.new) (traffic self.new).ahead) }
         ensures short { refuses_short self.old → length buffer.old < 65507 → IsErr result }
         ensures unchanged { OnErr result (traffic self.new ≡ traffic self.old) }
-        ensures moves { Moves keeps honest agents traffic fault_count
+        ensures moves { Moves records honest agents traffic fault_count
             (λ link sends octets. (65507 ≤ length buffer.old) × ready link sends octets) self.old []
             1 (IsErr result) self.new };
 
@@ -89,7 +89,7 @@ pub trait Link {
         ensures { result ≡ fault_count self.now };
 
     /// The traffic of an honest link lists every datagram sent over it.
-    ghost keeping: { (link : Self) → honest link → keeps link };
+    ghost recording: { (link : Self) → honest link → records link };
 
     /// The agents of an honest link serve MIB views, and their messages fit into datagrams.
     ghost lawful: { (link : Self) → honest link → AreLawful (agents link) };

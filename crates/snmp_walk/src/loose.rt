@@ -9,8 +9,8 @@ ghost use Rattle.snmp_wire.specs.declared.kind.Kind.TheVariants as kind;
 ghost use Rattle.snmp_wire.specs.{ber.Length.IsElement, Spelling.sequence_tag, Message.var_bind};
 ghost use Rattle.snmp_wire.specs.Canon.{IsEncodable, canon, canon_bindings};
 ghost use Rattle.snmp_agent.specs.Reply.{Fits, IsReply, agent_of};
-ghost use Rattle.snmp_walk.specs.Facts.{GivenFacts, IsFresh};
-ghost use Rattle.snmp_walk.specs.Ran.{IsRun, IsWalkedOver, but_for_errors};
+ghost use Rattle.snmp_walk.specs.Facts.{ReplyFacts, IsFresh};
+ghost use Rattle.snmp_walk.specs.RunResult.{IsRun, IsWalkedOver, but_for_errors};
 ghost use Rattle.snmp_walk.specs.Loose.{AsksForOne, IsLengthened, Replaces, agents_at, failed};
 ghost use Rattle.snmp_walk.specs.Loose.{last_sent, ways_left, with_repetitions};
 ghost use Rattle.snmp_walk.specs.Link.{OneOf};
@@ -48,7 +48,8 @@ pub enum Way {
 
 impl Way {
     ghost use Rattle.std.specs.Prelude.{◌≡◌, ◌≤◌, length, take, IfSome, IfNone};
-    ghost use Rattle.snmp_agent.specs.{Reply.IsDropped, Reply.agent_of, declared.config.Why.Why};
+    ghost use Rattle.snmp_agent.specs.{Reply.IsDropped, Reply.agent_of};
+    ghost use Rattle.snmp_agent.specs.{declared.config.DropReason.DropReason};
     ghost use Rattle.snmp_walk.specs.Loose.{IsSentIn};
 
     /// Writes what the agent of `table` sends in reply to `datagram` to the start of `out`, and
@@ -62,7 +63,7 @@ impl Way {
     ) -> Option<usize>
         ensures sent { IfSome result (λ n. IsSentIn (agent_of table.now config.now) self
             datagram.now (take n out.new)) }
-        ensures dropped { IfNone result ((why : Why)
+        ensures dropped { IfNone result ((why : DropReason)
             × IsDropped (agent_of table.now config.now) datagram.now why) }
         ensures length { IfSome result (λ n. n ≤ 65507) }
         ensures room { length out.new ≡ 65507 }
@@ -219,7 +220,7 @@ fn repeat_less(
 
 /// Writes `request`, whose one binding is `asked`, with this number of repetitions to the start of
 /// `out`, and returns its length.
-#[tactic(auto, using(std::proofs::lemmas::Grind::common_steps, crate::proofs::RequestLemmas::message_bound))]
+#[tactic(auto, using(std::proofs::lemmas::Grind::common_steps, crate::proofs::RequestParts::message_bound))]
 fn put_request(
     request: &MessageRef<'_>,
     asked: &Binding<'_>,
@@ -355,7 +356,7 @@ impl<'a> Link for LooseLink<'a> {
     ghost use Rattle.snmp_walk.specs.Loose.{IsDroppedBy, IsSentBack, IsSentOver, IsUnchanged};
     ghost use Rattle.snmp_walk.specs.Loose.{agents_at};
 
-    ghost keeps = { λ _. ⊥ };
+    ghost records = { λ _. ⊥ };
 
     ghost honest = { λ _. ⊥ };
 
@@ -367,7 +368,7 @@ impl<'a> Link for LooseLink<'a> {
 
     ghost ready = { λ _ _ octets. octets ≤ 1024 };
 
-    ghost brings = { IsSentBack };
+    ghost delivers = { IsSentBack };
 
     ghost sends = { IsSentOver };
 
@@ -379,7 +380,7 @@ impl<'a> Link for LooseLink<'a> {
 
     ghost refuses_short = { λ _. Unit {0} };
 
-    ghost keeping = { λ _ h. h };
+    ghost recording = { λ _ h. h };
 
     ghost lawful = { λ _ h. absurd h };
 
@@ -427,10 +428,10 @@ pub fn walk_loose<S: Sink>(
     ensures { IsRun S.takes sink.old result sink.new (λ rows refused.
         IsWalkedOver ⟦<LooseLink<'static> as Link>⟧ link.old link.new (retries + 1) core rows
         refused result
-        × GivenFacts (agents_at link.old) (λ w. Unit {0}) core rows refused
+        × ReplyFacts (agents_at link.old) (λ w. Unit {0}) core rows refused
         (but_for_errors result)
         × ((OneOf (ways_left link.old) Way.GenErr → ⊥)
-        → GivenFacts (agents_at link.old) (λ w. Unit {0}) core rows refused result)) }
+        → ReplyFacts (agents_at link.old) (λ w. Unit {0}) core rows refused result)) }
 {
     loose_replies();
     link.table.is_mib_view();

@@ -26,7 +26,7 @@ pub struct MemoryLink<'a> {
     fault_count: u64,
     hint: Hint,
     ghost is_served: { 0 < length tables.now },
-    ghost are_tables: { All (λ place. place < length tables.now) uses.now },
+    ghost are_tables: { All (λ index. index < length tables.now) uses.now },
 }
 
 impl<'a> Drop for MemoryLink<'a> {
@@ -86,7 +86,7 @@ impl<'a> MemoryLink<'a> {
         deliveries: &'a [Option<usize>],
     ) -> MemoryLink<'a>
         requires served { 0 < length tables.now }
-        requires places { All (λ place. place < length tables.now) uses.now }
+        requires free_spans { All (λ index. index < length tables.now) uses.now }
         ensures agents { agents_of result ≡ agents_over tables.now config.entry }
         ensures uses { result.uses.now ≡ uses.now }
         ensures traffic { traffic_of result ≡ record { sent = []; ahead = deliveries.now } }
@@ -146,11 +146,11 @@ impl<'a> MemoryLink<'a> {
     /// Returns the table from which the datagram with this number, counted from 1, is answered.
     fn table_for(&self, number: usize) -> &'a Table
         ensures one { OneOf self.now.tables.now result.now }
-        ensures place { 0 < number
+        ensures index { 0 < number
             → IsTableFor self.now.tables.now self.now.uses.now number result.now }
     {
         match self.uses.get(number.saturating_sub(1)) {
-            Some(place) => &self.tables[*place],
+            Some(index) => &self.tables[*index],
             None => &self.tables[self.tables.len() - 1],
         }
     }
@@ -186,11 +186,11 @@ impl<'a> Link for MemoryLink<'a> {
     ghost use Rattle.std.specs.Prelude.{◌≡◌, ◌<◌, ◌≤◌, [], ◌∷◌, length, take};
     ghost use Rattle.std.specs.Prelude.{OnOk, OnErr, IsErr, IfOk, IfSome, IfNone};
     ghost use Rattle.snmp_walk.specs.Memory.{IsHonest, IsReadyFor, agents_of, traffic_of};
-    ghost use Rattle.snmp_walk.specs.Memory.{IsSentOver, IsBroughtBy, IsSilentBy, IsAfterFault};
+    ghost use Rattle.snmp_walk.specs.Memory.{IsSentOver, IsDeliveredBy, IsSilentBy, IsAfterFault};
     ghost use Rattle.snmp_walk.specs.Moves.{Moves};
     ghost use Rattle.snmp_walk.specs.Traffic.{Receives, received};
 
-    ghost keeps = { λ _. Unit {0} };
+    ghost records = { λ _. Unit {0} };
 
     ghost honest = { IsHonest };
 
@@ -202,7 +202,7 @@ impl<'a> Link for MemoryLink<'a> {
 
     ghost ready = { IsReadyFor };
 
-    ghost brings = { IsBroughtBy };
+    ghost delivers = { IsDeliveredBy };
 
     ghost sends = { IsSentOver };
 
@@ -214,7 +214,7 @@ impl<'a> Link for MemoryLink<'a> {
 
     ghost refuses_short = { λ _. Unit {0} };
 
-    ghost keeping = { λ _ _. tt };
+    ghost recording = { λ _ _. tt };
 
     ghost lawful = { λ link h. h.lawful };
 
@@ -237,8 +237,8 @@ impl<'a> Link for MemoryLink<'a> {
 
     fn receive(&mut self, buffer: &mut [u8]) -> Result<Option<usize>, LinkFault>
         ensures length { IfOk result (λ got. IfSome got (λ n. n ≤ length buffer.old)) }
-        ensures brings { IfOk result (λ got. IfSome got
-            (λ n. IsBroughtBy self.old (take n buffer.new) self.new)) }
+        ensures delivers { IfOk result (λ got. IfSome got
+            (λ n. IsDeliveredBy self.old (take n buffer.new) self.new)) }
         ensures silent { IfOk result (λ got. IfNone got (IsSilentBy self.old self.new)) }
         ensures receive_fails { OnErr result (IsAfterFault self.old self.new) }
         ensures reply { IsHonest self.old → 65507 ≤ length buffer.old

@@ -1,7 +1,7 @@
 //! A network in memory, which loses, repeats and delays datagrams as a list says.
 ghost use Rattle.std.specs.Prelude.{◌≡◌, ◌≤◌, ◌+◌, ◌⊎◌, [], ℕ, List, length, take, Some, None};
 ghost use Rattle.std.specs.Prelude.{◌<◌, IfNone, IfOk, IfSome, OnOk, OnErr};
-ghost use Rattle.snmp_io.specs.Count.{HasRisen};
+ghost use Rattle.snmp_io.specs.Count.{HasIncreased};
 
 use crate::LinkFault;
 use crate::arena::Arena;
@@ -44,7 +44,7 @@ pub struct MemoryNetwork<'a> {
 
 impl<'a> MemoryNetwork<'a> {
     ghost use Rattle.std.specs.Prelude.{◌≡◌, ◌≤◌, [], length, take, Some, None, IfSome};
-    ghost use Rattle.snmp_io.specs.Count.{HasRisen};
+    ghost use Rattle.snmp_io.specs.Count.{HasIncreased};
     ghost use Rattle.snmp_walk.specs.MemoryNetwork.{IsNew, IsNextReply, IsNextRequest, ahead_of};
 
     /// Returns a network over which nothing was sent.
@@ -115,7 +115,7 @@ impl<'a> MemoryNetwork<'a> {
 
     /// Raises the fault count.
     fn count_fault(&mut self)
-        ensures counted { HasRisen self.old.faults self.new.faults }
+        ensures counted { HasIncreased self.old.faults self.new.faults }
         ensures ahead { ahead_of self.new ≡ ahead_of self.old }
         ensures requests { self.new.requests ≡ self.old.requests }
         ensures replies { self.new.replies ≡ self.old.replies }
@@ -143,7 +143,7 @@ fn copy_to(datagram: &[u8], buffer: &mut [u8]) -> Option<usize>
 
 impl<'a> Endpoint for MemoryNetwork<'a> {
     ghost use Rattle.std.specs.Prelude.{◌≡◌, ◌≤◌, length, IfOk, IfSome, OnErr, OnOk};
-    ghost use Rattle.snmp_io.specs.Count.{HasRisen};
+    ghost use Rattle.snmp_io.specs.Count.{HasIncreased};
     ghost use Rattle.snmp_agent.specs.Event.{event_of_receive, event_of_reply};
     ghost use Rattle.snmp_walk.specs.Network.{at_agents};
     ghost use Rattle.snmp_walk.specs.MemoryNetwork.{Carries};
@@ -192,14 +192,14 @@ impl<'a> Endpoint for MemoryNetwork<'a> {
 impl<'a> Network for MemoryNetwork<'a> {
     ghost use Rattle.std.specs.Prelude.{◌≡◌, ◌+◌, ◌≤◌, [], List, length, None, IfOk, IfSome};
     ghost use Rattle.std.specs.Prelude.{OnErr, OnOk};
-    ghost use Rattle.snmp_io.specs.Count.{HasRisen};
+    ghost use Rattle.snmp_io.specs.Count.{HasIncreased};
     ghost use Rattle.snmp_agent.specs.Event.{InTurn};
     ghost use Rattle.snmp_walk.specs.Network.{Happening, at_walk, event_of_got, event_of_send};
     ghost use Rattle.snmp_walk.specs.MemoryNetwork.{Carries, IsNew, IsPrompt, ahead_of, replies_of};
     ghost use Rattle.snmp_walk.specs.MemoryNetwork.{leading_requests, requests_of};
     ghost use Rattle.snmp_walk.specs.Traffic.{datagram_at};
-    ghost use Rattle.snmp_walk.specs.CarriesLaws.{faithful_in_memory, prompt_in_memory};
-    ghost use Rattle.snmp_walk.specs.CarriesLaws.{still_prompt_in_memory};
+    ghost use Rattle.snmp_walk.specs.MemoryNetworkIsFaithful.{faithful_in_memory, prompt_in_memory};
+    ghost use Rattle.snmp_walk.specs.MemoryNetworkIsFaithful.{still_prompt_in_memory};
 
     ghost carries = { Carries };
 
@@ -253,7 +253,7 @@ impl<'a> Network for MemoryNetwork<'a> {
         ensures length { IfOk result (λ got. IfSome got (λ n. n ≤ length buffer.old)) }
         ensures carries { Carries self.old (at_walk (event_of_got result buffer.new)) self.new }
         ensures count { OnOk result (self.new.faults ≡ self.old.faults) }
-        ensures fault { OnErr result (HasRisen self.old.faults self.new.faults) }
+        ensures fault { OnErr result (HasIncreased self.old.faults self.new.faults) }
         ensures no_room { OnErr result (((ahead_of self.old ≡ []) × (self.old.answer ≡ None))
             ⊎ ((number : ℕ) × (d : List ℕ)
             × (datagram_at (replies_of self.old) number ≡ Some d)

@@ -1,8 +1,8 @@
 //! A walk and the agent that replies to it, at the two ends of one network.
 ghost use Rattle.std.specs.Prelude.{◌≡◌, ◌≤◌, ◌+◌, length, take, IsErr};
 ghost use Rattle.std.specs.Prelude.{IfOk, IfSome, IfNone, OnOk, OnErr};
-ghost use Rattle.snmp_io.specs.Count.{HasRisen};
-ghost use Rattle.snmp_walk.specs.{Facts.IsFresh, Link.AreLawful, Ran.IsRun};
+ghost use Rattle.snmp_io.specs.Count.{HasIncreased};
+ghost use Rattle.snmp_walk.specs.{Facts.IsFresh, Link.AreLawful, RunResult.IsRun};
 ghost use Rattle.snmp_walk.specs.Served.{IsWalkServed, agents_at};
 
 use crate::run::run_walk;
@@ -16,7 +16,7 @@ use snmp_agent::{Config, Endpoint, Table, serve_at};
 pub trait Network: Endpoint {
     ghost use Rattle.std.specs.Prelude.{◌≡◌, ◌≤◌, ◌++◌, ◌∷◌, [], ℕ, List, map, length};
     ghost use Rattle.std.specs.Prelude.{IfOk, IfSome, OnErr, OnOk};
-    ghost use Rattle.snmp_io.specs.Count.{HasRisen};
+    ghost use Rattle.snmp_io.specs.Count.{HasIncreased};
     ghost use Rattle.snmp_agent.specs.Event.{Event, InTurn};
     ghost use Rattle.snmp_agent.specs.{Reply.Agent, Serving.AreTurns};
     ghost use Rattle.snmp_agent.specs.declared.server.Served.{Served};
@@ -54,7 +54,7 @@ pub trait Network: Endpoint {
         ensures carries { carries self.old (at_walk (event_of_send result datagram.now)) self.new }
         ensures count { OnOk result (Self.fault_count self.new ≡ Self.fault_count self.old) }
         ensures fault { OnErr result
-            (HasRisen (Self.fault_count self.old) (Self.fault_count self.new)) };
+            (HasIncreased (Self.fault_count self.old) (Self.fault_count self.new)) };
 
     /// Receives a datagram for the walk into the start of `buffer` and returns its length. Returns
     /// `None` if none arrives in time. Fails if the datagram is longer than the buffer. An error
@@ -64,7 +64,7 @@ pub trait Network: Endpoint {
         ensures carries { carries self.old (at_walk (event_of_got result buffer.new)) self.new }
         ensures count { OnOk result (Self.fault_count self.new ≡ Self.fault_count self.old) }
         ensures fault { OnErr result
-            (HasRisen (Self.fault_count self.old) (Self.fault_count self.new)) };
+            (HasIncreased (Self.fault_count self.old) (Self.fault_count self.new)) };
 
     /// What happens at the agent's endpoint happens on the network.
     ghost at_end: { (old new : Self) (e : Event Self.Peer) → Self.happens old e new
@@ -132,7 +132,7 @@ impl<'a, N: Network> Link for NetworkLink<'a, N> {
     ghost use Rattle.snmp_walk.specs.Served.{IsServedBy, SameAgent, agents_at};
     ghost use Rattle.snmp_walk.specs.Traffic.{Traffic};
 
-    ghost keeps = { λ _. Unit {0} };
+    ghost records = { λ _. Unit {0} };
 
     ghost honest = { λ link. N.is_prompt link.network × AreLawful (agents_at link) };
 
@@ -146,7 +146,7 @@ impl<'a, N: Network> Link for NetworkLink<'a, N> {
 
     ghost ready = { λ _ _ _. ⊥ };
 
-    ghost brings = { λ old d new. IsServedBy N.carries N.turn_count old (came tt d) new };
+    ghost delivers = { λ old d new. IsServedBy N.carries N.turn_count old (came tt d) new };
 
     ghost sends = { λ old d new. SameAgent old new
         × N.carries old.network (at_walk (sent tt d)) new.network };
@@ -158,7 +158,7 @@ impl<'a, N: Network> Link for NetworkLink<'a, N> {
 
     ghost receive_fails = { λ old new. IsServedBy N.carries N.turn_count old receive_failed new };
 
-    ghost keeping = { λ _ _. tt };
+    ghost recording = { λ _ _. tt };
 
     ghost lawful = { λ link h. h.1 };
 

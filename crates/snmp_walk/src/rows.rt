@@ -26,7 +26,7 @@ impl<'a> Model for Rows<'a> {
 
 impl<'a> Rows<'a> {
     /// Returns the first `left` bindings of `bindings`.
-    pub(crate) fn front(bindings: Bindings<'a>, left: usize) -> Rows<'a>
+    pub(crate) fn read_rows(bindings: Bindings<'a>, left: usize) -> Rows<'a>
         requires { left ≤ length bindings }
         ensures { result ≡ take left bindings.entry }
     {

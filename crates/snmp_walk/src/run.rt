@@ -1,6 +1,6 @@
 //! Runs a walk over a link, from its first request to its end.
 ghost use Rattle.std.specs.Prelude.{◌≡◌, ◌+◌};
-ghost use Rattle.snmp_walk.specs.{Facts.IsFresh, Ran.IsRun, Ran.IsWalkedOver};
+ghost use Rattle.snmp_walk.specs.{Facts.IsFresh, RunResult.IsRun, RunResult.IsWalkedOver};
 
 use crate::laws::codec;
 use crate::tries::{Course, exchange};
@@ -12,7 +12,7 @@ use snmp_wire::MAX_DATAGRAM;
 ///
 /// The clause `ran` says that the sink was passed some bindings, and perhaps refused one more
 /// (`IsRun`). What is known of these bindings and of the end are the fields of `IsWalkedOver`
-/// (`specs/Ran.antt`). Over any link:
+/// (`specs/RunResult.antt`). Over any link:
 ///
 /// - `part`: each name passed is the root or below it.
 /// - `ends.rising`: the names increase, so that each is passed once.

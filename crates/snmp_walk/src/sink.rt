@@ -7,7 +7,7 @@ use snmp_wire::Binding;
 pub trait Sink {
     ghost use Rattle.std.specs.Prelude.{◌≡◌, ◌++◌, ◌∷◌, List, Result, OnOk, IfErr, Err};
     ghost use Rattle.snmp_wire.specs.Message.{VarBind, var_bind};
-    ghost use Rattle.snmp_walk.specs.Sink.{Given};
+    ghost use Rattle.snmp_walk.specs.Sink.{TakesAll};
     ghost use Rattle.snmp_walk.specs.declared.end.SinkFault.{SinkFault};
 
     /// `takes old binding result new`: in state `old`, [`Sink::row`] can return `result` for
@@ -22,10 +22,10 @@ pub trait Sink {
     /// whose calls are costly, as writes are, can have its own `rows` that works once for all of
     /// them.
     fn rows(&mut self, mut rows: Rows<'_>) -> Result<(), SinkFault>
-        ensures ok { OnOk result (Given takes self.old rows.entry self.new) }
-        ensures err { IfErr result (λ fault. (front : List VarBind) × (p : VarBind)
-            × (back : List VarBind) × (rows.entry ≡ front ++ p ∷ back) × (between : Self)
-            × Given takes self.old front between × takes between p (Err fault) self.new) }
+        ensures ok { OnOk result (TakesAll takes self.old rows.entry self.new) }
+        ensures err { IfErr result (λ fault. (prefix : List VarBind) × (p : VarBind)
+            × (back : List VarBind) × (rows.entry ≡ prefix ++ p ∷ back) × (between : Self)
+            × TakesAll takes self.old prefix between × takes between p (Err fault) self.new) }
     {
         let mut binding = Binding::empty();
         'rows: while rows.read_next(&mut binding) {

@@ -118,7 +118,8 @@ fn a_delayed_request_returns_no_row_twice(rt: HostRuntime) {
         Delivery::Nothing,
         Delivery::Request(2),
         Delivery::Reply(1),
-        // Then the delayed one arrives before the next request, and so does its reply.
+        // Then the delayed try arrives before the next request, and its reply before the next
+        // reply.
         Delivery::Request(1),
         Delivery::Request(3),
         Delivery::Reply(2),

@@ -2,7 +2,7 @@
 ghost use Rattle.std.specs.Prelude.{◌≡◌, All, true};
 ghost use Rattle.snmp_oid.specs.Identifier.{IsWire, wire};
 ghost use Rattle.snmp_walk.specs.Facts.{IsFresh};
-ghost use Rattle.snmp_walk.specs.Walker.{IsMethod};
+ghost use Rattle.snmp_walk.specs.WalkState.{IsMethod};
 
 use snmp_agent::{Config, Table};
 use snmp_walk::{Link, Method, Mode, Sink, WalkCore, WalkEnd, run_get, run_walk};

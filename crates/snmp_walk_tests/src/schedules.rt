@@ -180,7 +180,8 @@ fn replied_count(
     requests
 }
 
-/// Returns the counts of a run of `requests` requests, by the definition of the deliveries.
+/// Returns how many of `requests` requests have their replies, and how many datagrams are sent, if
+/// the deliveries are those of `drawn`.
 fn counts_of(rt: &impl Abort, alloc: Global, requests: usize, drawn: &Drawn) -> RunCounts {
     let mut sent = Vec::new(alloc);
     let retries = drawn.asked.retries;

@@ -107,7 +107,7 @@ impl<'a> Counted<'a> {
 impl<'a> Link for Counted<'a> {
     ghost use Rattle.snmp_walk.specs.Memory.{agents_of, traffic_of};
 
-    ghost keeps = { λ _. ⊥ };
+    ghost records = { λ _. ⊥ };
 
     ghost honest = { λ _. ⊥ };
 
@@ -119,9 +119,9 @@ impl<'a> Link for Counted<'a> {
 
     ghost ready = { λ _ _ _. ⊥ };
 
-    ghost brings = { λ _ _ _. Unit {0} };
+    ghost delivers = { λ _ _ _. Unit {0} };
 
-    ghost keeping = { λ _ h. h };
+    ghost recording = { λ _ h. h };
 
     ghost lawful = { λ _ h. absurd h };
 

@@ -9,12 +9,12 @@ use Rattle.std.proofs.lemmas.List.Elements.{All-from_recursion, recursion_from_A
 use Rattle.std.specs.List.{AllByRecursion}
 use Rattle.snmp_wire.specs.{ber.Canon.digits, ber.Number.AreOctets, ber.Number.number_of}
 
--- the value after one more digit at the end
+-- one more digit at the end makes the value `base` times as large, plus the digit
 pub number_of-push : (base : ℕ) (xs : List ℕ) (digit : ℕ) → number_of base (xs ++ digit ∷ []) ≡ number_of base xs * base + digit
 number_of-push base [] digit = rw pow-zero (omega arith)
 number_of-push base (first ∷ rest) digit = grind (arith, common_steps, number_of-push base rest digit, length_push, add-one, pow-suc)
 
--- the step of a loop over the digits
+-- the value of `i + 1` digits is `base` times that of the first `i`, plus the digit at `i`
 pub number_of-more : (base : ℕ) (xs : List ℕ) (i : ℕ) → i < length xs
     → number_of base (take (i + 1) xs) ≡ number_of base (take i xs) * base + get_or xs i 0
 number_of-more base xs i lt = ap (number_of base) (take_more xs i 0 lt) ∙ number_of-push base (take i xs) (get_or xs i 0)
@@ -91,9 +91,9 @@ pub both_octets : (xs ys : List ℕ) → Octets xs → Octets ys → Octets (xs 
 both_octets [] ys h k = k
 both_octets (x ∷ xs) ys h k = (h.0, both_octets xs ys h.1 k)
 
-pub front_octets : (xs ys : List ℕ) → Octets (xs ++ ys) → Octets xs
-front_octets [] ys h = tt
-front_octets (x ∷ xs) ys h = (h.0, front_octets xs ys h.1)
+pub prefix_octets : (xs ys : List ℕ) → Octets (xs ++ ys) → Octets xs
+prefix_octets [] ys h = tt
+prefix_octets (x ∷ xs) ys h = (h.0, prefix_octets xs ys h.1)
 
 pub back_octets : (xs ys : List ℕ) → Octets (xs ++ ys) → Octets ys
 back_octets [] ys h = h

@@ -17,7 +17,7 @@ canon_length_short n h = rw (lt-ltb n 128 h) refl
 pub header_short : (n : ℕ) → n < 128 → 1 + length (canon_length n) ≡ 2
 header_short n h = ap (λ octets. 1 + length octets) (canon_length_short n h)
 
--- the length of a header: a tag and a length
+-- the length of a header is that of its tag, which is one octet, and of its length field
 pub length-canon_header : (tag size : ℕ)
     → length (canon_header tag size) ≡ 1 + length (canon_length size)
 unfolding canon_header
@@ -25,7 +25,7 @@ length-canon_header tag size = grind (arith, common_steps)
 
 -- ---- elements
 
--- the length of an element: a tag, a length and the content
+-- the length of an element is that of its tag, which is one octet, of its length field and of its content
 pub length-canon_element : (tag : ℕ) (content : List ℕ)
     → length (canon_element tag content)
     ≡ 1 + length (canon_length (length content)) + length content
@@ -61,12 +61,12 @@ writes_element {old} {mid} {new} {content} {start} {middle} {end} tag w v =
 
 -- ---- values
 
--- the content of an INTEGER
+-- the content of an INTEGER is the number in two's complement
 pub content_number : (z : ℤ) → canon_content (integer_value z) ≡ canon_number z
 unfolding canon_content
 content_number z = refl
 
--- the content of an OCTET STRING
+-- the content of an OCTET STRING is its octets
 pub content_text : (text : List ℕ) → canon_content (octet_string text) ≡ text
 unfolding canon_content
 content_text text = refl

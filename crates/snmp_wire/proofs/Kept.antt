@@ -4,11 +4,11 @@ use Rattle.std.proofs.Common.{arith, ◌≡◌, ℕ, List, [], ◌∷◌, ◌++�
 use Rattle.std.proofs.{lemmas.Grind.common_steps, lemmas.Bool.lt-ltb, lemmas.Bool.ltb-false, lemmas.List.append-nil, lemmas.List.take-append-drop}
 use Rattle.std.specs.Result.{result_unwrap_or}
 use Rattle.snmp_wire.specs.{declared.ber.error.BerError.BerError, Encoded.IsKept, Encoded.binding_in, Range.IsBindingInRange, Range.IsInRange}
-use Rattle.snmp_wire.specs.{Reading.bindings_in, Reading.bindings_of, Spelling.SpellsBinding, ber.Number.lenient}
+use Rattle.snmp_wire.specs.{Decode.bindings_in, Decode.bindings_of, Spelling.SpellsBinding, ber.Number.lenient}
 use Rattle.snmp_wire.specs.Canon.{IsEncodable, IsEncodableValue, canon_binding}
 use Rattle.snmp_wire.specs.Message.{VarBind, Datum, octet_string, null_value, object_id, opaque_octets}
-use Rattle.snmp_wire.proofs.{LengthLaws.inner_again, IdentifierReading.identifier_again, IdentifierReading.four_then, MessageElements.spells_binding}
-use Rattle.snmp_wire.specs.ber.Reading.{content_at, identifier_of, inner_at, length_at}
+use Rattle.snmp_wire.proofs.{LengthLaws.inner_again, ReadIdentifiers.identifier_again, ReadIdentifiers.four_then, MessageElements.spells_binding}
+use Rattle.snmp_wire.specs.ber.Decode.{content_at, identifier_of, inner_at, length_at}
 use Rattle.snmp_wire.proofs.ReadingLaws.{Gives, a_value, done, is_ok_at, ok_is, passed, refused}
 use Rattle.snmp_wire.proofs.MessageLaws.{binding_again, bindings_again}
 
@@ -21,7 +21,7 @@ encodable_value v h = tt
 pub encodable : (p : VarBind) → IsInRange (object_id p.name) → IsInRange p.value → IsEncodable p
 encodable p name value = record { name = name.0; value = encodable_value p.value value }
 
--- `inner_at` on an element whose length has one octet
+-- if `inner_at` reads an element whose length has one octet, then its content is as many octets as the length says, and the rest follows
 short_inner : (tag found size : ℕ) (rest content after : List ℕ) → size < 128 → inner_at tag (found ∷ size ∷ rest) ≡ Ok (content, after)
     → (size ≤ length rest) × (take size rest ≡ content) × (drop size rest ≡ after)
 unfolding inner_at content_at length_at
@@ -73,10 +73,10 @@ module _ (p : VarBind) (range : IsBindingInRange p) where
       → (get_or octets 3 0 ≤ length (drop 4 octets)) × (identifier_of (take (get_or octets 3 0) (drop 4 octets)) ≡ Ok p.name)
   short_name octets e long small short =
       let elements : List ℕ = get_or octets 2 0 ∷ get_or octets 3 0 ∷ drop 4 octets in
-      let front = short_inner 0x30 (get_or octets 0 0) (get_or octets 1 0) elements (spells.name ++ spells.value) [] small
+      let prefix = short_inner 0x30 (get_or octets 0 0) (get_or octets 1 0) elements (spells.name ++ spells.value) [] small
       (ap (inner_at 0x30) (sym (four_then octets long)) ∙ outer octets e) in
       let whole : elements ≡ spells.name ++ spells.value =
-      cc (take-append-drop (get_or octets 1 0) elements, front.1, front.2, append-nil (spells.name ++ spells.value)) in
+      cc (take-append-drop (get_or octets 1 0) elements, prefix.1, prefix.2, append-nil (spells.name ++ spells.value)) in
       let back = short_inner 0x06 (get_or octets 2 0) (get_or octets 3 0) (drop 4 octets) spells.is_name.content spells.value short
       (ap (inner_at 0x06) whole ∙ inner) in
       (back.0, ap identifier_of back.1 ∙ is_name)

@@ -9,7 +9,7 @@ use Rattle.std.proofs.lemmas.List.{take_at, drop_at, take-append-drop, length-ap
 use Rattle.snmp_wire.specs.{declared.ber.error.BerError.BerError, ber.Number.unsigned, ber.Length.IsLength, ber.Length.IsElement}
 use Rattle.snmp_wire.specs.declared.ber.error.BerError.TheVariants as error
 use Rattle.snmp_wire.specs.Fault.{BeginsWith, EndsEarly, HasForbiddenLength}
-use Rattle.snmp_wire.specs.ber.Reading.{long_length_at, length_at, content_at, inner_at, element_at}
+use Rattle.snmp_wire.specs.ber.Decode.{long_length_at, length_at, content_at, inner_at, element_at}
 use Rattle.snmp_wire.proofs.ReadingLaws.{Gives, a_fault, a_value, gives_either, gives_so, gives_then}
 
 -- ---- octets that end early
@@ -21,14 +21,14 @@ pub some_octets : (octets : List ℕ) → 0 < length octets → octets ≢ []
 some_octets octets lt e = let none : length octets ≡ 0 = ap length e in omega arith
 
 -- a proper prefix of an element ends early
-ends_early : {octets : List ℕ} (tag : ℕ) (lead content missing : List ℕ) → 0 < length missing → IsLength lead (length content)
-    → octets ++ missing ≡ tag ∷ lead ++ content → EndsEarly octets
-ends_early tag lead content missing some is_length parts = record {
+ends_early : {octets : List ℕ} (tag : ℕ) (length_field content missing : List ℕ) → 0 < length missing → IsLength length_field (length content)
+    → octets ++ missing ≡ tag ∷ length_field ++ content → EndsEarly octets
+ends_early tag length_field content missing some is_length parts = record {
   missing = missing;
   some = some_octets missing some;
   tag = tag;
   content = content;
-  whole = record { length_octets = lead; is_length = is_length; parts = parts };
+  whole = record { length_octets = length_field; is_length = is_length; parts = parts };
 }
 
 -- a first octet of 129 to 132 and as many digits are a length in the long form
@@ -42,14 +42,14 @@ long_form first digits low high size = inr (record {
 })
 
 -- an element ends early if its length is complete and its content isn't
-content_short : (tag : ℕ) (lead after : List ℕ) (n : ℕ)
-    → IsLength lead n → length after < n → EndsEarly (tag ∷ lead ++ after)
-content_short tag lead after n is_length short =
+content_short : (tag : ℕ) (length_field after : List ℕ) (n : ℕ)
+    → IsLength length_field n → length after < n → EndsEarly (tag ∷ length_field ++ after)
+content_short tag length_field after n is_length short =
     let missing = zeros (n - length after) in
     let size = length-replicate {A = ℕ} (n - length after) 0 in
     let whole : n ≡ length (after ++ missing) = omega (arith, length-append after missing, size) in
-    ends_early tag lead (after ++ missing) missing (omega (arith, size)) (subst (IsLength lead) whole is_length)
-    (ap (λ (o : List ℕ). tag ∷ o) (append_assoc lead after missing))
+    ends_early tag length_field (after ++ missing) missing (omega (arith, size)) (subst (IsLength length_field) whole is_length)
+    (ap (λ (o : List ℕ). tag ∷ o) (append_assoc length_field after missing))
 
 -- an element ends early if its length isn't complete
 length_short : (tag first : ℕ) (rest : List ℕ)
@@ -77,7 +77,7 @@ no_octets = ends_early 0 (0 ∷ []) [] (0 ∷ 0 ∷ []) (omega arith) no_length 
 
 -- `octets` begin with a form of the length `x.0`, and `x.1` follows it
 abbrev pub TakesLength : List ℕ → ℕ × List ℕ → Type 0
-TakesLength octets x = (lead : List ℕ) × IsLength lead x.0 × (octets ≡ lead ++ x.1)
+TakesLength octets x = (length_field : List ℕ) × IsLength length_field x.0 × (octets ≡ length_field ++ x.1)
 
 -- why an element can't be decoded: it is cut off, or its length has a forbidden form
 abbrev pub IsBadElement : BerError → List ℕ → BerError → Type 0
@@ -129,10 +129,10 @@ long_length_again : (cut : BerError) (digits rest : List ℕ) → 1 ≤ length d
 unfolding length_at long_length_at
 long_length_again cut digits rest some few = grind (arith, common_steps, le-ltb, length-append, lt-ltb, take_at, drop_at)
 
-length_again : (cut : BerError) (lead : List ℕ) (n : ℕ) (rest : List ℕ)
-    → IsLength lead n → length_at cut (lead ++ rest) ≡ Ok (n, rest)
-length_again cut lead n rest (inl s) = rw s.one (short_length_again cut n rest s.small)
-length_again cut lead n rest (inr s) = grind (arith, common_steps, long_length_again)
+length_again : (cut : BerError) (length_field : List ℕ) (n : ℕ) (rest : List ℕ)
+    → IsLength length_field n → length_at cut (length_field ++ rest) ≡ Ok (n, rest)
+length_again cut length_field n rest (inl s) = rw s.one (short_length_again cut n rest s.small)
+length_again cut length_field n rest (inr s) = grind (arith, common_steps, long_length_again)
 
 -- ---- elements
 
@@ -155,14 +155,14 @@ content_gives cut tag octets = gives_then _ (length_gives cut tag octets) (λ x 
     let parts : tag ∷ octets ≡ (tag ∷ t.0 ++ content) ++ drop n after = cc (take-append-drop n after, append_assoc t.0 content (drop n after)) in
     a_value (content, drop n after) (record { element = tag ∷ t.0 ++ content; is_element = is_element; parts = parts })))
 
--- a content after its length is decoded
-pub content_again : (cut : BerError) (lead content rest : List ℕ) → IsLength lead (length content)
-    → content_at cut (lead ++ (content ++ rest)) ≡ Ok (content, rest)
+-- if a content follows its length, then it is decoded, and `rest` is left
+pub content_again : (cut : BerError) (length_field content rest : List ℕ) → IsLength length_field (length content)
+    → content_at cut (length_field ++ (content ++ rest)) ≡ Ok (content, rest)
 unfolding content_at
-content_again cut lead content rest h =
+content_again cut length_field content rest h =
     let room : ltb (length (content ++ rest)) (length content) ≡ false =
     le-ltb _ _ (omega (arith, length-append content rest)) in
-    rw (length_again cut lead (length content) (content ++ rest) h, room, take_at content rest _ refl, drop_at content rest _ refl) refl
+    rw (length_again cut length_field (length content) (content ++ rest) h, room, take_at content rest _ refl, drop_at content rest _ refl) refl
 
 -- why there is no inner element with this tag: there is none at all, or one with another tag
 abbrev pub IsNoInner : ℕ → List ℕ → BerError → Type 0
@@ -184,7 +184,7 @@ regrouped : (tag : ℕ) (content element rest : List ℕ) (h : IsElement tag con
     → element ++ rest ≡ tag ∷ (h.length_octets ++ (content ++ rest))
 regrouped tag content element rest h = grind (arith, common_steps, append_assoc)
 
--- an inner element with a tag is decoded
+-- if octets begin with an element with the expected tag, then its content is decoded, and `rest` is left
 pub inner_again : (tag : ℕ) (content element rest : List ℕ)
     → IsElement tag content element → inner_at tag (element ++ rest) ≡ Ok (content, rest)
 unfolding inner_at
@@ -199,7 +199,7 @@ element_gives [] = a_fault error.Length (inl (refl, no_octets))
 element_gives (tag ∷ octets) = gives_then _ (content_gives error.Length tag octets)
     (λ c begins. a_value (tag, c.0, c.1) begins)
 
--- an element is decoded, with its tag
+-- if octets begin with an element, then its tag and its content are decoded, and `rest` is left
 pub element_again : (tag : ℕ) (content element rest : List ℕ)
     → IsElement tag content element → element_at (element ++ rest) ≡ Ok (tag, content, rest)
 unfolding element_at

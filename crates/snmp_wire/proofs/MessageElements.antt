@@ -12,13 +12,13 @@ use Rattle.snmp_wire.specs.ber.Spelling.{IsContent, SpellsValue, sequence_tag}
 use Rattle.snmp_wire.specs.ber.Value.{Datum, counter32, gauge32, time_ticks, counter64, integer_value, octet_string, object_id, ip_address}
 use Rattle.snmp_wire.specs.ber.Value.{opaque_octets}
 use Rattle.snmp_wire.specs.declared.kind.Kind.TheVariants as kind
-use Rattle.snmp_wire.specs.Canon.{canon, canon_binding, canon_bindings, canon_fields, canon_opening, canon_front, canon_head}
+use Rattle.snmp_wire.specs.Canon.{canon, canon_binding, canon_bindings, canon_fields, canon_opening, canon_prefix, canon_head}
 use Rattle.snmp_wire.specs.Range.{IsBindingInRange, IsBindingOfType, IsMessageInRange, IsMessageOfType}
 use Rattle.snmp_wire.specs.Spelling.{SpellsBinding, SpellsBindings, SpellsMessage, SpellsPdu, Spells, Strict, kind_tag}
-use Rattle.snmp_wire.proofs.Digits.{Octets, back_octets, both_octets, front_octets, by_octets, octets_by, below_power}
+use Rattle.snmp_wire.proofs.Digits.{Octets, back_octets, both_octets, prefix_octets, by_octets, octets_by, below_power}
 use Rattle.snmp_wire.proofs.Shortest.{IsNoShorter, both_texts, content_octets, element_least, same_text, value_least, element_octets, is_element}
 use Rattle.snmp_wire.proofs.Shortest.{spells_value, value_octets, element_most, value_short, signed_fits}
-use Rattle.snmp_wire.proofs.MessageWriting.{canon_parts}
+use Rattle.snmp_wire.proofs.WrittenMessages.{canon_parts}
 
 pub data Elements : Type 0 where
   no_elements : Elements
@@ -91,10 +91,10 @@ are_least no_elements octets h is = same_text is
 are_least (value_then value more) octets h (first, rest, parts, this, others) =
     let both : Octets (first ++ rest) = subst Octets parts h in
     rw parts
-    (both_texts (value_least value first (front_octets first rest both) this) (are_least more rest (back_octets first rest both) others))
+    (both_texts (value_least value first (prefix_octets first rest both) this) (are_least more rest (back_octets first rest both) others))
 are_least (element_then tag within more) octets h (first, rest, parts, content, element, inner, others) =
     let both : Octets (first ++ rest) = subst Octets parts h in
-    let whole : Octets first = front_octets first rest both in
+    let whole : Octets first = prefix_octets first rest both in
     rw parts
     (both_texts (element_least whole element (are_least within content (content_octets whole element) inner))
     (are_least more rest (back_octets first rest both) others))
@@ -123,7 +123,7 @@ elements_of message = element_then sequence_tag (elements_in_message message) no
 
 -- ---- encodings
 
--- the last element of a sequence
+-- if nothing follows an element, then it is all of the octets that begin with it
 last_is : (octets last end : List ℕ) → octets ≡ last ++ end → end ≡ [] → octets ≡ last
 last_is octets last end parts none = parts ∙ ap (λ (o : List ℕ). last ++ o) none ∙ append-nil last
 
@@ -137,7 +137,7 @@ module _ (form : Form) where
   bindings_in_row [] octets is = is
   bindings_in_row (binding ∷ more) octets (first, rest, parts, this, others) = grind (arith, common_steps, bindings_in_row more rest others, binding_in_row)
 
-  -- a single element
+  -- if `content` encodes the elements `within`, then an element with this content encodes a list of one element
   alone : (tag : ℕ) (within : Elements) {content octets : List ℕ} → IsElement tag content octets → SpellsAll form within content
       → SpellsAll form (element_then tag within no_elements) octets
   alone tag within {content} {octets} element inner = (octets, [], sym (append-nil octets), content, element, inner, refl)
@@ -307,11 +307,11 @@ are_of_type : (all : Elements) (octets : List ℕ) → Octets octets → SpellsA
 are_of_type no_elements octets h is = tt
 are_of_type (value_then value more) octets h (first, rest, parts, this, others) =
     let both : Octets (first ++ rest) = subst Octets parts h in
-    let inside : Octets this.content = content_octets (front_octets first rest both) this.element in
+    let inside : Octets this.content = content_octets (prefix_octets first rest both) this.element in
     (content_of_type value this.content inside this.is_content, are_of_type more rest (back_octets first rest both) others)
 are_of_type (element_then tag within more) octets h (first, rest, parts, content, element, inner, others) =
     let both : Octets (first ++ rest) = subst Octets parts h in
-    let inside : Octets content = content_octets (front_octets first rest both) element in
+    let inside : Octets content = content_octets (prefix_octets first rest both) element in
     (are_of_type within content inside inner, are_of_type more rest (back_octets first rest both) others)
 
 pub message_of_type : (m : Message) (octets : List ℕ) → Spells m octets → IsMessageOfType m
@@ -332,9 +332,9 @@ pub only_shortest : (message : Message) (text other : List ℕ) → IsMessageInR
 only_shortest message text other range is too = shortest_is_written message text range is ∙ sym (shortest_is_written message other range too)
 
 -- if what was written is at the start of `out`, it is a shortest encoding
-pub front_is_shortest : (law : OneShortestEncoding) (message : Message) (n : ℕ) (out rest : List ℕ) → n ≡ length (canon message)
+pub prefix_is_shortest : (law : OneShortestEncoding) (message : Message) (n : ℕ) (out rest : List ℕ) → n ≡ length (canon message)
     → out ≡ canon message ++ rest → IsMessageInRange message → IsShortestEncoding (take n out) message
-front_is_shortest law message n out rest size e range = grind (arith, common_steps, take-append_seam)
+prefix_is_shortest law message n out rest size e range = grind (arith, common_steps, take-append_seam)
 
 pub shortest_size : (law : OneShortestEncoding) (message : Message) (size : ℕ) → size ≡ length (canon message) → (octets : List ℕ)
     → IsMessageInRange message → IsShortestEncoding octets message → size ≡ length octets
@@ -344,7 +344,7 @@ shortest_size law message size e octets range is = e ∙ sym (ap length (law.one
 pub sealed_is_shortest : (law : OneShortestEncoding) (message : Message) (bindings : List VarBind) (total : ℕ) (octets : List ℕ)
     → octets ≡ canon_head message total ++ canon_bindings bindings → total ≡ length (canon_bindings bindings)
     → IsMessageInRange (record message { bindings = bindings }) → IsShortestEncoding octets (record message { bindings = bindings })
-unfolding canon_head canon_front canon_opening canon_fields
+unfolding canon_head canon_prefix canon_opening canon_fields
 sealed_is_shortest law message bindings total octets e size range =
     let whole : Message = record message { bindings = bindings } in
     let head : canon_head message total ≡ canon_head whole (length (canon_bindings bindings)) = ap (canon_head whole) size in

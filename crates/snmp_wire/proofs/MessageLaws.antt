@@ -6,18 +6,18 @@ use Rattle.std.proofs.Common.{append_assoc, ◌+◌, ◌-◌, get_or, take, drop
 use Rattle.std.proofs.lemmas.List.{nil_from_length, append-nil, length-append, append_cancel_right, length-drop, length-take-le, take-append-drop}
 use Rattle.std.specs.Result.{result_unwrap_or}
 use Rattle.snmp_wire.specs.declared.ber.error.BerError.{BerError}
-use Rattle.snmp_wire.specs.{ber.Value.Datum, ber.Value.integer_value, Reading.binding_with, Message.VarBind, Message.Message, declared.kind.Kind.Kind}
+use Rattle.snmp_wire.specs.{ber.Value.Datum, ber.Value.integer_value, Decode.binding_with, Message.VarBind, Message.Message, declared.kind.Kind.Kind}
 use Rattle.snmp_wire.specs.{ber.Number.lenient, ber.Length.IsElement, ber.Spelling.value_tag, ber.Spelling.SpellsValue}
-use Rattle.snmp_wire.specs.ber.Reading.{◌>>=◌, checked, identifier_of, typed_value, content_at, inner_at, element_at, integer_at}
-use Rattle.snmp_wire.specs.Reading.{Fields, fields_of, fields_at, binding_of, binding_at, bindings_within, bindings_of, bindings_in, kind_of}
-use Rattle.snmp_wire.specs.Reading.{outermost_of, pdu_of, message_of}
-use Rattle.snmp_wire.proofs.ReadingLaws.{ok_is, bind_ok, bind_same, ok_value, is_ok_at, checked_err, err_checked, ok_checked, Gives, a_value, given}
+use Rattle.snmp_wire.specs.ber.Decode.{◌>>=◌, checked, identifier_of, typed_value, content_at, inner_at, element_at, integer_at}
+use Rattle.snmp_wire.specs.Decode.{Fields, fields_of, fields_at, binding_of, binding_at, bindings_within, bindings_of, bindings_in, kind_of}
+use Rattle.snmp_wire.specs.Decode.{outermost_of, pdu_of, message_of}
+use Rattle.snmp_wire.proofs.ReadingLaws.{ok_is, bind_ok, bind_same, ok_value, is_ok_at, checked_err, err_checked, ok_checked, Gives, a_value, returned}
 use Rattle.snmp_wire.proofs.ReadingLaws.{gives_any, gives_so, gives_then, done, none_left, some_left}
 use Rattle.snmp_wire.proofs.LengthLaws.{inner_gives, element_shrinks, content_again, inner_again, element_again}
 use Rattle.snmp_wire.specs.declared.ber.error.BerError.TheVariants as error
 use Rattle.snmp_wire.specs.declared.kind.Kind.TheVariants as kind
 use Rattle.snmp_wire.specs.Spelling.{SpellsBinding, SpellsBindings, kind_tag, SpellsPdu, Spells}
-use Rattle.snmp_wire.proofs.{IdentifierReading.identifier_again, IdentifierReading.four_then, ValueLaws.integer_again, ValueLaws.value_again}
+use Rattle.snmp_wire.proofs.{ReadIdentifiers.identifier_again, ReadIdentifiers.four_then, ValueLaws.integer_again, ValueLaws.value_again}
 
 -- what follows a binding is shorter than the octets that begin with it
 fields_less : (octets : List ℕ) → Gives (λ x. length x.1 < length octets) (λ e. Unit {0}) (fields_at octets)
@@ -33,7 +33,7 @@ binding_less octets =
     gives_then _ (gives_any (binding_of fields.0)) (λ binding any. a_value (binding, fields.1) less))
 
 pub fields_shrink : (octets : List ℕ) (x : Fields × List ℕ) → fields_at octets ≡ Ok x → length x.1 < length octets
-fields_shrink octets x e = given x (fields_less octets) e
+fields_shrink octets x e = returned x (fields_less octets) e
 
 -- the first binding, and the bindings after it
 abbrev pub with_rest : (List ℕ → Result (List VarBind) BerError) → VarBind × List ℕ → Result (List VarBind) BerError
@@ -47,7 +47,7 @@ same_fuel zero m (octet ∷ rest) p q = absurd (omega arith)
 same_fuel (suc n) zero (octet ∷ rest) p q = absurd (omega arith)
 same_fuel (suc n) (suc m) (octet ∷ rest) p q =
     bind_same (binding_at (octet ∷ rest)) (with_rest (bindings_within n)) (with_rest (bindings_within m)) (λ x e.
-    let less : length x.1 < length (octet ∷ rest) = given x (binding_less (octet ∷ rest)) e in
+    let less : length x.1 < length (octet ∷ rest) = returned x (binding_less (octet ∷ rest)) e in
     ap (λ (read : Result (List VarBind) BerError). read >>= λ more. Ok (x.0 ∷ more)) (same_fuel n m x.1 (omega arith) (omega arith)))
 
 pub bindings_step : (octets : List ℕ) → 0 < length octets → bindings_of octets ≡ (binding_at octets >>= with_rest bindings_of)
@@ -55,14 +55,14 @@ unfolding bindings_of bindings_within
 bindings_step [] some = absurd (omega arith)
 bindings_step (octet ∷ rest) some =
     bind_same (binding_at (octet ∷ rest)) (with_rest (bindings_within (length rest))) (with_rest bindings_of) (λ x e.
-    let less : length x.1 < length (octet ∷ rest) = given x (binding_less (octet ∷ rest)) e in
+    let less : length x.1 < length (octet ∷ rest) = returned x (binding_less (octet ∷ rest)) e in
     ap (λ (read : Result (List VarBind) BerError). read >>= λ more. Ok (x.0 ∷ more)) (same_fuel (length rest) (length x.1) x.1 (omega arith) (omega arith)))
 
 pub bindings_end : (octets : List ℕ) → length octets ≡ 0 → bindings_of octets ≡ Ok []
 unfolding bindings_of bindings_within
 bindings_end octets none = ap bindings_of (nil_from_length octets none)
 
--- ---- the check
+-- ---- the check that each binding can be decoded
 
 pub check_fails_at : (octets : List ℕ) (e : BerError) (total : Result (Unit {0}) BerError) → 0 < length octets → fields_at octets ≡ Err e
     → checked (bindings_of octets) ≡ total → total ≡ Err e
@@ -103,10 +103,10 @@ pub record BeginsWithBinding (octets : List ℕ) (fields : Fields) (after : List
   pub all : (binding : VarBind) → binding_of fields ≡ Ok binding → bindings_in octets ≡ binding ∷ bindings_in after
 
 -- one step of the iterator: if the whole list is decoded, so are its first binding and the others
-pub stands : (octets : List ℕ) (fields : Fields) (after : List ℕ) → IsOk (bindings_of octets) → 0 < length octets → fields_at octets ≡ Ok (fields, after)
+pub expects : (octets : List ℕ) (fields : Fields) (after : List ℕ) → IsOk (bindings_of octets) → 0 < length octets → fields_at octets ≡ Ok (fields, after)
     → BeginsWithBinding octets fields after
 unfolding binding_at
-stands octets fields after ok some h = grind (arith, common_steps, ok_value, bind_ok, bindings_step, ok_is, is_ok_at)
+expects octets fields after ok some h = grind (arith, common_steps, ok_value, bind_ok, bindings_step, ok_is, is_ok_at)
 
 pub bindings_in_end : (octets : List ℕ) → length octets ≡ 0 → bindings_in octets ≡ []
 bindings_in_end octets none = ap (λ (r : Result (List VarBind) BerError). result_unwrap_or r []) (bindings_end octets none)
@@ -255,19 +255,19 @@ two_then [] long = absurd (omega arith)
 two_then (a ∷ []) long = absurd (omega arith)
 two_then (a ∷ b ∷ rest) long = refl
 
--- the fields of such a binding, as `short_fields_at` splits the octets
-pub short_fields : (octets elements name value behind content rest : List ℕ) (size n v : ℕ) → elements ≡ drop 4 octets → name ≡ take n elements
-    → value ≡ drop n elements → behind ≡ drop 2 value → content ≡ take v behind → rest ≡ drop v behind
+-- octets that `short_fields_at` splits in this way begin with a binding that has these fields
+pub short_fields : (octets elements name value suffix content rest : List ℕ) (size n v : ℕ) → elements ≡ drop 4 octets → name ≡ take n elements
+    → value ≡ drop n elements → suffix ≡ drop 2 value → content ≡ take v suffix → rest ≡ drop v suffix
     → 4 ≤ length octets → get_or octets 0 0 ≡ 0x30 → get_or octets 2 0 ≡ 0x06 → size ≡ get_or octets 1 0 → n ≡ get_or octets 3 0
     → size < 128 → size ≤ length elements + 2 → v ≡ get_or value 1 0 → n + 4 + v ≡ size
     → fields_at octets ≡ Ok (record { name = name; tag = get_or value 0 0; content = content }, rest)
-short_fields octets elements name value behind content rest size n v e f g h j k long s i z m small fits is_v parts =
+short_fields octets elements name value suffix content rest size n v e f g h j k long s i z m small fits is_v parts =
     let name_long : length name ≡ n = ap length f ∙ length-take-le n elements (omega arith) in
     let value_long : length value ≡ length elements - n = ap length g ∙ length-drop n elements in
-    let behind_long : length behind ≡ length value - 2 = ap length h ∙ length-drop 2 value in
-    let content_long : length content ≡ v = ap length j ∙ length-take-le v behind (omega arith) in
+    let after_long : length suffix ≡ length value - 2 = ap length h ∙ length-drop 2 value in
+    let content_long : length content ≡ v = ap length j ∙ length-take-le v suffix (omega arith) in
     let size_is : length name + 4 + length content ≡ size = omega arith in
-    let value_parts : value ≡ get_or value 0 0 ∷ length content ∷ (content ++ rest) = cc (two_then value (omega arith), take-append-drop v behind) in
+    let value_parts : value ≡ get_or value 0 0 ∷ length content ∷ (content ++ rest) = cc (two_then value (omega arith), take-append-drop v suffix) in
     let tag = get_or value 0 0 in
     let whole : octets ≡ 0x30 ∷ (length name + 4 + length content) ∷ 0x06 ∷ length name ∷ (name ++ (tag ∷ length content ∷ (content ++ rest))) =
     cc (four_then octets long, take-append-drop n elements) in

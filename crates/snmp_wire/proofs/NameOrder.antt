@@ -14,14 +14,14 @@ use Rattle.std.specs.declared.cmp.Ordering.TheVariants.{Less, Equal, Greater}
 use Rattle.snmp_oid.specs.Identifier.{PartsBelow, IsBelow, IsWire, Precedes}
 use Rattle.snmp_wire.specs.Name.{ComesFirst, EndsAt, IsAlike, EncodedNames, IsContentOctets, identifier_in}
 use Rattle.snmp_wire.specs.{ber.Canon.canon_content, ber.Canon.canon_subidentifier, ber.Number.number_of, ber.Number.AreOctets, ber.Value.object_id}
-use Rattle.snmp_wire.specs.{declared.ber.error.BerError.BerError, ber.Reading.identifier_of}
+use Rattle.snmp_wire.specs.{declared.ber.error.BerError.BerError, ber.Decode.identifier_of}
 use Rattle.snmp_wire.specs.ber.Identifier.{AreSubidentifiers, IsObjectId, IsSubidentifier, subidentifiers}
 use Rattle.snmp_wire.proofs.ReadingLaws.{is_ok_at, ok_is, ok_value}
-use Rattle.snmp_wire.proofs.Digits.{AreDigits, Octets, back_octets, below_power, front_octets, octets_by}
-use Rattle.snmp_wire.proofs.IdentifierWriting.{bits_below, is_object_id, length-low_bits, low_bits, name_octets, same_subidentifier}
-use Rattle.snmp_wire.proofs.IdentifierWriting.{subidentifier_bound, subidentifier_some, length-canon_subidentifier, size_some}
-use Rattle.snmp_wire.proofs.IdentifierWriting.{content_is_subidentifiers, length-name}
-use Rattle.snmp_wire.proofs.IdentifierReading.{identifier_again, identifier_takes}
+use Rattle.snmp_wire.proofs.Digits.{AreDigits, Octets, back_octets, below_power, prefix_octets, octets_by}
+use Rattle.snmp_wire.proofs.WrittenIdentifiers.{bits_below, is_object_id, length-low_bits, low_bits, name_octets, same_subidentifier}
+use Rattle.snmp_wire.proofs.WrittenIdentifiers.{subidentifier_bound, subidentifier_some, length-canon_subidentifier, size_some}
+use Rattle.snmp_wire.proofs.WrittenIdentifiers.{content_is_subidentifiers, length-name}
+use Rattle.snmp_wire.proofs.ReadIdentifiers.{identifier_again, identifier_takes}
 
 -- ---- where a subidentifier ends
 
@@ -30,31 +30,31 @@ abbrev pub reach : List ℕ → ℕ
 reach [] = 0
 reach (octet ∷ rest) = cond (ltb octet 128) 0 (suc (reach rest))
 
-reach_front : (front : List ℕ) (last : ℕ) (rest : List ℕ) → AllByRecursion (λ octet. 128 ≤ octet) front → last < 128
-    → reach ((front ++ last ∷ []) ++ rest) ≡ length front
-reach_front [] last rest high low = rw (lt-ltb last 128 low) refl
-reach_front (octet ∷ front) last rest high low = rw (le-ltb octet 128 high.0) (ap suc (reach_front front last rest high.1 low))
+reach_prefix : (prefix : List ℕ) (last : ℕ) (rest : List ℕ) → AllByRecursion (λ octet. 128 ≤ octet) prefix → last < 128
+    → reach ((prefix ++ last ∷ []) ++ rest) ≡ length prefix
+reach_prefix [] last rest high low = rw (lt-ltb last 128 low) refl
+reach_prefix (octet ∷ prefix) last rest high low = rw (le-ltb octet 128 high.0) (ap suc (reach_prefix prefix last rest high.1 low))
 
 -- `reach` determines the length of a subidentifier, whatever follows it
 length_is : (text rest : List ℕ) (n : ℕ) → IsSubidentifier text n → length text ≡ suc (reach (text ++ rest))
 length_is text rest n is =
-    let far = reach_front is.front is.last rest (recursion_from_All (λ octet. 128 ≤ octet) is.front is.goes_on) is.ends in
-    rw is.parts (omega (arith, far, length_push is.front is.last))
+    let far = reach_prefix is.prefix is.last rest (recursion_from_All (λ octet. 128 ≤ octet) is.prefix is.goes_on) is.ends in
+    rw is.parts (omega (arith, far, length_push is.prefix is.last))
 
--- if a subidentifier doesn't end within `front`, its end is found in the octets after it
-reach_behind : (front rest : List ℕ) → length front ≤ reach (front ++ rest) → reach (front ++ rest) ≡ length front + reach rest
-reach_behind [] rest h = omega arith
-reach_behind (octet ∷ front) rest h = elim (cases_lt octet 128) [
+-- if a subidentifier doesn't end within `prefix`, its end is found in the octets after it
+reach_after : (prefix rest : List ℕ) → length prefix ≤ reach (prefix ++ rest) → reach (prefix ++ rest) ≡ length prefix + reach rest
+reach_after [] rest h = omega arith
+reach_after (octet ∷ prefix) rest h = elim (cases_lt octet 128) [
   | inl low ↦ absurd (omega (arith, rw (lt-ltb octet 128 low) at h))
-  | inr high ↦ rw (le-ltb octet 128 high) (omega (arith, reach_behind front rest (omega (arith, rw (le-ltb octet 128 high) at h))))
+  | inr high ↦ rw (le-ltb octet 128 high) (omega (arith, reach_after prefix rest (omega (arith, rw (le-ltb octet 128 high) at h))))
 ]
 
 -- `reach` determines the length of a subidentifier from any octet within it
-text_length : (front more text rest : List ℕ) (n : ℕ) → IsSubidentifier text n → front ++ more ≡ text ++ rest → length front < length text
-    → length text ≡ suc (length front + reach more)
-text_length front more text rest n is parts low =
-    let whole : length text ≡ suc (reach (front ++ more)) = length_is text rest n is ∙ ap (λ (t : List ℕ). suc (reach t)) (sym parts) in
-    omega (arith, whole, reach_behind front more (omega (arith, whole, low)))
+text_length : (prefix more text rest : List ℕ) (n : ℕ) → IsSubidentifier text n → prefix ++ more ≡ text ++ rest → length prefix < length text
+    → length text ≡ suc (length prefix + reach more)
+text_length prefix more text rest n is parts low =
+    let whole : length text ≡ suc (reach (prefix ++ more)) = length_is text rest n is ∙ ap (λ (t : List ℕ). suc (reach t)) (sym parts) in
+    omega (arith, whole, reach_after prefix more (omega (arith, whole, low)))
 
 -- the octets from index `at` on, of which there is at least one
 abbrev pub octets_from : List ℕ → ℕ → List ℕ
@@ -67,35 +67,35 @@ reach_none : (content : List ℕ) (at : ℕ) → get_or content at 0 < 128 → r
 reach_none content at low = rw (lt-ltb (get_or content at 0) 128 low) refl
 
 reach_to : (count : ℕ) (content : List ℕ) (at end : ℕ) → at + count ≡ end → EndsAt content at end → reach (octets_from content at) ≡ count
-reach_to zero content at end place e = reach_none content at (subst (λ (k : ℕ). get_or content k 0 < 128) (omega (arith, place)) e.ends)
-reach_to (suc count) content at end place e =
+reach_to zero content at end position e = reach_none content at (subst (λ (k : ℕ). get_or content k 0 < 128) (omega (arith, position)) e.ends)
+reach_to (suc count) content at end position e =
     let here : EndsAt content (at + 1) end =
-    record { behind = omega (arith, place); within = e.within; goes_on = λ k low less. e.goes_on k (omega (arith, low)) less; ends = e.ends } in
-    let high = e.goes_on at (omega arith) (omega (arith, place)) in
-    let more = reach_to count content (at + 1) end (omega (arith, place)) here in
-    rw (le-ltb (get_or content at 0) 128 high, drop_more content (at + 1) 0 (omega (arith, place, e.within))) (ap suc more)
+    record { suffix = omega (arith, position); within = e.within; goes_on = λ k low less. e.goes_on k (omega (arith, low)) less; ends = e.ends } in
+    let high = e.goes_on at (omega arith) (omega (arith, position)) in
+    let more = reach_to count content (at + 1) end (omega (arith, position)) here in
+    rw (le-ltb (get_or content at 0) 128 high, drop_more content (at + 1) 0 (omega (arith, position, e.within))) (ap suc more)
 
 -- a subidentifier ends at one index
 pub end_is : (content : List ℕ) (at end : ℕ) → EndsAt content at end → end ≡ at + reach (octets_from content at)
-end_is content at end e = omega (arith, e.behind, reach_to (end - at) content at end (omega (arith, e.behind)) e)
+end_is content at end e = omega (arith, e.suffix, reach_to (end - at) content at end (omega (arith, e.suffix)) e)
 
 -- octets begin with at most one subidentifier
-one_front : (text rest other more : List ℕ) (n m : ℕ) → IsSubidentifier text n → IsSubidentifier other m → text ++ rest ≡ other ++ more
+one_prefix : (text rest other more : List ℕ) (n m : ℕ) → IsSubidentifier text n → IsSubidentifier other m → text ++ rest ≡ other ++ more
     → (text ≡ other) × (n ≡ m) × (rest ≡ more)
-one_front text rest other more n m is are e =
+one_prefix text rest other more n m is are e =
     let size : length text ≡ length other = length_is text rest n is ∙ ap (λ (t : List ℕ). suc (reach t)) e ∙ sym (length_is other more m are) in
     let same : text ≡ other = cc (take-append_seam text rest, take-append_seam other more) in
     (same, (cc), append_cancel_left text rest more (cc))
 
--- if a string is a prefix of the octets and `front` is a prefix at least as long, the string is a
--- prefix of `front`
-inside : (text rest front more : List ℕ) → text ++ rest ≡ front ++ more → length text ≤ length front
-    → (back : List ℕ) × (front ≡ text ++ back) × (rest ≡ back ++ more)
-inside [] rest front more e short = (front, refl, e)
+-- if a string is a prefix of the octets and `prefix` is a prefix at least as long, the string is a
+-- prefix of `prefix`
+inside : (text rest prefix more : List ℕ) → text ++ rest ≡ prefix ++ more → length text ≤ length prefix
+    → (back : List ℕ) × (prefix ≡ text ++ back) × (rest ≡ back ++ more)
+inside [] rest prefix more e short = (prefix, refl, e)
 inside (x ∷ text) rest [] more e short = absurd (omega arith)
-inside (x ∷ text) rest (y ∷ front) more e short =
-    let i = inside text rest front more (cc) (omega arith) in
-    let same : y ∷ front ≡ x ∷ (text ++ i.0) = cc (i.1) in
+inside (x ∷ text) rest (y ∷ prefix) more e short =
+    let i = inside text rest prefix more (cc) (omega arith) in
+    let same : y ∷ prefix ≡ x ∷ (text ++ i.0) = cc (i.1) in
     (i.0, same, i.2)
 
 -- ---- octets that are the same
@@ -113,15 +113,15 @@ more_alike {octets} {others} {count} from more end h near e these those same = r
   other_short = those;
   same = λ k low. elim (cases_lt k count) [
     | inl before ↦ h.same k before
-    | inr after ↦ let place : from + (k - from) ≡ k = omega (arith, near, after) in rw place at (same (k - from) (omega (arith, low, e, near, after)))
+    | inr after ↦ let position : from + (k - from) ≡ k = omega (arith, near, after) in rw position at (same (k - from) (omega (arith, low, e, near, after)))
   ];
 }
 
 pub alike_back : (octets others : List ℕ) (count : ℕ) → IsAlike octets others count → IsAlike others octets count
 alike_back octets others count h = record { short = h.other_short; other_short = h.short; same = λ k low. sym (h.same k low) }
 
-same_front : (content other : List ℕ) (at : ℕ) → IsAlike content other at → take at content ≡ take at other
-same_front content other at h = ext_get_or 0 (take at content) (take at other)
+same_prefix : (content other : List ℕ) (at : ℕ) → IsAlike content other at → take at content ≡ take at other
+same_prefix content other at h = ext_get_or 0 (take at content) (take at other)
     (length-take-le at content h.short ∙ sym (length-take-le at other h.other_short))
     (λ k low. let below : k < at = omega (arith, low, length-take-le at content h.short) in
     get_or-take at content k 0 below ∙ h.same k below ∙ sym (get_or-take at other k 0 below))
@@ -130,15 +130,15 @@ same_front content other at h = ext_get_or 0 (take at content) (take at other)
 
 -- of two numbers with as many digits, the one with the greater digit at the first difference is
 -- greater
-digits_rise : (base : ℕ) (front after behind : List ℕ) (c d : ℕ) → c < d → length after ≡ length behind → AreDigits base after
-    → number_of base (front ++ c ∷ after) < number_of base (front ++ d ∷ behind)
-digits_rise base [] after behind c d less size small =
+digits_rise : (base : ℕ) (prefix after suffix : List ℕ) (c d : ℕ) → c < d → length after ≡ length suffix → AreDigits base after
+    → number_of base (prefix ++ c ∷ after) < number_of base (prefix ++ d ∷ suffix)
+digits_rise base [] after suffix c d less size small =
     let bound = mul-add-lt c (base ^ length after) (number_of base after) d less (below_power base after small) in
     omega (arith, bound, ap (λ k. d * base ^ k) size)
-digits_rise base (z ∷ front) after behind c d less size small =
-    grind (arith, common_steps, digits_rise base front after behind c d less size small, length-append)
+digits_rise base (z ∷ prefix) after suffix c d less size small =
+    grind (arith, common_steps, digits_rise base prefix after suffix c d less size small, length-append)
 
--- the least value of a subidentifier of several octets
+-- a subidentifier of `k + 1` octets, at least two, is at least 128 to the power `k`
 least_of_several : (text : List ℕ) (n : ℕ) → Octets text → IsSubidentifier text n → 1 < length text → 128 ^ (length text - 1) ≤ n
 least_of_several [] n all is several = absurd (omega arith)
 least_of_several (octet ∷ rest) n all is several =
@@ -147,8 +147,8 @@ least_of_several (octet ∷ rest) n all is several =
     let digit : 1 ≤ octet % 128 =
     ⊎_elim (λ zero_digit. absurd (is.minimal (omega (arith, zero_digit, high, all.0)))) (λ some. some) (cases_lt (octet % 128) 1) in
     let power : 1 * 128 ^ length (low_bits rest) ≤ octet % 128 * 128 ^ length (low_bits rest) = mul-le-mul_right (128 ^ length (low_bits rest)) digit in
-    let places : length (low_bits rest) ≡ length (octet ∷ rest) - 1 = omega (arith, length-low_bits rest) in
-    omega (arith, power, ap (λ k. 128 ^ k) places, is.value)
+    let positions : length (low_bits rest) ≡ length (octet ∷ rest) - 1 = omega (arith, length-low_bits rest) in
+    omega (arith, power, ap (λ k. 128 ^ k) positions, is.value)
 
 -- if two octets are followed by as many octets of their subidentifiers, both or neither of them
 -- have the high bit, so the smaller octet has the smaller digit
@@ -161,17 +161,17 @@ digit_rises x y xs ys e small other_small less = elim (cases_lt x 128) [
   | inr high ↦ omega arith
 ]
 
-parts_rise : (front after behind : List ℕ) (x y n m : ℕ) → Octets (front ++ x ∷ after) → Octets (front ++ y ∷ behind)
-    → IsSubidentifier (front ++ x ∷ after) n → IsSubidentifier (front ++ y ∷ behind) m → length after ≡ length behind → x < y → n < m
-parts_rise front after behind x y n m all others is are size less =
-    let far : (z k : ℕ) (tail : List ℕ) → IsSubidentifier (front ++ z ∷ tail) k → reach (z ∷ tail) ≡ length tail = λ z k tail this.
-    let text : List ℕ = front ++ z ∷ tail in
-    let longer = length-append front (z ∷ tail) in
-    omega (arith, longer, text_length front (z ∷ tail) text [] k this (sym (append-nil text)) (omega (arith, longer))) in
-    let digit = digit_rises x y after behind (omega (arith, far x n after is, far y m behind are, size)) (back_octets front (x ∷ after) all).0
-    (back_octets front (y ∷ behind) others).0 less in
-    let rises = digits_rise 128 (low_bits front) (low_bits after) (low_bits behind) (x % 128) (y % 128) digit
-    (omega (arith, length-low_bits after, length-low_bits behind, size)) (bits_below after) in
+parts_rise : (prefix after suffix : List ℕ) (x y n m : ℕ) → Octets (prefix ++ x ∷ after) → Octets (prefix ++ y ∷ suffix)
+    → IsSubidentifier (prefix ++ x ∷ after) n → IsSubidentifier (prefix ++ y ∷ suffix) m → length after ≡ length suffix → x < y → n < m
+parts_rise prefix after suffix x y n m all others is are size less =
+    let far : (z k : ℕ) (tail : List ℕ) → IsSubidentifier (prefix ++ z ∷ tail) k → reach (z ∷ tail) ≡ length tail = λ z k tail this.
+    let text : List ℕ = prefix ++ z ∷ tail in
+    let longer = length-append prefix (z ∷ tail) in
+    omega (arith, longer, text_length prefix (z ∷ tail) text [] k this (sym (append-nil text)) (omega (arith, longer))) in
+    let digit = digit_rises x y after suffix (omega (arith, far x n after is, far y m suffix are, size)) (back_octets prefix (x ∷ after) all).0
+    (back_octets prefix (y ∷ suffix) others).0 less in
+    let rises = digits_rise 128 (low_bits prefix) (low_bits after) (low_bits suffix) (x % 128) (y % 128) digit
+    (omega (arith, length-low_bits after, length-low_bits suffix, size)) (bits_below after) in
     omega (arith, rises, simp map-append at is.value, simp map-append at are.value)
 
 below_longer : (o p : List ℕ) → IsBelow o p → length p < length o
@@ -186,7 +186,7 @@ first_is_smaller text other n m all others is are (inl shorter) =
     let fewer : 128 ^ length text ≤ 128 ^ (length other - 1) = pow-le-pow_right {n = 128} (lit< tt) (omega (arith, shorter)) in
     omega (arith, least, fewer, subidentifier_bound text n is)
 first_is_smaller text other n m all others is are (inr (size, inl below)) = absurd (omega (arith, size, below_longer other text below))
-first_is_smaller text other n m all others is are (inr (size, inr p)) = parts_rise p.front p.after p.behind p.smaller p.larger n m
+first_is_smaller text other n m all others is are (inr (size, inr p)) = parts_rise p.prefix p.after p.suffix p.smaller p.larger n m
     (subst Octets p.this all) (subst Octets p.that others) (subst (λ (t : List ℕ). IsSubidentifier t n) p.this is)
     (subst (λ (t : List ℕ). IsSubidentifier t m) p.that are)
     (omega (arith, size, simp length-append at (ap length p.this), simp length-append at (ap length p.that))) p.is_smaller
@@ -205,7 +205,7 @@ one_content_of [] content other h k are others = are ∙ sym others
 one_content_of (n ∷ ns) content other h k (text, rest, parts, is, are) (text2, rest2, parts2, is2, are2) =
     let all : Octets (text ++ rest) = subst Octets parts h in
     let all2 : Octets (text2 ++ rest2) = subst Octets parts2 k in
-    let first : text ≡ text2 = one_text text text2 n (front_octets text rest all) (front_octets text2 rest2 all2) is is2 in
+    let first : text ≡ text2 = one_text text text2 n (prefix_octets text rest all) (prefix_octets text2 rest2 all2) is is2 in
     let others : rest ≡ rest2 = one_content_of ns rest rest2 (back_octets text rest all) (back_octets text2 rest2 all2) are are2 in
     parts ∙ ap (λ (t : List ℕ). t ++ rest) first ∙ ap (λ (t : List ℕ). text2 ++ t) others ∙ sym parts2
 
@@ -267,20 +267,20 @@ goes_on : (ns ms content rest : List ℕ) → AreSubidentifiers content ns → A
 goes_on [] ms content rest are others = (ms, refl, subst (λ (t : List ℕ). AreSubidentifiers (t ++ rest) ms) are others)
 goes_on (n ∷ ns) [] content rest (text, back, parts, is, are) others = grind (arith, common_steps, subidentifier_some, length-append)
 goes_on (n ∷ ns) (m ∷ ms) content rest (text, back, parts, is, are) (text2, back2, parts2, is2, are2) =
-    let s = one_front text (back ++ rest) text2 back2 n m is is2 (cc (append_assoc text back rest)) in
+    let s = one_prefix text (back ++ rest) text2 back2 n m is is2 (cc (append_assoc text back rest)) in
     let more = goes_on ns ms back rest are (subst (λ (t : List ℕ). AreSubidentifiers t ms) (sym s.2) are2) in
     (more.0, ap (λ k. k ∷ ms) (sym s.1) ∙ ap (λ (t : List ℕ). n ∷ t) more.1, more.2)
 
 -- a content ends with the last octet of a subidentifier
 content_ends : (ns content : List ℕ) → AreSubidentifiers content ns → 0 < length content
-    → (front : List ℕ) × (last : ℕ) × (last < 128) × (content ≡ front ++ last ∷ [])
+    → (prefix : List ℕ) × (last : ℕ) × (last < 128) × (content ≡ prefix ++ last ∷ [])
 content_ends [] content are some = absurd (omega (arith, ap length are, some))
-content_ends (n ∷ ns) content (text, [], parts, is, are) some = (is.front, is.last, is.ends, parts ∙ append-nil text ∙ is.parts)
+content_ends (n ∷ ns) content (text, [], parts, is, are) some = (is.prefix, is.last, is.ends, parts ∙ append-nil text ∙ is.parts)
 content_ends (n ∷ ns) content (text, octet ∷ rest, parts, is, are) some =
     let e = content_ends ns (octet ∷ rest) are (omega arith) in
     (text ++ e.0, e.1, e.2, parts ∙ ap (λ (t : List ℕ). text ++ t) e.3 ∙ sym (append_assoc text e.0 (e.1 ∷ [])))
 
--- so an octet with its high bit set isn't the last octet of a content
+-- an octet with its high bit set isn't the last octet of the content of an identifier
 pub more_octets : (content : List ℕ) (at : ℕ) → IsOk (identifier_of content) → at < length content → 128 ≤ get_or content at 0
     → at + 1 < length content
 more_octets content at ok within high =
@@ -304,49 +304,49 @@ EndsFirst octets others = (reach octets < reach others) ⊎ ((reach octets ≡ r
 
 -- if the first octets that differ are within a subidentifier of each content, and the one of
 -- `text` ends first, `text` comes first
-text_first : (front xs ys text rest other more : List ℕ) (n m : ℕ) → IsSubidentifier text n → IsSubidentifier other m → front ++ xs ≡ text ++ rest
-    → front ++ ys ≡ other ++ more → length front < length text → length front < length other → EndsFirst xs ys → ComesFirst text other
-text_first front xs ys text rest other more n m is are parts others low other_low first =
-    let this = text_length front xs text rest n is parts low in
-    let that = text_length front ys other more m are others other_low in
-    let i = inside front xs text rest parts (omega (arith, low)) in
-    let j = inside front ys other more others (omega (arith, other_low)) in
+text_first : (prefix xs ys text rest other more : List ℕ) (n m : ℕ) → IsSubidentifier text n → IsSubidentifier other m → prefix ++ xs ≡ text ++ rest
+    → prefix ++ ys ≡ other ++ more → length prefix < length text → length prefix < length other → EndsFirst xs ys → ComesFirst text other
+text_first prefix xs ys text rest other more n m is are parts others low other_low first =
+    let this = text_length prefix xs text rest n is parts low in
+    let that = text_length prefix ys other more m are others other_low in
+    let i = inside prefix xs text rest parts (omega (arith, low)) in
+    let j = inside prefix ys other more others (omega (arith, other_low)) in
     elim first [
       | inl less ↦ inl (omega (arith, less, this, that))
-      | inr both ↦ inr (omega (arith, both.0, this, that), inr (behind i.0 j.0 i.1 j.1 i.2 j.2 both.1))
+      | inr both ↦ inr (omega (arith, both.0, this, that), inr (suffix i.0 j.0 i.1 j.1 i.2 j.2 both.1))
     ]
   where
-    behind : (tail back : List ℕ) → text ≡ front ++ tail → other ≡ front ++ back → xs ≡ tail ++ rest → ys ≡ back ++ more
+    suffix : (tail back : List ℕ) → text ≡ prefix ++ tail → other ≡ prefix ++ back → xs ≡ tail ++ rest → ys ≡ back ++ more
         → get_or xs 0 0 < get_or ys 0 0 → PartsBelow text other
-    behind [] back e f g h less = absurd (omega (arith, low, ap length e, length-append front []))
-    behind (x ∷ tail) [] e f g h less = absurd (omega (arith, other_low, ap length f, length-append front []))
-    behind (x ∷ tail) (y ∷ back) e f g h less =
+    suffix [] back e f g h less = absurd (omega (arith, low, ap length e, length-append prefix []))
+    suffix (x ∷ tail) [] e f g h less = absurd (omega (arith, other_low, ap length f, length-append prefix []))
+    suffix (x ∷ tail) (y ∷ back) e f g h less =
         let smaller : x < y = omega (arith, less, ap (λ (t : List ℕ). get_or t 0 0) g, ap (λ (t : List ℕ). get_or t 0 0) h) in
-        record { front = front; smaller = x; larger = y; after = tail; behind = back; this = e; that = f; is_smaller = smaller }
+        record { prefix = prefix; smaller = x; larger = y; after = tail; suffix = back; this = e; that = f; is_smaller = smaller }
 
 -- if two contents differ after a common prefix, and the first one ends first there, its
 -- subidentifiers are the smaller ones
-first_differs : (ns ms front xs ys : List ℕ) → Octets (front ++ xs) → Octets (front ++ ys) → AreSubidentifiers (front ++ xs) ns
-    → AreSubidentifiers (front ++ ys) ms → 0 < length xs → 0 < length ys → EndsFirst xs ys → slice_cmp nat_cmp ns ms ≡ Less
-first_differs [] ms front xs ys h k are others some some2 first = absurd (omega (arith, ap length are, length-append front xs, some))
-first_differs (n ∷ ns) [] front xs ys h k are others some some2 first = absurd (omega (arith, ap length others, length-append front ys, some2))
-first_differs (n ∷ ns) (m ∷ ms) front xs ys h k (text, rest, parts, is, are) (text2, rest2, parts2, is2, are2) some some2 first =
+first_differs : (ns ms prefix xs ys : List ℕ) → Octets (prefix ++ xs) → Octets (prefix ++ ys) → AreSubidentifiers (prefix ++ xs) ns
+    → AreSubidentifiers (prefix ++ ys) ms → 0 < length xs → 0 < length ys → EndsFirst xs ys → slice_cmp nat_cmp ns ms ≡ Less
+first_differs [] ms prefix xs ys h k are others some some2 first = absurd (omega (arith, ap length are, length-append prefix xs, some))
+first_differs (n ∷ ns) [] prefix xs ys h k are others some some2 first = absurd (omega (arith, ap length others, length-append prefix ys, some2))
+first_differs (n ∷ ns) (m ∷ ms) prefix xs ys h k (text, rest, parts, is, are) (text2, rest2, parts2, is2, are2) some some2 first =
     let all : Octets (text ++ rest) = subst Octets parts h in
     let all2 : Octets (text2 ++ rest2) = subst Octets parts2 k in
-    elim (cases_lt (length front) (length text)) [
-      | inl low ↦ elim (cases_lt (length front) (length text2)) [
+    elim (cases_lt (length prefix) (length text)) [
+      | inl low ↦ elim (cases_lt (length prefix) (length text2)) [
         | inl low2 ↦
-            let less : n < m = first_is_smaller text text2 n m (front_octets text rest all) (front_octets text2 rest2 all2) is is2
-            (text_first front xs ys text rest text2 rest2 n m is is2 parts parts2 low low2 first) in
+            let less : n < m = first_is_smaller text text2 n m (prefix_octets text rest all) (prefix_octets text2 rest2 all2) is is2
+            (text_first prefix xs ys text rest text2 rest2 n m is is2 parts parts2 low low2 first) in
             rw (← nat_cmp_is n m Less less) refl
         | inr past ↦
-            let i = inside text2 rest2 front ys (sym parts2) past in
-            let s = one_front text2 (i.0 ++ xs) text rest m n is2 is (cc (append_assoc text2 i.0 xs, i.1)) in
+            let i = inside text2 rest2 prefix ys (sym parts2) past in
+            let s = one_prefix text2 (i.0 ++ xs) text rest m n is2 is (cc (append_assoc text2 i.0 xs, i.1)) in
             absurd (omega (arith, low, past, ap length s.0))
       ]
       | inr past ↦
-          let i = inside text rest front xs (sym parts) past in
-          let s = one_front text (i.0 ++ ys) text2 rest2 n m is is2 (cc (append_assoc text i.0 ys, i.1)) in
+          let i = inside text rest prefix xs (sym parts) past in
+          let s = one_prefix text (i.0 ++ ys) text2 rest2 n m is is2 (cc (append_assoc text i.0 ys, i.1)) in
           let more = first_differs ns ms i.0 xs ys
           (subst Octets i.2 (back_octets text rest all)) (subst Octets (sym s.2) (back_octets text2 rest2 all2))
           (subst (λ (t : List ℕ). AreSubidentifiers t ns) i.2 are) (subst (λ (t : List ℕ). AreSubidentifiers t ms) (sym s.2) are2) some some2 first in
@@ -368,11 +368,11 @@ is_name content ok =
     let name : identifier_in content ≡ read.0 = ap (λ (r : Result (List ℕ) BerError). result_unwrap_or r []) read.1 in
     subst (λ (o : List ℕ). IsObjectId content o) (sym name) (identifier_takes content read.0 read.1)
 
--- and it is the content of no other name
+-- a content is the content of at most one name
 pub identifier_is : (content name : List ℕ) → IsObjectId content name → identifier_in content ≡ name
 identifier_is content name is = ap (λ (r : Result (List ℕ) BerError). result_unwrap_or r []) (identifier_again content name is)
 
--- the same for octets that equal the content
+-- octets that equal the content of the identifier `name` are its content octets, and are decoded to `name`
 pub content_octets : (content octets name : List ℕ) → octets ≡ content → AreOctets content → IsObjectId content name
     → IsContentOctets octets × (identifier_in octets ≡ name)
 content_octets content octets name same h is = grind (arith, common_steps, is_ok_at, identifier_again, identifier_is)
@@ -446,14 +446,14 @@ names_differ : OrderLaw → {content other o p : List ℕ} {at : ℕ} → Beside
     → EndsFirst (octets_from content at) (octets_from other at) → Precedes o p
 names_differ law {content} {other} {o} {p} {at} b low other_low first =
     let this = cut_at content at low in
-    let that = cut_at other at other_low ∙ ap (λ (t : List ℕ). t ++ octets_from other at) (sym (same_front content other at b.alike)) in
+    let that = cut_at other at other_low ∙ ap (λ (t : List ℕ). t ++ octets_from other at) (sym (same_prefix content other at b.alike)) in
     (law.less o p).0 (same_order o p b.is.wire b.are.wire ∙ first_differs (subidentifiers o) (subidentifiers p) (take at content)
     (octets_from content at) (octets_from other at) (subst Octets this (octets_by content b.octets))
     (subst Octets that (octets_by other b.other_octets))
     (subst (λ (t : List ℕ). AreSubidentifiers t (subidentifiers o)) this b.is.parts)
     (subst (λ (t : List ℕ). AreSubidentifiers t (subidentifiers p)) that b.are.parts) (omega arith) (omega arith) first)
 
--- names compare as two numbers do that determine their order
+-- if the order of x and y determines which of two names precedes the other, then the names compare as x and y do
 decided : OrderLaw → (o p : List ℕ) (x y : ℕ) → (x < y → Precedes o p) → (x ≡ y → o ≡ p) → (y < x → Precedes p o)
     → nat_cmp x y ≡ slice_cmp nat_cmp o p
 decided law o p x y less same more = elim (cases_order x y) [
@@ -465,16 +465,16 @@ decided law o p x y less same more = elim (cases_order x y) [
 -- ---- one of two contents ends
 
 -- the longer content begins with the shorter
-goes_behind : (content other : List ℕ) (at : ℕ) → IsAlike content other at → at ≡ length other → length other < length content → IsBelow content other
-goes_behind content other at h e longer = (
+goes_after : (content other : List ℕ) (at : ℕ) → IsAlike content other at → at ≡ length other → length other < length content → IsBelow content other
+goes_after content other at h e longer = (
   drop at content,
   λ none. omega (arith, ap length none, length-drop at content, e, longer),
-  sym (take-append-drop at content) ∙ ap (λ (t : List ℕ). t ++ drop at content) (same_front content other at h ∙ take_all at other (omega (arith, e))),
+  sym (take-append-drop at content) ∙ ap (λ (t : List ℕ). t ++ drop at content) (same_prefix content other at h ∙ take_all at other (omega (arith, e))),
 )
 
 longer_below : {content other o p : List ℕ} {at : ℕ} → Beside content other o p at → at ≡ length other → length other < length content → IsBelow o p
 longer_below {content} {other} {o} {p} {at} b e longer =
-    below_from_contents content other o p b.is b.are (goes_behind content other at b.alike e longer)
+    below_from_contents content other o p b.is b.are (goes_after content other at b.alike e longer)
 
 pub one_ends : OrderLaw → {content other o p : List ℕ} {at : ℕ} → Beside content other o p at → (at ≡ length content) ⊎ (at ≡ length other)
     → nat_cmp (length content) (length other) ≡ slice_cmp nat_cmp o p
@@ -482,7 +482,7 @@ one_ends law {content} {other} {o} {p} {at} b end = decided law o p (length cont
     (λ less. inl (longer_below (turned b) (at_end (λ e. e) (λ e. omega (arith, e, less, b.alike.short))) less))
     (λ same. let e : at ≡ length content = at_end (λ e. e) (λ e. omega (arith, e, same)) in
     let equal : content ≡ other =
-    sym (take_all at content (omega (arith, e))) ∙ same_front content other at b.alike ∙ take_all at other (omega (arith, e, same)) in
+    sym (take_all at content (omega (arith, e))) ∙ same_prefix content other at b.alike ∙ take_all at other (omega (arith, e, same)) in
     one_name content o p b.is (subst (λ (t : List ℕ). IsObjectId t p) (sym equal) b.are))
     (λ more. inl (longer_below b (at_end (λ e. omega (arith, e, more, b.alike.other_short)) (λ e. e)) more))
   where

@@ -2,7 +2,7 @@
 use Rattle.std.proofs.{lemmas.Grind.common_steps, lemmas.Bool.eqb-true, lemmas.Bool.eqb-false, lemmas.List.nil_from_length}
 use Rattle.std.proofs.Common.{◌≡◌, ◌≢◌, ℕ, ◌<◌, Bool, true, false, cond, eqb, List, [], length, Result, Ok, Err, IsOk, is_ok, refl, sym, ap, subst}
 use Rattle.std.proofs.Common.{◌∙◌, arith}
-use Rattle.snmp_wire.specs.{declared.ber.error.BerError.BerError, ber.Reading.◌>>=◌, ber.Reading.checked, ber.Reading.fault_or}
+use Rattle.snmp_wire.specs.{declared.ber.error.BerError.BerError, ber.Decode.◌>>=◌, ber.Decode.checked, ber.Decode.fault_or}
 
 -- a decoding that returned `x`
 abbrev pub done : {A : Type 0} → A → Result A BerError
@@ -80,7 +80,7 @@ pub some_left : (octets : List ℕ) (is_empty : Bool)
     → is_empty ≡ eqb (length octets) 0 → is_empty ≡ false → 0 < length octets
 some_left octets is_empty e none = grind (arith, common_steps, eqb-false)
 
--- octets that were found to be empty have none
+-- if `is_empty` is true, then there are no octets
 pub none_left : (octets : List ℕ) (is_empty : Bool)
     → is_empty ≡ eqb (length octets) 0 → is_empty ≡ true → length octets ≡ 0
 none_left octets is_empty e none = eqb-true (length octets) 0 (sym e ∙ none)
@@ -100,10 +100,10 @@ gives (Ok x) value fault = a_value x (value x refl)
 gives (Err e) value fault = a_fault e (fault e refl)
 
 -- if `Gives` holds and a value was returned, it satisfies `is`
-pub given : {A : Type 0} {is : A → Type 0} {fails : BerError → Type 0} {r : Result A BerError}
+pub returned : {A : Type 0} {is : A → Type 0} {fails : BerError → Type 0} {r : Result A BerError}
     (x : A) → Gives is fails r → r ≡ Ok x → is x
-given {A} {is} x (a_value y h) e = subst is (ok_is y x e) h
-given x (a_fault d h) e = absurd cc
+returned {A} {is} x (a_value y h) e = subst is (ok_is y x e) h
+returned x (a_fault d h) e = absurd cc
 
 pub failing : {A : Type 0} {is : A → Type 0} {fails : BerError → Type 0} {r : Result A BerError}
     (e : BerError) → Gives is fails r → r ≡ Err e → fails e
@@ -117,7 +117,7 @@ pub gives_then : {A B : Type 0} {is : A → Type 0} {also : B → Type 0} {fails
 gives_then f (a_value x h) next = next x h
 gives_then f (a_fault e h) next = a_fault e h
 
--- a choice gives what both of its branches give
+-- if both branches of a choice satisfy `Gives`, then the choice does
 pub gives_either : {A : Type 0} {is : A → Type 0} {fails : BerError → Type 0}
     {r s : Result A BerError} (b : Bool)
     → (b ≡ true → Gives is fails r) → (b ≡ false → Gives is fails s)

@@ -3,7 +3,7 @@ use Rattle.std.proofs.Common.{◌≡◌, ℕ, ◌+◌, ◌*◌, ◌≤◌, List,
 use Rattle.snmp_wire.specs.{Laws.RequestsAreShort, Message.Message, Message.VarBind, Name.asking}
 use Rattle.snmp_wire.specs.Canon.{canon, canon_binding, canon_bindings, canon_fields, canon_opening}
 use Rattle.snmp_wire.specs.ber.Canon.{canon_content, canon_value}
-use Rattle.snmp_wire.proofs.{IdentifierWriting.length-name, Shortest.element_most, Shortest.length-number}
+use Rattle.snmp_wire.proofs.{WrittenIdentifiers.length-name, Shortest.element_most, Shortest.length-number}
 
 -- a message has at most 84 octets besides its community and its bindings
 message_most : (m : Message) → length (canon m) ≤ 84 + length m.community + length (canon_bindings m.bindings)

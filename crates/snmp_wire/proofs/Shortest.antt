@@ -14,16 +14,16 @@ use Rattle.snmp_wire.proofs.{ElementLaws.canon_length_short, ElementLaws.length-
 use Rattle.snmp_wire.specs.ber.Value.{Datum, integer_value, octet_string, null_value, object_id, ip_address, counter32, gauge32, time_ticks}
 use Rattle.snmp_wire.specs.ber.Value.{opaque_octets, counter64}
 use Rattle.snmp_wire.specs.ber.Spelling.{IsContent, SpellsValue, value_tag}
-use Rattle.snmp_wire.proofs.CanonLemmas.{canon_length_long, digit_most, digit_some, length-canon_length_long, length-canon_length_short}
-use Rattle.snmp_wire.proofs.CanonLemmas.{length-canon_number, number_small, number_some, octets_from_below, octets_from_zero, sized, digits_small}
-use Rattle.snmp_wire.proofs.CanonLemmas.{length_rises, number_few}
+use Rattle.snmp_wire.proofs.NumberSizes.{canon_length_long, digit_most, digit_some, length-canon_length_long, length-canon_length_short}
+use Rattle.snmp_wire.proofs.NumberSizes.{length-canon_number, number_small, number_some, octets_from_below, octets_from_zero, sized, digits_small}
+use Rattle.snmp_wire.proofs.NumberSizes.{length_rises, number_few}
 use Rattle.snmp_wire.proofs.Digits.{Octets, are_digits, digits_value, digits-suc, length-digits, both_octets, octets_by, back_octets, below_power}
-use Rattle.snmp_wire.proofs.Digits.{digits_are, front_octets}
-use Rattle.snmp_wire.proofs.IdentifierWriting.{is_object_id, length-name, name_octets}
+use Rattle.snmp_wire.proofs.Digits.{digits_are, prefix_octets}
+use Rattle.snmp_wire.proofs.WrittenIdentifiers.{is_object_id, length-name, name_octets}
 
 -- ---- numbers
 
--- the first octet of a number
+-- the first of `count + 1` octets of a number is the digit of 256 to the power `count`
 first_octet : (count n : ℕ) → get_or (octets (suc count) n) 0 0 ≡ n / 256 ^ count % 256
 first_octet count n = ap (λ ds. get_or ds 0 0) (digits-suc 256 count n)
 
@@ -47,7 +47,7 @@ negative content h = grind (arith, nat_tests)
 pub minus : (u n power : ℕ) → u + (n + 1) ≡ power → pos u -ℤ pos power ≡ negsuc n
 minus u n power e = omega (arith, ints)
 
--- numbers from zero
+-- the octets written of a number from zero to 2^64 - 1 begin with a bit 0, and are the number as unsigned octets
 unsigned_is_strict : (n : ℕ) → n < 2 ^ 64 → (get_or (canon_number (pos n)) 0 0 < 128) × (unsigned (canon_number (pos n)) ≡ n)
 unsigned_is_strict n h =
     let s = sized_number n h in
@@ -56,7 +56,7 @@ unsigned_is_strict n h =
       sym (ap unsigned text) ∙ digits_value 256 (suc s.0) n (lit< tt) (omega (arith, s.2, pow-suc 256 s.0)),
     )
 
--- negative numbers
+-- the octets written of a negative number of 32 bits are the number in two's complement
 negative_value : (n : ℕ) → n < 2 ^ 31 → twos_complement (canon_number (negsuc n)) ≡ negsuc n
 negative_value n small =
     let s = sized_number n (omega arith) in
@@ -203,7 +203,7 @@ pub record IsNoShorter (made text : List ℕ) : Type 0 where
 pub same_text : {made text : List ℕ} → text ≡ made → IsNoShorter made text
 same_text e = record { least = omega (arith, ap length e); one = λ short. e }
 
--- the same for two strings, one after the other
+-- if each of two strings is no shorter than the one made, then so are both together, one after the other
 pub both_texts : {a b c d : List ℕ} → IsNoShorter a c → IsNoShorter b d → IsNoShorter (a ++ b) (c ++ d)
 both_texts {a} {b} {c} {d} this that = grind (arith, common_steps, length-append)
 
@@ -249,11 +249,11 @@ unsigned_least content n h some first e = number_least content (pos n) h some (p
 
 -- ---- lengths
 
-long_least : (lead : List ℕ) (n : ℕ) → Octets lead → IsLongLength lead n → 128 ≤ n → IsNoShorter (canon_length n) lead
+long_least : (length_field : List ℕ) (n : ℕ) → Octets length_field → IsLongLength length_field n → 128 ≤ n → IsNoShorter (canon_length n) length_field
 unfolding length_size
-long_least lead n h l above =
+long_least length_field n h l above =
     let all : Octets ((128 + length l.digits) ∷ l.digits) = subst Octets l.parts h in
-    let size : length lead ≡ suc (length l.digits) = ap length l.parts in
+    let size : length length_field ≡ suc (length l.digits) = ap length l.parts in
     let bound : n < 256 ^ length l.digits = subst (λ (v : ℕ). v < 256 ^ length l.digits) l.value (below_power 256 l.digits all.1) in
     let less : length l.digits ≡ suc (length l.digits - 1) = omega (arith, l.some) in
     let few : length_size n ≤ length l.digits =
@@ -265,13 +265,13 @@ long_least lead n h l above =
           cc (digits_are 256 l.digits (lit< tt) all.1, canon_length_long n above);
     }
 
-length_least : (lead : List ℕ) (n : ℕ) → Octets lead → IsLength lead n → IsNoShorter (canon_length n) lead
-length_least lead n h (inl s) = same_text (s.one ∙ sym (canon_length_short n s.small))
-length_least lead n h (inr l) = ⊎_elim
+length_least : (length_field : List ℕ) (n : ℕ) → Octets length_field → IsLength length_field n → IsNoShorter (canon_length n) length_field
+length_least length_field n h (inl s) = same_text (s.one ∙ sym (canon_length_short n s.small))
+length_least length_field n h (inr l) = ⊎_elim
     (λ below.
-    let longer : length (canon_length n) < length lead = omega (arith, length-canon_length_short n below, ap length l.parts, l.some) in
+    let longer : length (canon_length n) < length length_field = omega (arith, length-canon_length_short n below, ap length l.parts, l.some) in
     record { least = omega arith; one = λ short. absurd (omega (arith, longer, short)) })
-    (λ above. long_least lead n h l above)
+    (λ above. long_least length_field n h l above)
     (cases_lt n 128)
 
 -- ---- values
@@ -297,16 +297,16 @@ pub element_least : {tag : ℕ} {content made text : List ℕ} → Octets text �
 unfolding canon_element canon_header
 element_least {tag} {content} {made} {text} h is inner =
     let all : Octets (tag ∷ is.length_octets ++ content) = subst Octets is.parts h in
-    let lead = length_least is.length_octets (length content) (front_octets is.length_octets content all.1) is.is_length in
+    let length_field = length_least is.length_octets (length content) (prefix_octets is.length_octets content all.1) is.is_length in
     let size : length text ≡ suc (length (is.length_octets ++ content)) = ap length is.parts in
     let whole = length-canon_element tag made in
     let rises : length (canon_length (length made)) ≤ length (canon_length (length content)) = length_rises (length made) (length content) inner.least in
     record {
-      least = omega (arith, size, length-append is.length_octets content, whole, rises, lead.least, inner.least);
+      least = omega (arith, size, length-append is.length_octets content, whole, rises, length_field.least, inner.least);
       one = λ short.
-          let few : length content ≤ length made = omega (arith, size, length-append is.length_octets content, whole, rises, lead.least, short) in
+          let few : length content ≤ length made = omega (arith, size, length-append is.length_octets content, whole, rises, length_field.least, short) in
           let same : content ≡ made = inner.one few in
-          let first : is.length_octets ≡ canon_length (length content) = lead.one
+          let first : is.length_octets ≡ canon_length (length content) = length_field.one
           (omega (
             arith,
             size,

@@ -8,9 +8,9 @@ use Rattle.snmp_wire.specs.declared.ber.error.BerError.TheVariants as error
 use Rattle.snmp_wire.specs.ber.Number.{IsInteger, IsUnsigned, lenient}
 use Rattle.snmp_wire.specs.ber.Value.{Datum, integer_value, octet_string, null_value, object_id, ip_address, counter32, gauge32, time_ticks}
 use Rattle.snmp_wire.specs.ber.Value.{opaque_octets, counter64, no_such_object, no_such_instance, end_of_mib_view}
-use Rattle.snmp_wire.specs.ber.Reading.{integer_of, has_width, unsigned_of, empty_of, typed_value}
+use Rattle.snmp_wire.specs.ber.Decode.{integer_of, has_width, unsigned_of, empty_of, typed_value}
 use Rattle.snmp_wire.proofs.ReadingLaws.{Gives, a_fault, a_value, done, gives_either, gives_so, gives_then}
-use Rattle.snmp_wire.proofs.IdentifierReading.{identifier_again, identifier_gives}
+use Rattle.snmp_wire.proofs.ReadIdentifiers.{identifier_again, identifier_gives}
 
 -- ---- numbers
 

@@ -12,11 +12,11 @@ pub kept : (k start : ℕ) (old new : List ℕ)
 kept k start old new h e =
     sym (take-take k start new h) ∙ ap (take k) e ∙ take-take k start old h
 
--- if `front` is written before `back`, both together are written
-pub writes_then : {old : List ℕ} {start middle end : ℕ} {front back mid new : List ℕ}
-    → Writes old middle end back mid → Writes mid start middle front new
-    → Writes old start end (front ++ back) new
-writes_then {old} {start} {middle} {end} {front} {back} {mid} {new} w v = grind (arith, common_steps, length-append, kept, append_assoc)
+-- if `prefix` is written before `back`, both together are written
+pub writes_then : {old : List ℕ} {start middle end : ℕ} {prefix back mid new : List ℕ}
+    → Writes old middle end back mid → Writes mid start middle prefix new
+    → Writes old start end (prefix ++ back) new
+writes_then {old} {start} {middle} {end} {prefix} {back} {mid} {new} w v = grind (arith, common_steps, length-append, kept, append_assoc)
 
 -- if `text` is written, so is any string that equals it
 pub writes_same : {old : List ℕ} {start end : ℕ} {text new other : List ℕ}
@@ -31,7 +31,7 @@ pub flat_map-drop : {X : Type 0} (f : X → List ℕ) (xs : List X) (i : ℕ) (x
     → flat_map f (drop i xs) ≡ f x ++ flat_map f (drop (i + 1) xs)
 flat_map-drop f xs i x d h e = grind (arith, common_steps, drop_more)
 
--- the length of the pieces from index `i` on
+-- the pieces from index `i` on are as long as the piece at `i` and the pieces after it
 pub length-flat_map_drop : {X : Type 0} (f : X → List ℕ) (xs : List X) (i : ℕ) (x d : X)
     → i < length xs → x ≡ get_or xs i d
     → length (flat_map f (drop i xs)) ≡ length (f x) + length (flat_map f (drop (i + 1) xs))
@@ -44,7 +44,7 @@ flat_map_rest f xs zero = omega arith
 flat_map_rest f [] (suc i) = omega arith
 flat_map_rest f (x ∷ xs) (suc i) = grind (arith, common_steps, flat_map_rest f xs i, length-append)
 
--- one more piece is written before the pieces that are
+-- if the pieces from index `i` on were written, and then the piece before them, then the pieces from `i - 1` on were written
 pub writes_piece : {X : Type 0} {old mid new : List ℕ} {start middle end : ℕ}
     (f : X → List ℕ) (xs : List X) (i : ℕ) (x d : X)
     → 0 < i → i ≤ length xs → x ≡ get_or xs (i - 1) d
@@ -63,10 +63,10 @@ pub piece_fits : {X : Type 0} {old mid : List ℕ} {middle end : ℕ}
     → length (f x) ≤ middle
 piece_fits f xs i x d some h e w room =
     let next : i - 1 + 1 ≡ i = omega arith in
-    let behind = ap (λ k. length (flat_map f (drop k xs))) next in
-    omega (arith, length-flat_map_drop f xs (i - 1) x d (omega arith) e, behind, flat_map_rest f xs (i - 1), w.begins)
+    let suffix = ap (λ k. length (flat_map f (drop k xs))) next in
+    omega (arith, length-flat_map_drop f xs (i - 1) x d (omega arith) e, suffix, flat_map_rest f xs (i - 1), w.begins)
 
--- at index 0 all pieces are written
+-- if the pieces from index 0 on are written, then all pieces are
 pub writes_pieces : {X : Type 0} {old new : List ℕ} {start end : ℕ}
     (f : X → List ℕ) (xs : List X) (i : ℕ) → i ≤ 0
     → Writes old start end (flat_map f (drop i xs)) new

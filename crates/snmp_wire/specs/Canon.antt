@@ -42,8 +42,8 @@ canon message =
 
 -- what is between the first length of a message and its bindings, if the bindings take `total`
 -- octets together
-unfoldable pub canon_front : Message → ℕ → List ℕ
-canon_front message total =
+unfoldable pub canon_prefix : Message → ℕ → List ℕ
+canon_prefix message total =
     canon_opening message
     ++ (canon_header (kind_tag message.kind)
     (length (canon_fields message) + length (canon_header sequence_tag total) + total)
@@ -53,8 +53,8 @@ canon_front message total =
 -- together
 unfoldable pub canon_head : Message → ℕ → List ℕ
 canon_head message total =
-    canon_header sequence_tag (length (canon_front message total) + total)
-    ++ canon_front message total
+    canon_header sequence_tag (length (canon_prefix message total) + total)
+    ++ canon_prefix message total
 
 -- `binding` can be written: its name has an encoding, and its value can be written
 pub record IsEncodable (binding : VarBind) : Type 0 where

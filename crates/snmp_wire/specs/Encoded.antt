@@ -1,8 +1,9 @@
 -- Encoded bindings.
 use Rattle.std.specs.Prelude.{◌≡◌, ℕ, List, [], take, nat_lt, if◌then◌else◌}
 use Rattle.std.specs.Result.{result_unwrap_or}
-use Rattle.snmp_wire.specs.{declared.in_place.Octets.Octets, Canon.canon_binding, Message.VarBind}
-use Rattle.snmp_wire.specs.{Message.null_value, Range.IsBindingInRange, Reading.binding_at}
+use Rattle.snmp_wire.specs.{declared.inline_octets.Octets.Octets, Canon.canon_binding}
+use Rattle.snmp_wire.specs.{Message.VarBind}
+use Rattle.snmp_wire.specs.{Message.null_value, Range.IsBindingInRange, Decode.binding_at}
 
 -- the first binding that `octets` encode, or the binding of the empty name and NULL if they don't
 -- begin with a binding

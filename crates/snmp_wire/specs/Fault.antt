@@ -30,41 +30,41 @@ pub record HasForbiddenLength (octets : List ℕ) : Type 0 where
   pub forbidden : (first ≡ 0x80) ⊎ (0x85 ≤ first)
 
 -- the elements of a message, by their positions in it
-pub data Place : Type 0 where
-  at_message : Place
-  at_version : Place
-  at_community : Place
-  at_pdu : Place
-  at_id : Place
-  at_a : Place
-  at_b : Place
-  at_list : Place
-  at_binding : Place
-  at_name : Place
-  at_value : Place
+pub data Position : Type 0 where
+  at_message : Position
+  at_version : Position
+  at_community : Position
+  at_pdu : Position
+  at_id : Position
+  at_a : Position
+  at_b : Position
+  at_list : Position
+  at_binding : Position
+  at_name : Position
+  at_value : Position
 
 -- the position of the first element inside the element at this position, if that consists of
 -- elements
-abbrev pub first_inside : Place → Option Place
+abbrev pub first_inside : Position → Option Position
 first_inside at_message = Some at_version
 first_inside at_pdu = Some at_id
 first_inside at_list = Some at_binding
 first_inside at_binding = Some at_name
-first_inside place = None
+first_inside position = None
 
--- the position of the next element inside the same one, if any
-abbrev pub next_behind : Place → Option Place
-next_behind at_version = Some at_community
-next_behind at_community = Some at_pdu
-next_behind at_id = Some at_a
-next_behind at_a = Some at_b
-next_behind at_b = Some at_list
-next_behind at_binding = Some at_binding
-next_behind at_name = Some at_value
-next_behind place = None
+-- the position of the next element inside the same outer element, if there can be one
+abbrev pub next_after : Position → Option Position
+next_after at_version = Some at_community
+next_after at_community = Some at_pdu
+next_after at_id = Some at_a
+next_after at_a = Some at_b
+next_after at_b = Some at_list
+next_after at_binding = Some at_binding
+next_after at_name = Some at_value
+next_after position = None
 
 -- `tag` is allowed at the position
-abbrev pub AllowsTag : Place → ℕ → Type 0
+abbrev pub AllowsTag : Position → ℕ → Type 0
 AllowsTag at_message tag = tag ≡ sequence_tag
 AllowsTag at_version tag = tag ≡ 0x02
 AllowsTag at_community tag = tag ≡ 0x04
@@ -78,64 +78,64 @@ AllowsTag at_name tag = tag ≡ 0x06
 AllowsTag at_value tag = (value : Datum) × (tag ≡ value_tag value)
 
 -- an element of the position is required: a binding if octets are left, any other element always
-abbrev pub Calls : Place → List ℕ → Type 0
+abbrev pub Calls : Position → List ℕ → Type 0
 Calls at_binding here = here ≢ []
-Calls place here = Unit {0}
+Calls position here = Unit {0}
 
 -- an element of the position is required at the start of `here`, which is what is left of the
 -- element around it
-pub data Expects (octets : List ℕ) : Place → List ℕ → Type 0 where
+pub data Expects (octets : List ℕ) : Position → List ℕ → Type 0 where
   starts : Expects octets at_message octets
-  inside : (place next : Place) (here : List ℕ) (tag : ℕ) (content rest : List ℕ)
-      → Expects octets place here → AllowsTag place tag → BeginsWith tag content here rest
-      → first_inside place ≡ Some next → Calls next content → Expects octets next content
-  behind : (place next : Place) (here : List ℕ) (tag : ℕ) (content rest : List ℕ)
-      → Expects octets place here → AllowsTag place tag → BeginsWith tag content here rest
-      → next_behind place ≡ Some next → Calls next rest → Expects octets next rest
+  inside : (position next : Position) (here : List ℕ) (tag : ℕ) (content rest : List ℕ)
+      → Expects octets position here → AllowsTag position tag → BeginsWith tag content here rest
+      → first_inside position ≡ Some next → Calls next content → Expects octets next content
+  suffix : (position next : Position) (here : List ℕ) (tag : ℕ) (content rest : List ℕ)
+      → Expects octets position here → AllowsTag position tag → BeginsWith tag content here rest
+      → next_after position ≡ Some next → Calls next rest → Expects octets next rest
 
 -- `octets` have a length of a forbidden form, or an inner element that is missing from the element
 -- around it or reaches past its end
 pub record HasBadLength (octets : List ℕ) : Type 0 where
-  pub place : Place
+  pub position : Position
   pub here : List ℕ
-  pub expected : Expects octets place here
-  pub bad : HasForbiddenLength here ⊎ ((place ≢ at_message) × EndsEarly here)
+  pub expected : Expects octets position here
+  pub bad : HasForbiddenLength here ⊎ ((position ≢ at_message) × EndsEarly here)
 
 -- `octets` have a tag that isn't allowed at its position
 pub record HasBadTag (octets : List ℕ) : Type 0 where
-  pub place : Place
+  pub position : Position
   pub here : List ℕ
-  pub expected : Expects octets place here
+  pub expected : Expects octets position here
   pub tag : ℕ
   pub after : List ℕ
   pub parts : here ≡ tag ∷ after
-  pub bad : AllowsTag place tag → ⊥
+  pub bad : AllowsTag position tag → ⊥
 
 -- `octets` have a content that no value with its tag has
 pub record HasBadContent (octets : List ℕ) : Type 0 where
-  pub place : Place
+  pub position : Position
   pub here : List ℕ
-  pub expected : Expects octets place here
-  pub is_value : first_inside place ≡ None
+  pub expected : Expects octets position here
+  pub is_value : first_inside position ≡ None
   pub tag : ℕ
   pub content : List ℕ
   pub after : List ℕ
-  pub allowed : AllowsTag place tag
+  pub allowed : AllowsTag position tag
   pub begins : BeginsWith tag content here after
   pub bad : (value : Datum) → tag ≡ value_tag value → IsContent lenient value content → ⊥
 
 -- `octets` have octets left over after the last element of a SEQUENCE or a PDU, and the tag of
 -- that element is allowed at its position
 pub record HasLeftOver (octets : List ℕ) : Type 0 where
-  pub place : Place
+  pub position : Position
   pub here : List ℕ
-  pub expected : Expects octets place here
-  pub is_inner : place ≢ at_message
-  pub is_last : next_behind place ≡ None
+  pub expected : Expects octets position here
+  pub is_inner : position ≢ at_message
+  pub is_last : next_after position ≡ None
   pub tag : ℕ
   pub content : List ℕ
   pub after : List ℕ
-  pub allowed : AllowsTag place tag
+  pub allowed : AllowsTag position tag
   pub begins : BeginsWith tag content here after
   pub some : after ≢ []
 

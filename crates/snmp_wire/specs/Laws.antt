@@ -12,8 +12,8 @@ OneMessage =
     → Spells m b → Spells n c → b ++ rest ≡ c ++ more → (m ≡ n) × (b ≡ c)
 
 -- if octets encode a message, its parts are of their types
-abbrev pub SpeltIsOfType : Type 0
-SpeltIsOfType = (m : Message) (octets : List ℕ) → Spells m octets → IsMessageOfType m
+abbrev pub EncodingIsOfType : Type 0
+EncodingIsOfType = (m : Message) (octets : List ℕ) → Spells m octets → IsMessageOfType m
 
 -- a strict encoding is also one in the forms that are accepted
 abbrev pub StrictIsRead : Type 0

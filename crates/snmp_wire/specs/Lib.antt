@@ -6,7 +6,7 @@ pub mod Message
 pub mod Name
 pub mod Parts
 pub mod Range
-pub mod Reading
+pub mod Decode
 pub mod Shortest
 pub mod Sizes
 pub mod Spelling

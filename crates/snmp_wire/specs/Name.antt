@@ -5,7 +5,7 @@ use Rattle.std.specs.Result.{result_unwrap_or}
 use Rattle.snmp_oid.specs.Identifier.{IsBelow, IsWire, Precedes}
 use Rattle.snmp_wire.specs.Message.{VarBind, null_value}
 use Rattle.snmp_wire.specs.ber.Identifier.{IsObjectId, IsSubidentifier, subidentifiers}
-use Rattle.snmp_wire.specs.{ber.Number.AreOctets, ber.Reading.identifier_of}
+use Rattle.snmp_wire.specs.{ber.Number.AreOctets, ber.Decode.identifier_of}
 
 -- the identifier that `content` encodes, or the empty one if it encodes none
 abbrev pub identifier_in : List ℕ → List ℕ
@@ -47,7 +47,7 @@ pub record EncodedNames : Type 0 where
 
 -- the subidentifier that contains the octet at `at` has its last octet at `end`
 pub record EndsAt (content : List ℕ) (at end : ℕ) : Type 0 where
-  pub behind : at ≤ end
+  pub suffix : at ≤ end
   pub within : end < length content
   pub goes_on : (k : ℕ) → at ≤ k → k < end → 128 ≤ get_or content k 0
   pub ends : get_or content end 0 < 128

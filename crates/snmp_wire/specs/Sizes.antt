@@ -3,7 +3,7 @@ use Rattle.std.specs.Prelude.{◌≡◌, ◌≤◌, ℕ, ◌+◌, length}
 use Rattle.snmp_wire.specs.ber.Canon.{canon_header, canon_value}
 use Rattle.snmp_wire.specs.{ber.Spelling.sequence_tag, Message.Message, Spelling.kind_tag}
 use Rattle.snmp_wire.specs.ber.Value.{integer_value, octet_string}
-use Rattle.snmp_wire.specs.Canon.{canon, canon_bindings, canon_fields, canon_front, canon_head}
+use Rattle.snmp_wire.specs.Canon.{canon, canon_bindings, canon_fields, canon_prefix, canon_head}
 use Rattle.snmp_wire.specs.Canon.{canon_opening}
 
 -- the length of the content of a PDU, if its bindings take `total` octets together
@@ -24,15 +24,15 @@ pub record MessageSizes : Type 0 where
       ≡ length (canon_value (integer_value m.id)) + length (canon_value (integer_value m.a))
       + length (canon_value (integer_value m.b))
   -- between the first length and the first binding
-  pub front : (m : Message) (total : ℕ)
-      → length (canon_front m total)
+  pub prefix : (m : Message) (total : ℕ)
+      → length (canon_prefix m total)
       ≡ length (canon_opening m) + length (canon_header (kind_tag m.kind) (pdu_size m total))
       + length (canon_fields m) + length (canon_header sequence_tag total)
   -- before the first binding
   pub head : (m : Message) (total : ℕ)
       → length (canon_head m total)
-      ≡ length (canon_header sequence_tag (length (canon_front m total) + total))
-      + length (canon_front m total)
+      ≡ length (canon_header sequence_tag (length (canon_prefix m total) + total))
+      + length (canon_prefix m total)
   -- the whole message
   pub whole : (m : Message)
       → length (canon m)

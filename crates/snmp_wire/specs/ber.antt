@@ -4,7 +4,7 @@ pub mod Length
 pub mod Number
 pub mod Owned
 pub mod Range
-pub mod Reading
+pub mod Decode
 pub mod Sizes
 pub mod Spelling
 pub mod Value

@@ -37,7 +37,7 @@ impl NameBuffer {
     {
         let content = name.content();
         let mut octets = [0; MAX_CONTENT];
-        copy_to_front(&mut octets, content);
+        copy_to_start(&mut octets, content);
         NameBuffer {
             octets,
             len: content.len(),
@@ -60,14 +60,14 @@ impl NameBuffer {
         ensures identifier { IsIdentifier name.now }
     {
         let content = name.content();
-        copy_to_front(&mut self.octets, content);
+        copy_to_start(&mut self.octets, content);
         self.len = content.len();
     }
 }
 
 /// Copies `content`, of at most 640 octets, to the start of `octets`.
 #[inline]
-fn copy_to_front(octets: &mut [u8; MAX_CONTENT], content: &[u8])
+fn copy_to_start(octets: &mut [u8; MAX_CONTENT], content: &[u8])
     requires { length content.now ≤ 640 }
     ensures { take (length content.now) octets.new ≡ content.now }
 {
@@ -76,7 +76,7 @@ fn copy_to_front(octets: &mut [u8; MAX_CONTENT], content: &[u8])
 
 /// Returns the length, in octets, of the shortest encoding of the binding that requests `name`.
 #[inline]
-#[tactic(auto, using(crate::proofs::BindingWriting::sizes_null))]
+#[tactic(auto, using(crate::proofs::WrittenBindings::sizes_null))]
 pub fn asking_size(name: &EncodedName<'_>) -> u64
     ensures { result ≡ length (canon_binding (asking name.now)) }
 {

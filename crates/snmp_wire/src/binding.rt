@@ -1,11 +1,11 @@
 //! A variable binding, and the list of the bindings of a message.
 ghost use Rattle.std.specs.Prelude.{◌≡◌, ℕ, List, [], ◌∷◌, true, false, length, IsOk, Ok, ◌+◌, ◌^◌};
 ghost use Rattle.std.specs.Prelude.{◌<◌, ◌≤◌, ◌↔◌, ◌++◌, drop, IfSome, IfNone, IsSome, ⊤};
-ghost use Rattle.snmp_wire.specs.{Message.var_bind, ber.Reading.AgreesBy, ber.Reading.checked};
+ghost use Rattle.snmp_wire.specs.{Message.var_bind, ber.Decode.AgreesBy, ber.Decode.checked};
 ghost use Rattle.snmp_wire.specs.{ber.Canon.canon_value, ber.Spelling.value_tag};
 ghost use Rattle.snmp_wire.specs.ber.Writing.{Writes};
 ghost use Rattle.snmp_wire.specs.ber.Value.{datum, null_value, object_id};
-ghost use Rattle.snmp_wire.specs.Reading as reading;
+ghost use Rattle.snmp_wire.specs.Decode as reading;
 ghost use Rattle.snmp_oid.specs.Identifier.{IsWire};
 ghost use Rattle.snmp_wire.specs.{Canon.IsEncodable, Canon.canon_binding, Range.IsBindingInRange};
 
@@ -52,7 +52,7 @@ pub struct Bindings<'a> {
 impl<'a> Model for Bindings<'a> {
     ghost use Rattle.std.specs.Prelude.{List, IsOk};
     ghost use Rattle.snmp_wire.specs.Message.{VarBind};
-    ghost use Rattle.snmp_wire.specs.Reading as reading;
+    ghost use Rattle.snmp_wire.specs.Decode as reading;
 
     ghost Value = { List VarBind };
 
@@ -64,7 +64,7 @@ impl<'a> Model for Bindings<'a> {
 impl<'a> Bindings<'a> {
     ghost use Rattle.std.specs.Prelude.{◌≡◌, [], ◌∷◌, true, false, IsOk, IfSome, IfNone};
     ghost use Rattle.snmp_wire.specs.Message.{var_bind};
-    ghost use Rattle.snmp_wire.specs.Reading as reading;
+    ghost use Rattle.snmp_wire.specs.Decode as reading;
 
     /// Returns the bindings that `octets` encode, one after the other. The octets must be known to
     /// be bindings.
@@ -78,7 +78,7 @@ impl<'a> Bindings<'a> {
 
     /// Returns the remaining bindings as an iterator of their own.
     #[inline]
-    pub fn left(&self) -> Bindings<'a>
+    pub fn remaining(&self) -> Bindings<'a>
         ensures { result ≡ self.now }
     {
         Bindings { rest: self.rest }
@@ -166,7 +166,7 @@ pub struct BindingRef<'a> {
 impl<'a> Model for BindingRef<'a> {
     ghost use Rattle.std.specs.Prelude.{IsOk};
     ghost use Rattle.snmp_wire.specs.Message.{VarBind};
-    ghost use Rattle.snmp_wire.specs.Reading as reading;
+    ghost use Rattle.snmp_wire.specs.Decode as reading;
 
     ghost Value = { VarBind };
 
@@ -264,8 +264,8 @@ fn short_fields_at<'a>(octets: &'a [u8]) -> Option<(Fields<'a>, &'a [u8])>
                 return None;
             }
             let tag = value[0];
-            let (_, behind) = value.split_at(2);
-            let (content, rest) = behind.split_at(value_size);
+            let (_, suffix) = value.split_at(2);
+            let (content, rest) = suffix.split_at(value_size);
             Some((Fields { name, tag, content }, rest))
         }
         _ => None,
@@ -273,7 +273,7 @@ fn short_fields_at<'a>(octets: &'a [u8]) -> Option<(Fields<'a>, &'a [u8])>
 }
 
 /// Does what [`fields_at`] does, for lengths of any form.
-#[tactic(auto, unfolding(crate::specs::Reading::fields_at))]
+#[tactic(auto, unfolding(crate::specs::Decode::fields_at))]
 // `inline(always)`: called for each binding that is checked and has a length in the long form.
 #[inline(always)]
 fn any_fields_at<'a>(octets: &'a [u8]) -> Result<(Fields<'a>, &'a [u8]), BerError>
@@ -285,7 +285,7 @@ fn any_fields_at<'a>(octets: &'a [u8]) -> Result<(Fields<'a>, &'a [u8]), BerErro
 
 /// Returns the fields of the binding with this content. Fails if octets are left over after the
 /// value.
-#[tactic(auto, unfolding(crate::specs::Reading::fields_of))]
+#[tactic(auto, unfolding(crate::specs::Decode::fields_of))]
 // `inline(always)`: it has a single caller.
 #[inline(always)]
 fn fields_of<'a>(content: &'a [u8]) -> Result<Fields<'a>, BerError>
@@ -368,7 +368,7 @@ fn read_binding<'a>(fields: Fields<'a>, into: &mut Binding<'a>)
 }
 
 /// Checks the contents of the name and the value.
-#[tactic(auto, unfolding(crate::specs::Reading::binding_of))]
+#[tactic(auto, unfolding(crate::specs::Decode::binding_of))]
 #[inline]
 fn check_binding(fields: Fields<'_>) -> Result<(), BerError>
     ensures { AgreesBy (λ u. u) result

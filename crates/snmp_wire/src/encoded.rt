@@ -1,7 +1,7 @@
 //! Bindings stored as their encodings, as a table stores its rows.
 ghost use Rattle.std.specs.Prelude.{◌≡◌, length, IfOk, Ok};
 ghost use Rattle.snmp_wire.specs.Encoded.{IsKept, binding_in, octets_of};
-ghost use Rattle.snmp_wire.specs.ber.Reading as reading;
+ghost use Rattle.snmp_wire.specs.ber.Decode as reading;
 ghost use Rattle.snmp_wire.specs.Canon.{IsEncodable, canon_binding};
 ghost use Rattle.snmp_wire.specs.Message.{datum, object_id, var_bind};
 ghost use Rattle.snmp_wire.specs.Range.{IsBindingInRange, IsInRange};
@@ -9,7 +9,7 @@ ghost use Rattle.snmp_wire.specs.Range.{IsBindingInRange, IsInRange};
 use crate::ber::tag::{OBJECT_IDENTIFIER, SEQUENCE};
 use crate::ber::{ValueRef, inner_at};
 use crate::binding::{Binding, Bindings, pair_size, put_pair};
-use crate::in_place::{ELSEWHERE, IN_PLACE, Octets};
+use crate::inline_octets::{MAX_INLINE, ON_HEAP, Octets};
 use crate::name::EncodedName;
 use snmp_oid::Oid;
 use std::alloc::{AllocError, Global};
@@ -50,7 +50,7 @@ impl EncodedBinding {
         ensures { IfOk result
             (λ binding. binding ≡ record { name = name.now; value = datum value.now }) }
     {
-        let octets = encoded(alloc, name, value)?;
+        let octets = encode_pair(alloc, name, value)?;
         Ok(EncodedBinding { octets })
     }
 
@@ -100,8 +100,8 @@ fn name_in(octets: &[u8]) -> &[u8]
 {
     match octets {
         [_, size, _, name_size, ..] if *size < 0x80 && *name_size < 0x80 => {
-            let (_, behind) = octets.split_at(4);
-            let (name, _) = behind.split_at(usize::from(*name_size));
+            let (_, suffix) = octets.split_at(4);
+            let (name, _) = suffix.split_at(usize::from(*name_size));
             name
         }
         _ => name_in_long(octets),
@@ -125,16 +125,16 @@ fn name_in_long(octets: &[u8]) -> &[u8]
 
 /// Returns the shortest encoding of the binding of `name` and `value`. Fails only if memory runs
 /// out.
-fn encoded(alloc: Global, name: &Oid, value: &ValueRef<'_>) -> Result<Octets, AllocError>
+fn encode_pair(alloc: Global, name: &Oid, value: &ValueRef<'_>) -> Result<Octets, AllocError>
     requires { IsEncodable (record { name = name.now; value = datum value.now }) }
     ensures { IfOk result (λ octets. octets_of octets
         ≡ canon_binding (record { name = name.now; value = datum value.now })) }
 {
     let size = pair_size(name, value) as usize;
-    if size > IN_PLACE {
+    if size > MAX_INLINE {
         return encoded_elsewhere(alloc, size, name, value);
     }
-    let mut few = [0; IN_PLACE];
+    let mut few = [0; MAX_INLINE];
     let _ = put_pair(&mut few, size, name, value);
     Ok(Octets {
         many: Vec::new(alloc),
@@ -143,10 +143,10 @@ fn encoded(alloc: Global, name: &Oid, value: &ValueRef<'_>) -> Result<Octets, Al
     })
 }
 
-/// Does what [`encoded`] does for an encoding of more than [`IN_PLACE`] octets: allocates memory
-/// for it. The encoding has `size` octets.
+/// Does what [`encode_pair`] does for an encoding of more than [`MAX_INLINE`] octets: allocates
+/// memory for it. The encoding has `size` octets.
 #[inline(never)]
-#[tactic(auto, using(crate::proofs::BindingWriting::encoded))]
+#[tactic(auto, using(crate::proofs::WrittenBindings::encoded))]
 fn encoded_elsewhere(
     alloc: Global,
     size: usize,
@@ -165,7 +165,7 @@ fn encoded_elsewhere(
     let _ = put_pair(many.as_mut_slice(), size, name, value);
     Ok(Octets {
         many,
-        size: ELSEWHERE,
-        few: [0; IN_PLACE],
+        size: ON_HEAP,
+        few: [0; MAX_INLINE],
     })
 }

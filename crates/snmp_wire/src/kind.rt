@@ -1,7 +1,7 @@
 //! The kinds of PDU.
 ghost use Rattle.std.specs.Prelude.{◌≡◌};
-ghost use Rattle.snmp_wire.specs.Reading as reading;
-ghost use Rattle.snmp_wire.specs.{ber.Reading.AgreesBy, Spelling.kind_tag};
+ghost use Rattle.snmp_wire.specs.Decode as reading;
+ghost use Rattle.snmp_wire.specs.{ber.Decode.AgreesBy, Spelling.kind_tag};
 
 use crate::ber::BerError;
 
@@ -27,7 +27,7 @@ pub enum Kind {
 }
 
 /// Returns the kind whose tag is `tag`, or [`BerError::Tag`] if there is none.
-#[tactic(auto, unfolding(crate::specs::Reading::kind_of))]
+#[tactic(auto, unfolding(crate::specs::Decode::kind_of))]
 // `inline(always)`: its single caller decodes each message.
 #[inline(always)]
 pub(crate) fn kind_of(tag: u8) -> Result<Kind, BerError>

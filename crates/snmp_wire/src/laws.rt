@@ -5,7 +5,7 @@ ghost use Rattle.snmp_wire.specs.{ber.Sizes.ElementSizes, declared.ber.error.Ber
 ghost use Rattle.snmp_wire.specs.Fault.{IsFault};
 ghost use Rattle.snmp_wire.specs.{Message.Message, Sizes.MessageSizes, Spelling.Spells};
 ghost use Rattle.snmp_wire.specs.Laws.{EncodingIsShortest, EncodingIsStrict, HasPieces, OneMessage};
-ghost use Rattle.snmp_wire.specs.Laws.{OneShortestEncoding, RequestsAreShort, SpeltIsOfType};
+ghost use Rattle.snmp_wire.specs.Laws.{OneShortestEncoding, RequestsAreShort, EncodingIsOfType};
 ghost use Rattle.snmp_wire.specs.Laws.{StrictIsRead};
 
 /// Octets encode at most one message, and no encoding is a proper prefix of another.
@@ -24,8 +24,8 @@ pub fn no_fault()
 /// If octets encode a message, its parts are of their types: its numbers are within their ranges,
 /// its strings are octets, and its identifiers have encodings.
 #[inline]
-pub fn spelt_is_of_type()
-    ensures { SpeltIsOfType }
+pub fn encoding_is_of_type()
+    ensures { EncodingIsOfType }
 {}
 
 /// A strict encoding of a message is also one in the forms that are accepted, so
@@ -59,29 +59,29 @@ pub fn one_shortest_encoding()
 
 /// The encoding that is written of a message is its head, followed by its bindings in turn.
 #[inline]
-#[tactic(auto, using(crate::proofs::MessageWriting::canon_parts))]
+#[tactic(auto, using(crate::proofs::WrittenMessages::canon_parts))]
 pub fn pieces()
     ensures { HasPieces }
 {}
 
 /// Says how many octets the shortest encodings of lengths, whole numbers and elements take.
 #[inline]
-#[tactic(auto, using(std::proofs::lemmas::Grind::common_steps, crate::proofs::CanonLemmas::element_lengths))]
+#[tactic(auto, using(std::proofs::lemmas::Grind::common_steps, crate::proofs::NumberSizes::element_lengths))]
 pub fn element_sizes()
     ensures { ElementSizes }
 {}
 
 /// Says how many octets the parts of a message's shortest encoding take.
 #[inline]
-#[tactic(auto, using(std::proofs::lemmas::Grind::common_steps, crate::proofs::MessageWriting::message_lengths))]
+#[tactic(auto, using(std::proofs::lemmas::Grind::common_steps, crate::proofs::WrittenMessages::message_lengths))]
 pub fn message_sizes()
     ensures { MessageSizes }
 {
     element_sizes();
 }
 
-/// A request for one name, whatever its kind, has at most 1,000 octets, if its community has at most
-/// 255 octets. An [`Oid`](crate::Oid) has at most 128 numbers.
+/// A request for one name, whatever its kind, has at most 1,000 octets, if its community has at
+/// most 255 octets. An [`Oid`](crate::Oid) has at most 128 numbers.
 #[inline]
 #[tactic(auto, using(crate::proofs::Requests::short_request))]
 pub fn requests_are_short()

@@ -34,7 +34,7 @@ mod asking;
 mod ber;
 mod binding;
 mod encoded;
-mod in_place;
+mod inline_octets;
 mod kind;
 mod laws;
 mod message;
@@ -53,8 +53,7 @@ pub use snmp_oid::{Oid, OidError, OidTextError, parse_numeric, read_numeric, wri
 
 // Laws, for proofs and readers.
 pub use laws::{
-    element_sizes, encoding_is_shortest, encoding_is_strict, message_sizes, no_fault,
-    one_shortest_encoding, one_spelling, pieces, requests_are_short, spelt_is_of_type,
-    strict_is_read,
+    element_sizes, encoding_is_of_type, encoding_is_shortest, encoding_is_strict, message_sizes,
+    no_fault, one_shortest_encoding, one_spelling, pieces, requests_are_short, strict_is_read,
 };
 pub use name::encoded_names;

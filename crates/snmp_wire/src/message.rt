@@ -3,13 +3,13 @@ ghost use Rattle.std.specs.Prelude.{◌≡◌, ℕ, List, ◌++◌, IfOk, IfErr,
 ghost use Rattle.std.specs.Prelude.{length, drop, take, IfSome, IfNone, IsSome, All};
 ghost use Rattle.std.specs.List.{AllByRecursion};
 ghost use Rattle.snmp_wire.specs.{Fault.IsFault, ber.Value.integer_value, ber.Value.octet_string};
-ghost use Rattle.snmp_wire.specs.{ber.Reading.AgreesBy, Spelling.Spells, ber.Canon.canon_value};
+ghost use Rattle.snmp_wire.specs.{ber.Decode.AgreesBy, Spelling.Spells, ber.Canon.canon_value};
 ghost use Rattle.snmp_wire.specs.{Parts.parts_message, Parts.with_bindings, ber.Number.AreOctets};
 ghost use Rattle.snmp_wire.specs.Range.{IsBindingInRange, IsMessageInRange};
 ghost use Rattle.snmp_wire.specs.{Shortest.IsShortestEncoding, ber.Writing.Writes};
 ghost use Rattle.snmp_wire.specs.Message.{Message, VarBind, var_bind, var_binds};
-ghost use Rattle.snmp_wire.specs.Reading as reading;
-ghost use Rattle.snmp_wire.specs.Canon.{IsEncodable, canon, canon_bindings, canon_front};
+ghost use Rattle.snmp_wire.specs.Decode as reading;
+ghost use Rattle.snmp_wire.specs.Canon.{IsEncodable, canon, canon_bindings, canon_prefix};
 ghost use Rattle.snmp_wire.specs.Canon.{canon_head};
 
 use crate::ber::tag::{INTEGER, OCTET_STRING, SEQUENCE};
@@ -43,7 +43,7 @@ pub struct MessageRef<'a> {
 impl<'a> Model for MessageRef<'a> {
     ghost use Rattle.std.specs.Prelude.{IsOk};
     ghost use Rattle.snmp_wire.specs.Message.{Message};
-    ghost use Rattle.snmp_wire.specs.Reading as reading;
+    ghost use Rattle.snmp_wire.specs.Decode as reading;
 
     ghost Value = { Message };
 
@@ -135,7 +135,7 @@ pub fn decode(datagram: &[u8]) -> Result<MessageRef<'_>, BerError>
 }
 
 /// Returns the message that `octets` encode.
-#[tactic(auto, unfolding(crate::specs::Reading::message_of))]
+#[tactic(auto, unfolding(crate::specs::Decode::message_of))]
 fn message_of<'a>(octets: &'a [u8]) -> Result<MessageRef<'a>, BerError>
     ensures { AgreesBy (λ message. message) result (reading.message_of octets.now) }
 {
@@ -151,7 +151,7 @@ fn message_of<'a>(octets: &'a [u8]) -> Result<MessageRef<'a>, BerError>
 }
 
 /// Returns the content of the outermost element, which must be a SEQUENCE with no octets after it.
-#[tactic(auto, unfolding(crate::specs::Reading::outermost_of))]
+#[tactic(auto, unfolding(crate::specs::Decode::outermost_of))]
 #[inline]
 fn outermost_of(octets: &[u8]) -> Result<&[u8], BerError>
     ensures { AgreesBy (λ content. content.now) result (reading.outermost_of octets.now) }
@@ -172,7 +172,7 @@ fn outermost_of(octets: &[u8]) -> Result<&[u8], BerError>
 }
 
 /// Returns the message of this version, community and kind whose PDU has the content `content`.
-#[tactic(auto, unfolding(crate::specs::Reading::pdu_of))]
+#[tactic(auto, unfolding(crate::specs::Decode::pdu_of))]
 // `inline(always)`: it has a single caller. Inlined, its result isn't moved.
 #[inline(always)]
 fn pdu_of<'a>(
@@ -278,7 +278,7 @@ pub fn encode(parts: &Parts<'_>, out: &mut [u8]) -> Option<usize>
 // `inline(always)`: called several times for one reply, with different totals. Inlined, what these
 // calls have in common is computed once.
 #[inline(always)]
-#[tactic(auto, using(crate::proofs::MessageWriting::head_sizes))]
+#[tactic(auto, using(crate::proofs::WrittenMessages::head_sizes))]
 pub fn head_size(parts: &Parts<'_>, total: u64) -> u64
     requires community { length parts.now.community.now ≤ 65535 }
     requires total { total ≤ 4000000000 }
@@ -297,9 +297,9 @@ pub fn head_size(parts: &Parts<'_>, total: u64) -> u64
     let list = header_size(total);
     let fields = id + a + b + list;
     let pdu = header_size(fields + total);
-    let front = version + community + pdu + fields;
-    let message = header_size(front + total);
-    message + front
+    let prefix = version + community + pdu + fields;
+    let message = header_size(prefix + total);
+    message + prefix
 }
 
 /// Writes the head of a message to the start of `out`, and returns its length. The head is the
@@ -375,7 +375,7 @@ pub fn seal(parts: &Parts<'_>, at: usize, len: usize, out: &mut [u8]) -> Option<
 
 /// Returns the number of octets that the shortest encodings of `bindings` take together.
 #[inline(never)]
-#[tactic(auto, using(crate::proofs::BindingWriting::binding_sizes))]
+#[tactic(auto, using(crate::proofs::WrittenBindings::binding_sizes))]
 fn bindings_size(bindings: &[Binding<'_>]) -> u64
     requires bindings { All (λ b. IsEncodable (var_bind b)) bindings.now }
     requires total { length (canon_bindings (var_binds bindings.now)) ≤ 4000000000 }

@@ -8,7 +8,7 @@ ghost use Rattle.snmp_wire.specs.Name.{EncodedNames, EndsAt, IsAlike};
 ghost use Rattle.snmp_wire.specs.ber.Canon.{canon_content, eight_from};
 ghost use Rattle.snmp_wire.specs.ber.Identifier.{IsObjectId};
 ghost use Rattle.snmp_wire.specs.{ber.Number.AreOctets, ber.Value.object_id};
-ghost use Rattle.snmp_wire.specs.ber.Reading as reading;
+ghost use Rattle.snmp_wire.specs.ber.Decode as reading;
 
 use crate::ber::{check_identifier, push_identifier, put_identifier};
 use snmp_oid::{Oid, order};

@@ -1,3 +1,3 @@
-pub mod CommandLemmas
-pub mod FaultlessLemmas
-pub mod GivenLemmas
+pub mod Commands
+pub mod Faultless
+pub mod OptionValues

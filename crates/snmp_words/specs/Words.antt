@@ -246,7 +246,7 @@ end_of_text true = codes "\n"
 end_of_text false = codes "--help'.\n"
 
 abbrev pub IsTextFor : (help : Bool) → Text → Type 0
-IsTextFor help text = (front : Text) × (text ≡ front ++ end_of_text help)
+IsTextFor help text = (prefix : Text) × (text ≡ prefix ++ end_of_text help)
 
 -- the text of the error, if it has one, ends as `end_of_text` says
 abbrev pub IsForUser : UsageError → Type 0
@@ -299,6 +299,6 @@ abbrev pub stated_in : Option (Text × List Row) → Option Stated
 stated_in = option_and_then stated_by
 
 -- the error reports a parse that failed with kind k; memory for its text may have run out
-abbrev pub StandsFor : UsageError → ErrorKind → Type 0
-StandsFor Memory k = ⊤
-StandsFor (Parse text help) k = help ≡ asks_help k
+abbrev pub IsErrorOf : UsageError → ErrorKind → Type 0
+IsErrorOf Memory k = ⊤
+IsErrorOf (Parse text help) k = help ≡ asks_help k

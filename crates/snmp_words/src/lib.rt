@@ -17,22 +17,22 @@
 #![tactic(auto)]
 
 mod command;
-mod given;
 mod job;
+mod jobs;
 mod mistakes;
 mod options;
 
 ghost use Rattle.std.specs.Prelude.{◌≡◌, [], List, ℕ, true, IfErr, IfOk, OnOk};
 ghost use Rattle.clap.specs.{Walk.Text, Walk.texts, Words.kind_of};
 ghost use Rattle.snmp_words.specs.Command.{faults_of, is_taken};
-ghost use Rattle.snmp_words.specs.Words.{HasFaultOf, IsForUser, StandsFor, StateJob, Stated};
+ghost use Rattle.snmp_words.specs.Words.{HasFaultOf, IsForUser, IsErrorOf, StateJob, Stated};
 ghost use Rattle.snmp_words.specs.Words.{job_words, snmpwalk, walk_line, words_of_walk};
 ghost use Rattle.snmp_words.specs.declared.UsageError.TheVariants.{Memory};
 
 use clap::error::ErrorKind;
 use command::snmp_command;
-use given::job_of;
 pub use job::{Asking, GetJob, Job, ServeJob, TranslateJob, WalkJob};
+use jobs::job_of;
 use std::alloc::{AllocError, Global};
 use thiserror::Error;
 
@@ -110,7 +110,7 @@ pub fn faultless_words_state_a_job()
 /// ask for it, otherwise what is wrong with them. It is `Memory` if memory ran out.
 fn usage_error(alloc: Global, error: &clap::Error, words: &[&str]) -> UsageError
     ensures memory { kind_of error.now ≡ ErrorKind.OutOfMemory → result ≡ Memory }
-    ensures refusal { StandsFor result (kind_of error.now) }
+    ensures refusal { IsErrorOf result (kind_of error.now) }
     ensures text { IsForUser result }
 {
     if matches!(error.kind(), ErrorKind::OutOfMemory) {

@@ -150,7 +150,7 @@ pub(crate) fn text_of(
         kind => {
             let text = format!(in alloc; "{error}")?;
             let version = tip_on_version(words);
-            explained(alloc, text.as_str(), command_of(kind, words), version)
+            with_own_tips(alloc, text.as_str(), command_of(kind, words), version)
         }
     }
 }
@@ -181,7 +181,7 @@ fn command_of<'a>(kind: ErrorKind, words: &[&'a str]) -> Option<&'a str> {
 ///
 /// The parser's text has parts with an empty line between them: the mistake; tips, or none; the
 /// usage, or none; and the help to read.
-fn explained(
+fn with_own_tips(
     alloc: Global,
     text: &str,
     command: Option<&str>,
@@ -276,7 +276,8 @@ fn tip_on(mistake: &str, command: Option<&str>) -> Option<&'static str> {
     tip_on_value(option_of(mistake)?, command)
 }
 
-/// Returns what the value of `option` is for `command`, if there is a tip on it.
+/// Returns the tip that says which values `option` of `command` takes, if there is one. The tips
+/// for this command come before those for all commands.
 fn tip_on_value(option: &str, command: Option<&str>) -> Option<&'static str> {
     let own = match command {
         Some("snmptranslate") => VALUES_OF_TRANSLATE,

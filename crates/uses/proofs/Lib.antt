@@ -1,2 +1,2 @@
-mod DirectLemmas
-mod PolledLemmas
+mod DirectLinks
+mod PolledRows

@@ -6,7 +6,7 @@ use Rattle.snmp_agent.specs.table.Table.{MibView, IsMibView, IsRow}
 use Rattle.snmp_agent.specs.table.Listing.{variables}
 use Rattle.snmp_walk.specs.declared.end.WalkEnd.{WalkEnd}
 use Rattle.snmp_walk.specs.declared.link.Link.{Ghosts as LinkFacts}
-use Rattle.snmp_walk.specs.{Facts.IsDone, Link.OneOf, Ordered.AreOrdered, Ran.HasHappened}
+use Rattle.snmp_walk.specs.{Facts.IsDone, Link.OneOf, Ordered.AreOrdered, RunResult.HasHappened}
 use Rattle.snmp_walk.specs.Walk.{rows_below}
 use Rattle.uses.specs.declared.subtrees.Subtree.{Subtree}
 

@@ -1,7 +1,7 @@
 //! A link of one's own: an agent in the same program that is called at each receive.
 ghost use Rattle.std.specs.Prelude.{◌≡◌, [], IfOk, IsOk, ◌↔◌};
 ghost use Rattle.snmp_oid.specs.Identifier.{IsWire, wire};
-ghost use Rattle.snmp_walk.specs.Walker.{IsMethod};
+ghost use Rattle.snmp_walk.specs.WalkState.{IsMethod};
 ghost use Rattle.uses.specs.Polled.{IsPolled};
 
 use crate::{Collected, poll};
@@ -63,7 +63,7 @@ impl<'a> Link for Direct<'a> {
 
     // It doesn't store what was sent before, so it isn't honest in the sense of a link: what it
     // promises are the four relations below.
-    ghost keeps = { λ _. ⊥ };
+    ghost records = { λ _. ⊥ };
 
     ghost honest = { λ _. ⊥ };
 
@@ -75,7 +75,7 @@ impl<'a> Link for Direct<'a> {
 
     ghost ready = { λ _ _ _. ⊥ };
 
-    ghost brings = { HasReplied };
+    ghost delivers = { HasReplied };
 
     ghost sends = { HasAsked };
 
@@ -85,7 +85,7 @@ impl<'a> Link for Direct<'a> {
 
     ghost receive_fails = { IsIdle };
 
-    ghost keeping = { λ _ h. h };
+    ghost recording = { λ _ h. h };
 
     ghost lawful = { λ _ h. absurd h };
 

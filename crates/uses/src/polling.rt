@@ -3,8 +3,9 @@ ghost use Rattle.std.specs.Prelude.{◌≡◌, ◌≤◌, ◌<◌, ◌+◌, ◌^
 ghost use Rattle.std.specs.Prelude.{IfOk, IfErr, IfSome, IfNone, IsOk, length};
 ghost use Rattle.snmp_oid.specs.Identifier.{IsWire, wire};
 ghost use Rattle.snmp_agent.specs.table.Table.{MibView};
-ghost use Rattle.snmp_walk.specs.{Ordered.AreOrdered, Ran.HasHappened, Ran.IsHonestFrom};
-ghost use Rattle.snmp_walk.specs.Walker.{IsMethod};
+ghost use Rattle.snmp_walk.specs.{Ordered.AreOrdered, RunResult.HasHappened};
+ghost use Rattle.snmp_walk.specs.{RunResult.IsHonestFrom};
+ghost use Rattle.snmp_walk.specs.WalkState.{IsMethod};
 ghost use Rattle.uses.specs.Polled.{AreBeginningsPolled, IsPolled};
 
 use crate::Collected;

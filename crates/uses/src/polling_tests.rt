@@ -1,4 +1,4 @@
-//! Each poll once, over an agent with three rows.
+//! Tests of the functions that poll an agent, here one with three rows.
 
 use crate::{Collected, Direct, Subtree, poll_again, poll_each, poll_twice};
 use snmp_agent::{Config, Served, Table};
@@ -27,7 +27,7 @@ fn name(rt: &impl Abort, text: &[u8]) -> Oid {
     parse_numeric(text).expect(rt, "a name")
 }
 
-/// Whether the rows are the two of the first subtree.
+/// Returns whether the rows are the two of the first subtree.
 fn are_first_two(rt: &impl Abort, rows: &Collected) -> bool {
     match rows.as_slice() {
         [one, two] => {
@@ -40,7 +40,7 @@ fn are_first_two(rt: &impl Abort, rows: &Collected) -> bool {
     }
 }
 
-/// Whether the rows are the one of the second subtree.
+/// Returns whether the rows are the one of the second subtree.
 fn is_last(rt: &impl Abort, rows: &Collected) -> bool {
     match rows.as_slice() {
         [row] => {
@@ -105,7 +105,7 @@ struct Looped<'a, N> {
 impl<'a, N: Net> Link for Looped<'a, N> {
     ghost use Rattle.std.specs.Prelude.{[]};
 
-    ghost keeps = { λ _. ⊥ };
+    ghost records = { λ _. ⊥ };
 
     ghost honest = { λ _. ⊥ };
 
@@ -117,9 +117,9 @@ impl<'a, N: Net> Link for Looped<'a, N> {
 
     ghost ready = { λ _ _ _. ⊥ };
 
-    ghost brings = { λ _ _ _. Unit {0} };
+    ghost delivers = { λ _ _ _. Unit {0} };
 
-    ghost keeping = { λ _ h. h };
+    ghost recording = { λ _ h. h };
 
     ghost lawful = { λ _ h. absurd h };
 

@@ -18,7 +18,7 @@ next_of nowhere = None
 -- the chain of `a` has an end: `a` refers to nothing, or to a thing whose chain has an end
 pub data HasEnd {A : Type 0} (next : A → Option A) : A → Type 0 where
   ends : {a : A} → next a ≡ None → HasEnd next a
-  leads_on : {a b : A} → next a ≡ Some b → HasEnd next b → HasEnd next a
+  refers_on : {a b : A} → next a ≡ Some b → HasEnd next b → HasEnd next a
 
 -- thing `a` has identifier `o`: the least relation with these two rules
 pub data HasIdentifier {A : Type 0} (origin : A → Origin A) : A → List ℕ → Type 0 where

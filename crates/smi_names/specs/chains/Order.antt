@@ -7,8 +7,8 @@ abbrev pub next_at : List (Option ℕ) → ℕ → Option ℕ
 next_at next p = slice_index_or next p None
 
 -- what a list has at an index
-abbrev pub at_place : {X : Type 0} → List (Option X) → ℕ → Option X
-at_place xs p = slice_index_or xs p None
+abbrev pub option_at : {X : Type 0} → List (Option X) → ℕ → Option X
+option_at xs p = slice_index_or xs p None
 
 -- each index of the order comes after the one that it refers to, if that is an index
 abbrev pub ComeAfterNext : List (Option ℕ) → List ℕ → Type 0

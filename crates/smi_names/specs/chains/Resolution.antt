@@ -19,22 +19,23 @@ abbrev pub resolution_at : List Resolution → ℕ → Resolution
 resolution_at rs p = slice_index_or rs p R.Unresolved
 
 -- the resolutions in `list` at these indices
-abbrev pub shared : List Resolution → List ℕ → List Resolution
-shared list places = map (λ k. resolution_at list k) places
+abbrev pub resolutions_at : List Resolution → List ℕ → List Resolution
+resolutions_at list indices = map (λ k. resolution_at list k) indices
 
 -- each index has a resolution in the list
 abbrev pub AreWithin : List Resolution → List ℕ → Type 0
-AreWithin list places = All (λ k. k < length list) places
+AreWithin list indices = All (λ k. k < length list) indices
 
 -- ---- for private functions
 
 -- an identifier with numbers after it, `TooLong` if there are more than 128 together
-abbrev pub lengthened : List ℕ → List ℕ → Resolution
-lengthened o ns = if nat_le (length o + length ns) 128 then R.Numbers (o ++ ns) else R.TooLong
+abbrev pub extend_identifier : List ℕ → List ℕ → Resolution
+extend_identifier o ns =
+    if nat_le (length o + length ns) 128 then R.Numbers (o ++ ns) else R.TooLong
 
-abbrev pub followed_by : Resolution → List ℕ → Resolution
-followed_by (R.Numbers o) ns = lengthened o ns
-followed_by r ns = r
+abbrev pub extend_resolution_by : Resolution → List ℕ → Resolution
+extend_resolution_by (R.Numbers o) ns = extend_identifier o ns
+extend_resolution_by r ns = r
 
 -- what the name referred to resolves to, `Unresolved` if there is none
 abbrev pub far_at : List Resolution → Option ℕ → Resolution
@@ -43,8 +44,8 @@ far_at rs (Some q) = resolution_at rs q
 
 -- what a name resolves to, by the origin of its numbers and what the name referred to resolves to
 abbrev pub resolution_by : {A : Type 0} → Origin A → Resolution → Resolution
-resolution_by (numbers ns) far = lengthened [] ns
-resolution_by (after b ns) far = followed_by far ns
+resolution_by (numbers ns) far = extend_identifier [] ns
+resolution_by (after b ns) far = extend_resolution_by far ns
 resolution_by nowhere far = R.Unresolved
 
 -- the list begins with the three reasons for having no identifier

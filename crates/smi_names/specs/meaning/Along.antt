@@ -5,25 +5,26 @@ use Rattle.std.specs.Prelude.{option_map}
 use Rattle.std.specs.{List.slice_get, Option.option_and_then}
 use Rattle.smi_text.specs.{declared.trees.tree.Module.Module, declared.trees.tree.Def.Def}
 use Rattle.smi_text.specs.declared.trees.tree.Import.{Import}
-use Rattle.smi_names.specs.{chains.Chain.HasEnd, chains.Order.next_at, chains.Order.at_place}
+use Rattle.smi_names.specs.{chains.Chain.HasEnd, chains.Order.next_at, chains.Order.option_at}
 use Rattle.smi_names.specs.meaning.Meaning.{QualifiedName, Decision, defined, imported, root}
 use Rattle.smi_names.specs.meaning.Meaning.{decision, module_named}
 use Rattle.smi_names.specs.meaning.Scopes.{KnownNames, content_named}
 
--- the name that a name refers to, by what decides it; `leads` says it of definitions
+-- the name that a name refers to, by what decides it; `refers_to` says it of definitions
 abbrev pub next_by : (Def → Option (List ℕ)) → QualifiedName → Option Decision
     → Option QualifiedName
-next_by leads a None = None
-next_by leads a (Some (defined d)) = option_map (λ x. record { home = a.home; name = x }) (leads d)
-next_by leads a (Some (imported i)) = Some (record { home = i.source.octets; name = a.name })
-next_by leads a (Some (root n)) = None
+next_by refers_to a None = None
+next_by refers_to a (Some (defined d)) =
+    option_map (λ x. record { home = a.home; name = x }) (refers_to d)
+next_by refers_to a (Some (imported i)) = Some (record { home = i.source.octets; name = a.name })
+next_by refers_to a (Some (root n)) = None
 
 -- what decides a name, if it has a meaning
 abbrev pub decided : List Module → QualifiedName → Option Decision
 decided ms a = option_and_then (λ m. decision m a.name) (module_named ms a.home)
 
 abbrev pub next_name : List Module → (Def → Option (List ℕ)) → QualifiedName → Option QualifiedName
-next_name ms leads a = next_by leads a (decided ms a)
+next_name ms refers_to a = next_by refers_to a (decided ms a)
 
 -- definition `d` decides the name `a`, and has the index `k` in the module at index `i`
 pub record IsOwn (ms : List Module) (a : QualifiedName) (i k : ℕ) (d : Def) : Type 0 where
@@ -35,66 +36,66 @@ pub record IsOwn (ms : List Module) (a : QualifiedName) (i k : ℕ) (d : Def) : 
 
 -- a name means this: the least relation with these five rules. `means` says it of definitions, by
 -- what the name means that they refer to.
-pub data Comes {X : Type 0} (ms : List Module) (leads : Def → Option (List ℕ))
+pub data Comes {X : Type 0} (ms : List Module) (refers_to : Def → Option (List ℕ))
     (means : ℕ × ℕ → Def → Option X → Option X) : QualifiedName → Option X → Type 0 where
   -- a name that nothing decides, or of a module that isn't loaded, means nothing
-  unknown : {a : QualifiedName} → decided ms a ≡ None → Comes ms leads means a None
+  unknown : {a : QualifiedName} → decided ms a ≡ None → Comes ms refers_to means a None
   -- a root means nothing
   of_root : {a : QualifiedName} {n : ℕ} → decided ms a ≡ Some (root n)
-      → Comes ms leads means a None
+      → Comes ms refers_to means a None
   -- an import means what the same name means in the module after FROM
   through : {a : QualifiedName} {m : Module} {i : Import} {x : Option X}
       → module_named ms a.home ≡ Some m → decision m a.name ≡ Some (imported i)
-      → Comes ms leads means (record { home = i.source.octets; name = a.name }) x
-      → Comes ms leads means a x
+      → Comes ms refers_to means (record { home = i.source.octets; name = a.name }) x
+      → Comes ms refers_to means a x
   -- a definition that refers to no name
   at_end : {a : QualifiedName} {i k : ℕ} {d : Def} {x : Option X} → IsOwn ms a i k d
-      → leads d ≡ None → x ≡ means (i, k) d None → Comes ms leads means a x
+      → refers_to d ≡ None → x ≡ means (i, k) d None → Comes ms refers_to means a x
   -- a definition that refers to a name of its own module, which may be imported there
   after : {a : QualifiedName} {i k : ℕ} {d : Def} {y : List ℕ} {far x : Option X}
-      → IsOwn ms a i k d → leads d ≡ Some y
-      → Comes ms leads means (record { home = a.home; name = y }) far
-      → x ≡ means (i, k) d far → Comes ms leads means a x
+      → IsOwn ms a i k d → refers_to d ≡ Some y
+      → Comes ms refers_to means (record { home = a.home; name = y }) far
+      → x ≡ means (i, k) d far → Comes ms refers_to means a x
 
 -- a name means this; nothing if its chain has no end, as in a ring
 abbrev pub IsMeant : {X : Type 0} → List Module → (Def → Option (List ℕ))
     → (ℕ × ℕ → Def → Option X → Option X) → QualifiedName → Option X → Type 0
-IsMeant ms leads means a x =
-    Comes ms leads means a x ⊎ ((HasEnd (next_name ms leads) a → ⊥) × (x ≡ None))
+IsMeant ms refers_to means a x =
+    Comes ms refers_to means a x ⊎ ((HasEnd (next_name ms refers_to) a → ⊥) × (x ≡ None))
 
 -- `found` has at the index of each name what the name means
 abbrev pub AreMeant : {X : Type 0} → KnownNames → (Def → Option (List ℕ))
     → (ℕ × ℕ → Def → Option X → Option X) → List (Option X) → Type 0
-AreMeant k leads means found =
+AreMeant k refers_to means found =
     (p : ℕ) (a : QualifiedName) → slice_get k.names p ≡ content_named k.modules a
-    → IsMeant k.modules leads means a (at_place found p)
+    → IsMeant k.modules refers_to means a (option_at found p)
 
 -- with the index of a definition as its meaning, it refers to no name
-abbrev pub leads_nowhere : Def → Option (List ℕ)
-leads_nowhere d = None
+abbrev pub refers_to_nothing : Def → Option (List ℕ)
+refers_to_nothing d = None
 
-abbrev pub stands_at : ℕ × ℕ → Def → Option (ℕ × ℕ) → Option (ℕ × ℕ)
-stands_at at d far = Some at
+abbrev pub source_as_meaning : ℕ × ℕ → Def → Option (ℕ × ℕ) → Option (ℕ × ℕ)
+source_as_meaning at d far = Some at
 
 -- ---- for private functions
 
 -- each name at index `p` (past the end: each without a meaning) refers to one at `to`, or to none
 abbrev pub IsNext : KnownNames → (Def → Option (List ℕ)) → ℕ → Option ℕ → Type 0
-IsNext k leads p to =
+IsNext k refers_to p to =
     (a : QualifiedName) → slice_get k.names p ≡ content_named k.modules a
-    → MatchOption to (next_name k.modules leads a ≡ None)
-    (λ q. (b : QualifiedName) × (next_name k.modules leads a ≡ Some b)
+    → MatchOption to (next_name k.modules refers_to a ≡ None)
+    (λ q. (b : QualifiedName) × (next_name k.modules refers_to a ≡ Some b)
     × (slice_get k.names q ≡ content_named k.modules b))
 
 -- `next` has for each name the index that it refers to
-pub record AreNext (k : KnownNames) (leads : Def → Option (List ℕ))
+pub record AreNext (k : KnownNames) (refers_to : Def → Option (List ℕ))
     (next : List (Option ℕ)) : Type 0 where
   pub long : length next ≡ length k.names
-  pub each : (p : ℕ) → IsNext k leads p (next_at next p)
+  pub each : (p : ℕ) → IsNext k refers_to p (next_at next p)
 
 -- each name at index `p` means `x`
 abbrev pub MeansAt : {X : Type 0} → KnownNames → (Def → Option (List ℕ))
     → (ℕ × ℕ → Def → Option X → Option X) → ℕ → Option X → Type 0
-MeansAt k leads means p x =
+MeansAt k refers_to means p x =
     (a : QualifiedName) → slice_get k.names p ≡ content_named k.modules a
-    → Comes k.modules leads means a x
+    → Comes k.modules refers_to means a x

@@ -7,25 +7,25 @@ use Rattle.std.specs.{List.slice_get, Option.option_and_then}
 use Rattle.smi_text.specs.declared.trees.tree.Import.{Import}
 use Rattle.smi_names.specs.meaning.Along.{next_by}
 use Rattle.smi_names.specs.meaning.Meaning.{QualifiedName, imported}
-use Rattle.smi_names.specs.meaning.Scopes.{content_of, qualified, decision_of, place_in}
+use Rattle.smi_names.specs.meaning.Scopes.{content_of, qualified, decision_of, index_in}
 use Rattle.smi_names.specs.declared.meaning.entry.Entry.{Entry}
 use Rattle.smi_names.specs.declared.meaning.directory.Directory.{Directory}
 use Rattle.smi_names.specs.declared.meaning.directory.Found.{Found}
 
 -- the index of a name in the module at `at`; the number of entries if there is no such module, or
 -- the name has no meaning
-abbrev pub place_at : Directory → Option ℕ → List ℕ → ℕ
-place_at d at x =
-    unwrap_or (option_and_then (λ i. option_and_then (λ scope. place_in scope x)
+abbrev pub index_at : Directory → Option ℕ → List ℕ → ℕ
+index_at d at x =
+    unwrap_or (option_and_then (λ i. option_and_then (λ scope. index_in scope x)
     (slice_get d.scopes.items i)) at) (length d.entries.items)
 
-abbrev pub place_by : Directory → QualifiedName → ℕ
-place_by d p = place_at d (place_in d.homes p.home) p.name
+abbrev pub index_by : Directory → QualifiedName → ℕ
+index_by d p = index_at d (index_in d.homes p.home) p.name
 
 -- the index of the name that the name of an entry refers to, if it refers to one
-abbrev pub next_place : Directory → (Def → Option (List ℕ)) → Entry → Option ℕ
-next_place d leads e = option_map (place_by d)
-    (next_by leads (qualified (content_of e)) (Some (content_of e).decided))
+abbrev pub next_index : Directory → (Def → Option (List ℕ)) → Entry → Option ℕ
+next_index d refers_to e = option_map (index_by d)
+    (next_by refers_to (qualified (content_of e)) (Some (content_of e).decided))
 
 -- the maps of the directory have one key
 abbrev pub HaveOneKey : Directory → Type 0
@@ -38,13 +38,13 @@ abbrev pub KeepsImports : Directory → Type 0
 KeepsImports d =
     (p : ℕ) (e : Entry) (i : Import) (to : Option ℕ) → slice_get d.entries.items p ≡ Some e
     → decision_of e.decider ≡ imported i → slice_get d.parents.items p ≡ Some to
-    → to ≡ Some (place_by d (record { home = i.source.octets; name = e.name.now }))
+    → to ≡ Some (index_by d (record { home = i.source.octets; name = e.name.now }))
 
 -- the name that was looked up last, if any, is stored with the indices of its module and its entry
 abbrev pub IsFound : Directory → Option Found → Type 0
 IsFound d None = ⊤
-IsFound d (Some f) = (f.at ≡ place_in d.homes f.home.now)
-    × (f.place ≡ place_by d (record { home = f.home.now; name = f.name.now }))
+IsFound d (Some f) = (f.at ≡ index_in d.homes f.home.now)
+    × (f.index ≡ index_by d (record { home = f.home.now; name = f.name.now }))
 
 -- the entry is that of the name `x` in the module at index `i`
 abbrev pub is_entry_of : Option Entry → ℕ → List ℕ → Bool

@@ -3,7 +3,7 @@ use Rattle.std.specs.Prelude.{◌≡◌, ℕ, List, length, Option, Some, All}
 use Rattle.std.specs.{List.slice_get, List.position_from}
 use Rattle.smi_text.specs.{trees.Mark.same_text, declared.trees.tree.Module.Module}
 use Rattle.smi_names.specs.meaning.Meaning.{decision}
-use Rattle.smi_names.specs.meaning.Scopes.{NamePlaces, known, decided_as, IsWithin}
+use Rattle.smi_names.specs.meaning.Scopes.{NameIndices, known, decided_as, IsWithin}
 use Rattle.smi_names.specs.meaning.Scopes.{IsDefinedAt, IsDecided}
 use Rattle.smi_names.specs.{declared.hash.NameHash.NameHash, declared.meaning.entry.Entry.Entry}
 
@@ -13,21 +13,21 @@ pub record KeyedNames : Type 0 where
   pub key : NameHash
 
 -- the index of the first module of a name
-abbrev pub module_place : List Module → List ℕ → Option ℕ
-module_place ms x = position_from (λ m. same_text m.name.octets x) 0 ms
+abbrev pub module_index : List Module → List ℕ → Option ℕ
+module_index ms x = position_from (λ m. same_text m.name.octets x) 0 ms
 
 -- the module of the entry, and the definition if one decides, are at the indices in its source
 abbrev pub IsSourced : List Module → Entry → Type 0
 IsSourced ms e = (slice_get ms e.source.0 ≡ Some e.«module».now) × IsDefinedAt e
 
 -- each name with a meaning in a module has an entry
-pub record AreEach (ms : List Module) (scopes : List NamePlaces) (entries : List Entry)
+pub record AreEach (ms : List Module) (scopes : List NameIndices) (entries : List Entry)
     : Type 0 where
   pub long : length scopes ≡ length ms
-  pub each : (i : ℕ) (m : Module) (scope : NamePlaces) → slice_get ms i ≡ Some m
+  pub each : (i : ℕ) (m : Module) (scope : NameIndices) → slice_get ms i ≡ Some m
       → slice_get scopes i ≡ Some scope
       → (x : List ℕ) → known entries scope x ≡ decided_as m x (decision m x)
-  pub within : (i : ℕ) (scope : NamePlaces) → slice_get scopes i ≡ Some scope
+  pub within : (i : ℕ) (scope : NameIndices) → slice_get scopes i ≡ Some scope
       → IsWithin entries scope
   pub sourced : All (IsSourced ms) entries
   pub decided : All IsDecided entries

@@ -1,18 +1,18 @@
 -- What a directory of names contains.
 use Rattle.std.specs.Prelude.{◌≡◌, ℕ, List, map}
 use Rattle.smi_text.specs.declared.trees.tree.Module.{Module}
-use Rattle.smi_names.specs.meaning.Scopes.{place_in, content_of}
-use Rattle.smi_names.specs.meaning.Names.{AreEach, module_place}
+use Rattle.smi_names.specs.meaning.Scopes.{index_in, content_of}
+use Rattle.smi_names.specs.meaning.Names.{AreEach, module_index}
 use Rattle.smi_names.specs.{meaning.Scopes.KnownNames, meaning.Parents.parent_of}
-use Rattle.smi_names.specs.meaning.Directory.{next_place}
+use Rattle.smi_names.specs.meaning.Directory.{next_index}
 use Rattle.smi_names.specs.declared.meaning.directory.Directory.{Directory}
 
 -- the directory has the index of each module, an entry for each name that has a meaning, and the
 -- index that each entry refers to for its identifier
 pub record IsDirectory (ms : List Module) (d : Directory) : Type 0 where
-  pub placed : (x : List ℕ) → place_in d.homes x ≡ module_place ms x
+  pub placed : (x : List ℕ) → index_in d.homes x ≡ module_index ms x
   pub named : AreEach ms d.scopes.items d.entries.items
-  pub parents : d.parents.items ≡ map (next_place d parent_of) d.entries.items
+  pub parents : d.parents.items ≡ map (next_index d parent_of) d.entries.items
 
 -- the names that have entries
 abbrev pub known_names : List Module → Directory → KnownNames

@@ -10,12 +10,12 @@ use Rattle.smi_names.specs.declared.meaning.entry.Decider.{Decider}
 use Rattle.smi_names.specs.declared.meaning.entry.Decider.TheVariants as D
 
 -- names with their indices
-abbrev pub NamePlaces : Type 0
-NamePlaces = IndexMap (List ℕ) ℕ NameHash
+abbrev pub NameIndices : Type 0
+NameIndices = IndexMap (List ℕ) ℕ NameHash
 
 -- the index of a name in a map
-abbrev pub place_in : NamePlaces → List ℕ → Option ℕ
-place_in scope x = get bytes_eq scope x
+abbrev pub index_in : NameIndices → List ℕ → Option ℕ
+index_in scope x = get bytes_eq scope x
 
 -- what decides a name: a definition, an import, or a root
 abbrev pub decision_of : Decider → Decision
@@ -38,15 +38,15 @@ abbrev pub qualified : Content → QualifiedName
 qualified c = record { home = c.home.name.octets; name = c.name }
 
 -- the entry that a scope has for a name
-abbrev pub known : List Entry → NamePlaces → List ℕ → Option Content
+abbrev pub known : List Entry → NameIndices → List ℕ → Option Content
 known entries scope x =
-    option_and_then (λ p. option_map content_of (slice_get entries p)) (place_in scope x)
+    option_and_then (λ p. option_map content_of (slice_get entries p)) (index_in scope x)
 
 abbrev pub decided_as : Module → List ℕ → Option Decision → Option Content
 decided_as m x d = option_map (λ v. record { home = m; name = x; decided = v }) d
 
-abbrev pub IsWithin : List Entry → NamePlaces → Type 0
-IsWithin entries scope = (x : List ℕ) (p : ℕ) → place_in scope x ≡ Some p → p < length entries
+abbrev pub IsWithin : List Entry → NameIndices → Type 0
+IsWithin entries scope = (x : List ℕ) (p : ℕ) → index_in scope x ≡ Some p → p < length entries
 
 -- if a definition decides, then it is in the module at the entry's index
 abbrev pub IsDefinedAt : Entry → Type 0
@@ -75,8 +75,8 @@ IsEntryOf m i e = (e.«module».now ≡ m) × (e.source.0 ≡ i) × IsDefinedAt 
 
 -- the scope has more names: if it had no entry for a name, it has what `more` decides; it is hashed
 -- as before
-pub record KnowsMore (old : List Entry) (before : NamePlaces) (new : List Entry)
-    (scope : NamePlaces) (m : Module) (i : ℕ) (more : List ℕ
+pub record KnowsMore (old : List Entry) (before : NameIndices) (new : List Entry)
+    (scope : NameIndices) (m : Module) (i : ℕ) (more : List ℕ
     → Option Decision) : Type 0 where
   pub knows : (x : List ℕ)
       → known new scope x ≡ or_else (known old before x) (decided_as m x (more x))

@@ -67,10 +67,10 @@ pub record AddsNodes (ms : List Module) (old new : Gathered) (ns : List Node)
       old.oids.items ++ ns
   pub warnings : new.warnings.items ≡ old.warnings.items ++ ws
 
--- nodes and warnings of which `are_given` holds are appended
+-- nodes and warnings of which `are_returned` holds are appended
 pub record Adds (ms : List Module) (old new : Gathered)
-    (are_given : List Node → List Warning → Type 0) : Type 0 where
+    (are_returned : List Node → List Warning → Type 0) : Type 0 where
   pub ns : List Node
   pub ws : List Warning
-  pub gives : are_given ns ws
+  pub gives : are_returned ns ws
   pub adds : AddsNodes ms old new ns ws

@@ -67,16 +67,17 @@ is_loaded ms name = is_some (module_named ms name)
 
 -- module `m`, loaded after the modules `before`, has these nodes and warnings: only a warning if
 -- one of them has its name, otherwise the warnings about its imports and what its definitions have
-pub data Brings (ms before : List Module) (m : Module) : List Node → List Warning → Type 0 where
+pub data Contributes (ms before : List Module) (m : Module) : List Node → List Warning
+    → Type 0 where
   left_out : is_loaded before m.name.octets ≡ true
-      → Brings ms before m [] (W.DoubleModule m.name.octets ∷ [])
+      → Contributes ms before m [] (W.DoubleModule m.name.octets ∷ [])
   loaded : (ns : List Node) (ws : List Warning) → is_loaded before m.name.octets ≡ false
-      → Gathers ms m m.defs ns ws → Brings ms before m ns (import_warnings ms m ++ ws)
+      → Gathers ms m m.defs ns ws → Contributes ms before m ns (import_warnings ms m ++ ws)
 
 -- modules have these nodes and warnings, one after the other
 pub data Loads (ms : List Module) : List Module → List Node → List Warning → Type 0 where
   none_yet : Loads ms [] [] []
   then_module : (before : List Module) (m : Module) (ns more_nodes : List Node)
       (ws more_warnings : List Warning)
-      → Loads ms before ns ws → Brings ms before m more_nodes more_warnings
+      → Loads ms before ns ws → Contributes ms before m more_nodes more_warnings
       → Loads ms (before ++ m ∷ []) (ns ++ more_nodes) (ws ++ more_warnings)

@@ -9,9 +9,9 @@ abbrev pub mark_at : List Mark → ℕ → Mark
 mark_at marks p = slice_index_or marks p M.New
 
 -- `path` begins with `from`, each of its indices refers to the next one, and the last one to `to`
-abbrev pub Leads : List (Option ℕ) → List ℕ → Option ℕ → Option ℕ → Type 0
-Leads next [] from to = from ≡ to
-Leads next (p ∷ rest) from to = (from ≡ Some p) × Leads next rest (next_at next p) to
+abbrev pub Follows : List (Option ℕ) → List ℕ → Option ℕ → Option ℕ → Type 0
+Follows next [] from to = from ≡ to
+Follows next (p ∷ rest) from to = (from ≡ Some p) × Follows next rest (next_at next p) to
 
 -- the chain from `to` has an end, and `to` is in the order if it is an index
 abbrev pub IsSettled : List (Option ℕ) → List ℕ → Option ℕ → Type 0
@@ -19,10 +19,10 @@ IsSettled next order to =
     (q : ℕ) → to ≡ Some q → HasEnd (next_at next) q × (q < length next → Contains order q)
 
 -- the path ends at an index that is settled, or at nothing
-pub record LeadsToSettled (next : List (Option ℕ)) (order path : List ℕ) : Type 0 where
+pub record ReachesSettled (next : List (Option ℕ)) (order path : List ℕ) : Type 0 where
   pub from : Option ℕ
   pub to : Option ℕ
-  pub leads : Leads next path from to
+  pub refers_to : Follows next path from to
   pub settled : IsSettled next order to
 
 pub record Keeps (next : List (Option ℕ)) (marks : List Mark) (order path : List ℕ) : Type 0 where

@@ -3,7 +3,7 @@ ghost use Rattle.std.specs.Prelude.{◌≡◌, ◌≢◌, ◌⊎◌, ℕ, ◌<�
 ghost use Rattle.std.specs.Prelude.{Contains, Option, IfOk, IsTrue, Some, true, false, vec_len};
 ghost use Rattle.smi_names.specs.chains.Chain.{HasEnd};
 ghost use Rattle.smi_names.specs.chains.Order.{next_at, ComeAfterNext};
-ghost use Rattle.smi_names.specs.private.Search.{Keeps, Leads, mark_at};
+ghost use Rattle.smi_names.specs.private.Search.{Keeps, Follows, mark_at};
 
 use std::alloc::{AllocError, Global};
 
@@ -32,7 +32,7 @@ struct Search {
 /// Returns the indices whose chains end, each after the index that it refers to. Index `i` refers
 /// to `next[i]`; a chain ends at an index that refers to `None` or past the end of `next`. Visits
 /// each index once, without recursion.
-pub fn ordered(alloc: Global, next: &[Option<usize>]) -> Result<Vec<usize>, AllocError>
+pub fn topological_order(alloc: Global, next: &[Option<usize>]) -> Result<Vec<usize>, AllocError>
     ensures within { IfOk result (λ order. All (λ p. p < length next.now) order.items) }
     ensures only_ended { IfOk result (λ order. All (HasEnd (next_at next.now)) order.items) }
     ensures each_ended { IfOk result (λ order. (p : ℕ) → p < length next.now
@@ -60,7 +60,8 @@ impl Search {
         requires inside { start < length next.now }
         ensures kept { IfOk result (λ _.
             Keeps next.now self.new.marks.items self.new.order.items self.new.path.items) }
-        ensures leads { IfOk result (λ to. Leads next.now self.new.path.items (Some start) to) }
+        ensures refers_to { IfOk result (λ to. Follows next.now self.new.path.items
+            (Some start) to) }
         ensures stopped { IfOk result (λ to. (p : ℕ) → to ≡ Some p → p < length next.now
             → mark_at self.new.marks.items p ≢ Mark.New) }
         ensures reached { IfOk result (λ _. mark_at self.new.marks.items start ≢ Mark.New) }
@@ -80,34 +81,34 @@ impl Search {
         Ok(to)
     }
 
-    /// Adds `place`, which refers to nothing, to the order unless it is in it.
-    fn settle(&mut self, next: &[Option<usize>], place: usize) -> Result<(), AllocError>
+    /// Adds `index`, which refers to nothing, to the order unless it is in it.
+    fn settle(&mut self, next: &[Option<usize>], index: usize) -> Result<(), AllocError>
         requires kept { Keeps next.now self.old.marks.items self.old.order.items
             self.old.path.items }
         requires at_start { self.old.path.items ≡ [] }
-        requires inside { place < length next.now }
-        requires last { next_at next.now place ≡ None }
+        requires inside { index < length next.now }
+        requires last { next_at next.now index ≡ None }
         ensures kept { IfOk result (λ _.
             Keeps next.now self.new.marks.items self.new.order.items self.new.path.items) }
         ensures at_end { IfOk result (λ _. self.new.path.items ≡ []) }
-        ensures reached { IfOk result (λ _. mark_at self.new.marks.items place ≢ Mark.New) }
+        ensures reached { IfOk result (λ _. mark_at self.new.marks.items index ≢ Mark.New) }
         ensures reached_before { IfOk result (λ _. (p : ℕ)
             → mark_at self.old.marks.items p ≢ Mark.New
             → mark_at self.new.marks.items p ≢ Mark.New) }
     {
-        if self.is_new(place) {
-            self.order.push(place)?;
-            self.marks[place] = Mark::Settled;
+        if self.is_new(index) {
+            self.order.push(index)?;
+            self.marks[index] = Mark::Settled;
         }
         Ok(())
     }
 
     /// Returns whether there is such an index, and it is new.
-    fn is_new(&self, place: usize) -> bool
+    fn is_new(&self, index: usize) -> bool
         ensures new { IsTrue result
-            ↔ ((place < vec_len self.now.marks) × (mark_at self.now.marks.items place ≡ Mark.New)) }
+            ↔ ((index < vec_len self.now.marks) × (mark_at self.now.marks.items index ≡ Mark.New)) }
     {
-        matches!(self.marks.get(place), Some(Mark::New))
+        matches!(self.marks.get(index), Some(Mark::New))
     }
 
     /// Returns whether the chain of a climb that stopped at `to` ends, and doesn't enter a ring.
@@ -147,9 +148,9 @@ impl Search {
             self.path.clear();
             return Ok(());
         }
-        'down: while let Some(place) = self.path.pop() {
-            self.order.push(place)?;
-            self.marks[place] = Mark::Settled;
+        'down: while let Some(index) = self.path.pop() {
+            self.order.push(index)?;
+            self.marks[index] = Mark::Settled;
         }
         Ok(())
     }

@@ -1,9 +1,10 @@
-//! What names resolve to. Resolutions are kept once each: an import shares the resolution of what
-//! it imports.
+//! What names resolve to. Each resolution is stored once: an import shares the resolution of the
+//! name that it imports.
 ghost use Rattle.std.specs.Prelude.{◌≡◌, ◌<◌, ◌∷◌, [], length, option_map, IfOk};
 ghost use Rattle.std.specs.List.{slice_get};
-ghost use Rattle.smi_names.specs.chains.Resolution.{lengthened, followed_by, far_at, resolution_at};
-ghost use Rattle.smi_names.specs.chains.Resolution.{shared, AreWithin, HasReasons, GrowsTo};
+ghost use Rattle.smi_names.specs.chains.Resolution.{extend_identifier, extend_resolution_by};
+ghost use Rattle.smi_names.specs.chains.Resolution.{far_at, resolution_at};
+ghost use Rattle.smi_names.specs.chains.Resolution.{resolutions_at, AreWithin, HasReasons, GrowsTo};
 
 use snmp_oid::{MAX_LEN, StoredOid};
 use std::alloc::{AllocError, Global};
@@ -21,38 +22,39 @@ pub enum Resolution {
     TooLong,
 }
 
-/// The place of `Unresolved` in the list.
+/// The index of `Unresolved` in the list.
 pub(crate) const UNRESOLVED: usize = 0;
 
-/// The place of `Cycle` in the list.
+/// The index of `Cycle` in the list.
 pub(crate) const CYCLE: usize = 1;
 
-/// The place of `TooLong` in the list.
+/// The index of `TooLong` in the list.
 const TOO_LONG: usize = 2;
 
-/// What the names at places resolve to. Each resolution is stored once: an import has that of its
-/// definition, and all names without an identifier share three.
+/// What names resolve to, by the index of the name. Each resolution is stored once: an import
+/// shares the one of its definition, and all names without an identifier share three.
 #[derive(Drop)]
 pub(crate) struct Shared {
     /// The resolutions.
     pub(crate) list: Vec<Resolution>,
-    /// For each place, the place of its resolution in the list.
-    pub(crate) places: Vec<usize>,
+    /// For each name, the index of its resolution in `list`.
+    pub(crate) indices: Vec<usize>,
 }
 
 impl Shared {
-    /// What the name at a place resolves to.
-    pub(crate) fn get(&self, place: usize) -> Option<&Resolution>
-        requires { AreWithin self.now.list.items self.now.places.items }
-        ensures { slice_get (shared self.now.list.items self.now.places.items) place
+    /// Returns what the name at `index` resolves to, or `None` if there is no such name.
+    pub(crate) fn get(&self, index: usize) -> Option<&Resolution>
+        requires { AreWithin self.now.list.items self.now.indices.items }
+        ensures { slice_get (resolutions_at self.now.list.items self.now.indices.items) index
             ≡ option_map (λ r. r.now) result }
     {
-        let at = self.places.get(place)?;
+        let at = self.indices.get(index)?;
         Some(&self.list[*at])
     }
 }
 
-/// The three resolutions without an identifier, with room for this many more.
+/// Returns a list of the three resolutions without an identifier, with memory reserved for `more`
+/// others.
 pub(crate) fn reasons(alloc: Global, more: usize) -> Result<Vec<Resolution>, AllocError>
     ensures { IfOk result (λ list. list.items
         ≡ Resolution.Unresolved ∷ Resolution.Cycle ∷ Resolution.TooLong ∷ []) }
@@ -64,33 +66,36 @@ pub(crate) fn reasons(alloc: Global, more: usize) -> Result<Vec<Resolution>, All
     Ok(list)
 }
 
-/// The place in the list of what a name resolves to, if its numbers are those of the name at the
-/// place to which it leads and then these; that of `Unresolved` if it leads to none. `places` has
-/// those of the names before it.
-pub(crate) fn led(
+/// Resolves a name that is defined as another name followed by `numbers`, and returns the index of
+/// its resolution in `list`. `to` is the index of the other name, and `indices[to]` is the index
+/// of its resolution. If that is no identifier, the two names share it. A new identifier is
+/// appended to `list`, unless it is too long: then this is the index of `TooLong`. Returns the
+/// index of `Unresolved` if there is no other name.
+pub(crate) fn resolve_through(
     alloc: Global,
     list: &mut Vec<Resolution>,
-    places: &[usize],
+    indices: &[usize],
     to: Option<usize>,
     numbers: &[u32],
 ) -> Result<usize, AllocError>
     requires reasons { HasReasons list.old.items }
-    requires within { AreWithin list.old.items places.now }
+    requires within { AreWithin list.old.items indices.now }
     ensures grown { IfOk result (λ at. GrowsTo list.old.items list.new.items at
-        (followed_by (far_at (shared list.old.items places.now) to) numbers.now)) }
+        (extend_resolution_by (far_at (resolutions_at list.old.items indices.now) to) numbers.now)) }
 {
-    let Some(place) = to else {
+    let Some(index) = to else {
         return Ok(UNRESOLVED);
     };
-    match places.get(place) {
-        Some(at) => followed(alloc, list, *at, numbers),
+    match indices.get(index) {
+        Some(at) => extend_resolution(alloc, list, *at, numbers),
         None => Ok(UNRESOLVED),
     }
 }
 
-/// The place in the list of what a name resolves to, if its numbers are those of the resolution at
-/// `at` and then these.
-fn followed(
+/// Returns the index in `list` of the identifier at index `at` followed by `numbers`. A new
+/// identifier is appended. If the resolution at `at` is no identifier, this is `at`; if the
+/// identifier would be too long, it is the index of `TooLong`.
+fn extend_resolution(
     alloc: Global,
     list: &mut Vec<Resolution>,
     at: usize,
@@ -99,7 +104,7 @@ fn followed(
     requires reasons { HasReasons list.old.items }
     requires inside { at < length list.old.items }
     ensures grown { IfOk result (λ to. GrowsTo list.old.items list.new.items to
-        (followed_by (resolution_at list.old.items at) numbers.now)) }
+        (extend_resolution_by (resolution_at list.old.items at) numbers.now)) }
 {
     let Resolution::Numbers(oid) = &list[at] else {
         return Ok(at);
@@ -116,16 +121,16 @@ fn followed(
     push(list, longer)
 }
 
-/// Appends the identifier of these numbers to the list, and returns its place; that of `TooLong`
-/// where it would be too long.
-pub(crate) fn appended(
+/// Appends the identifier of these numbers to the list, and returns its index. If it would be too
+/// long, appends nothing and returns the index of `TooLong`.
+pub(crate) fn push_extended(
     alloc: Global,
     list: &mut Vec<Resolution>,
     numbers: &[u32],
 ) -> Result<usize, AllocError>
     requires reasons { HasReasons list.old.items }
     ensures grown { IfOk result (λ to. GrowsTo list.old.items list.new.items to
-        (lengthened [] numbers.now)) }
+        (extend_identifier [] numbers.now)) }
 {
     if numbers.len() > MAX_LEN {
         return Ok(TOO_LONG);
@@ -134,7 +139,7 @@ pub(crate) fn appended(
     push(list, oid)
 }
 
-/// Appends an identifier to the list, and returns its place.
+/// Appends an identifier to the list, and returns its index.
 fn push(list: &mut Vec<Resolution>, oid: StoredOid) -> Result<usize, AllocError>
     ensures grown { IfOk result (λ to. GrowsTo list.old.items list.new.items to
         (Resolution.Numbers oid)) }

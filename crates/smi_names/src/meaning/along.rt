@@ -8,44 +8,44 @@ use smi_text::{Def, Name};
 /// Which name of its own module a definition refers to. The meaning of a definition can depend on
 /// that name's meaning: a type depends on the type that it refines. An import always refers to the
 /// same name in the module after FROM (RFC 2578, section 3.2).
-pub trait Leads {
-    /// `leads def`: the name of its own module that the definition refers to.
-    ghost leads: { Def → Option (List ℕ) };
+pub trait References {
+    /// `refers_to def`: the name of its own module that the definition refers to.
+    ghost refers_to: { Def → Option (List ℕ) };
 
     /// Returns the name of its own module that `def` refers to, if it refers to one.
-    fn lead(def: &Def) -> Option<&Name>
-        ensures { option_map (λ name. name.now.octets) result ≡ leads def.now };
+    fn reference(def: &Def) -> Option<&Name>
+        ensures { option_map (λ name. name.now.octets) result ≡ refers_to def.now };
 }
 
 /// A meaning of names. An imported name means what the same name means in the module after FROM
 /// (RFC 2578, section 3.2). Any other name means what its definition does, which can depend on the
 /// meaning of the name that the definition refers to.
-pub trait Meaning: Copy + Leads {
+pub trait Meaning: Copy + References {
     /// `means at def far`: what the definition means, if the name that it refers to means `far`.
     ghost means: { ℕ × ℕ → Def → Option Self → Option Self };
 
-    /// Returns what `def` means. `at` is the index of its module and its own in that, and `far` is
-    /// the meaning of the name that it refers to.
+    /// Returns what `def` means. `at` has the index of its module, and its index in the module.
+    /// `far` is the meaning of the name that it refers to.
     fn meaning(at: (usize, usize), def: &Def, far: Option<Self>) -> Option<Self>
         ensures { result ≡ means at def.now far };
 }
 
 /// Only imports refer to another name; a definition refers to none.
-impl Leads for (usize, usize) {
-    ghost use Rattle.smi_names.specs.meaning.Along.{leads_nowhere};
+impl References for (usize, usize) {
+    ghost use Rattle.smi_names.specs.meaning.Along.{refers_to_nothing};
 
-    ghost leads = { leads_nowhere };
+    ghost refers_to = { refers_to_nothing };
 
-    fn lead(_def: &Def) -> Option<&Name> {
+    fn reference(_def: &Def) -> Option<&Name> {
         None
     }
 }
 
-/// The indices of a definition as a meaning: that of its module, and its own in that.
+/// The indices of a definition as a meaning: the index of its module, and its index in the module.
 impl Meaning for (usize, usize) {
-    ghost use Rattle.smi_names.specs.meaning.Along.{stands_at};
+    ghost use Rattle.smi_names.specs.meaning.Along.{source_as_meaning};
 
-    ghost means = { stands_at };
+    ghost means = { source_as_meaning };
 
     fn meaning(
         at: (usize, usize),

@@ -32,7 +32,7 @@ pub enum TypeBase {
 impl TypeBase {
     /// Returns the base type of this name, whatever a module defines (RFC 2578, section 7.1).
     #[tactic(auto, unfolding(crate::specs::meaning::Base::base_named))]
-    pub fn named(name: &[u8]) -> Option<TypeBase>
+    pub fn from_name(name: &[u8]) -> Option<TypeBase>
         ensures { result ≡ base_named name.now }
     {
         if name == b"Integer32".as_slice() {

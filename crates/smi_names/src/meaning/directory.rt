@@ -1,18 +1,18 @@
 //! The indices of names: which entry a name of a module has, and which one that refers to.
 ghost use Rattle.std.specs.Prelude.{◌≡◌, ℕ, List, [], map, IfOk, Some, All};
 ghost use Rattle.indexmap.specs.IndexMap.{hasher_of};
-ghost use Rattle.smi_names.specs.meaning.Scopes.{place_in};
-ghost use Rattle.smi_names.specs.meaning.Names.{AreEach, module_place};
-ghost use Rattle.smi_names.specs.meaning.Directory.{place_by, place_at, next_place};
+ghost use Rattle.smi_names.specs.meaning.Scopes.{index_in};
+ghost use Rattle.smi_names.specs.meaning.Names.{AreEach, module_index};
+ghost use Rattle.smi_names.specs.meaning.Directory.{index_by, index_at, next_index};
 ghost use Rattle.smi_names.specs.meaning.Directory.{IsFound, KeepsImports, is_entry_of};
 ghost use Rattle.std.specs.List.{slice_get};
 
 use crate::hash::NameHash;
-use crate::meaning::along::Leads;
+use crate::indices::{NameIndices, find, insert_if_absent};
+use crate::meaning::along::References;
 use crate::meaning::entry::{Decider, Entry};
 use crate::meaning::scope::scope;
 use crate::name::NameRef;
-use crate::places::{NamePlaces, find, insert_if_absent};
 use indexmap::IndexMap;
 use smi_text::Module;
 use std::alloc::{AllocError, Global};
@@ -21,9 +21,9 @@ use std::alloc::{AllocError, Global};
 #[derive(Drop)]
 pub(crate) struct Directory<'a> {
     /// The index of each module, by its name.
-    pub(crate) homes: NamePlaces<'a>,
+    pub(crate) homes: NameIndices<'a>,
     /// For each module, the index of the entry of each of its names.
-    pub(crate) scopes: Vec<NamePlaces<'a>>,
+    pub(crate) scopes: Vec<NameIndices<'a>>,
     /// What decides each name of each module.
     pub(crate) entries: Vec<Entry<'a>>,
     /// The index of the entry that each entry refers to for its identifier; empty until they are
@@ -41,7 +41,7 @@ struct Found<'a> {
     /// The name.
     name: &'a [u8],
     /// The index of its entry.
-    place: usize,
+    index: usize,
 }
 
 /// Returns the index of each module by its name: of several with one name, that of the first.
@@ -49,9 +49,9 @@ pub(crate) fn homes<'a>(
     alloc: Global,
     hash: NameHash,
     modules: &'a [Module],
-) -> Result<NamePlaces<'a>, AllocError>
+) -> Result<NameIndices<'a>, AllocError>
     ensures placed { IfOk result (λ homes.
-        (x : List ℕ) → place_in homes x ≡ module_place modules.now x) }
+        (x : List ℕ) → index_in homes x ≡ module_index modules.now x) }
     ensures hashed { IfOk result (λ homes. hasher_of homes ≡ hash) }
 {
     let mut homes = IndexMap::with_hasher(alloc, hash);
@@ -68,7 +68,7 @@ pub(crate) fn scopes<'a>(
     hash: NameHash,
     entries: &mut Vec<Entry<'a>>,
     modules: &'a [Module],
-) -> Result<Vec<NamePlaces<'a>>, AllocError>
+) -> Result<Vec<NameIndices<'a>>, AllocError>
     requires { entries.old.items ≡ [] }
     ensures each { IfOk result (λ scopes. AreEach modules.now scopes.items entries.new.items) }
     ensures hashed { IfOk result (λ scopes. All (λ scope. hasher_of scope ≡ hash) scopes.items) }
@@ -84,16 +84,16 @@ pub(crate) fn scopes<'a>(
 impl<'a> Directory<'a> {
     /// Returns the index of the entry of `name` in the module named `home`, or the number of
     /// entries if it has no meaning there.
-    pub(crate) fn place(&self, home: &'a [u8], name: &'a [u8]) -> usize
-        ensures { result ≡ place_by self.now (record { home = home.now; name = name.now }) }
+    pub(crate) fn entry_index(&self, home: &'a [u8], name: &'a [u8]) -> usize
+        ensures { result ≡ index_by self.now (record { home = home.now; name = name.now }) }
     {
-        self.place_in(find(&self.homes, home), name)
+        self.index_in(find(&self.homes, home), name)
     }
 
     /// Returns the index of the entry of `name` in the module at index `at`, or the number of
     /// entries if there is none.
-    fn place_in(&self, at: Option<usize>, name: &'a [u8]) -> usize
-        ensures { result ≡ place_at self.now at name.now }
+    fn index_in(&self, at: Option<usize>, name: &'a [u8]) -> usize
+        ensures { result ≡ index_at self.now at name.now }
     {
         let Some(i) = at else {
             return self.entries.len();
@@ -102,71 +102,71 @@ impl<'a> Directory<'a> {
             return self.entries.len();
         };
         match find(scope, name) {
-            Some(place) => place,
+            Some(index) => index,
             None => self.entries.len(),
         }
     }
 
-    /// Returns whether the entry at `place` is that of `name` in the module at index `home`.
-    pub(crate) fn is_entry(&self, place: usize, home: usize, name: &[u8]) -> bool
-        ensures { result ≡ is_entry_of (slice_get self.now.entries.items place) home name.now }
+    /// Returns whether the entry at `index` is that of `name` in the module at index `home`.
+    pub(crate) fn is_entry(&self, index: usize, home: usize, name: &[u8]) -> bool
+        ensures { result ≡ is_entry_of (slice_get self.now.entries.items index) home name.now }
     {
-        match self.entries.get(place) {
+        match self.entries.get(index) {
             Some(entry) => entry.source.0 == home && entry.name == name,
             None => false,
         }
     }
 
-    /// Does what [`Directory::place`] does, faster after `last`, the name that was looked up last:
+    /// Does what [`Directory::index`] does, faster after `last`, the name that was looked up last:
     /// names that follow one another are mostly of one module, and often the same parent.
-    fn place_again(&self, home: &'a [u8], name: &'a [u8], last: &mut Option<Found<'a>>) -> usize
+    fn cached_index(&self, home: &'a [u8], name: &'a [u8], last: &mut Option<Found<'a>>) -> usize
         requires { IsFound self.now last.old }
-        ensures place { result ≡ place_by self.now (record { home = home.now; name = name.now }) }
+        ensures index { result ≡ index_by self.now (record { home = home.now; name = name.now }) }
         ensures last { IsFound self.now last.new }
     {
         let at = match last {
             Some(found) if found.home == home => {
                 if found.name == name {
-                    return found.place;
+                    return found.index;
                 }
                 found.at
             }
             _ => find(&self.homes, home),
         };
-        let place = self.place_in(at, name);
+        let index = self.index_in(at, name);
         *last = Some(Found {
             home,
             at,
             name,
-            place,
+            index,
         });
-        place
+        index
     }
 
-    /// Returns the index of the entry that the entry at `place` refers to. `last` is the name that
+    /// Returns the index of the entry that the entry at `index` refers to. `last` is the name that
     /// was looked up last.
-    fn next<M: Leads>(
+    fn next<M: References>(
         &self,
-        place: usize,
+        index: usize,
         entry: &Entry<'a>,
         last: &mut Option<Found<'a>>,
     ) -> Option<usize>
-        requires there { slice_get self.now.entries.items place ≡ Some entry.now }
+        requires there { slice_get self.now.entries.items index ≡ Some entry.now }
         requires imports { KeepsImports self.now }
         requires last { IsFound self.now last.old }
-        ensures to { result ≡ next_place self.now M.leads entry.now }
+        ensures to { result ≡ next_index self.now M.refers_to entry.now }
         ensures last { IsFound self.now last.new }
     {
         let home = entry.module.name.as_bytes();
         match entry.decider {
             Decider::Definition(def) => {
-                let name = M::lead(def)?;
-                Some(self.place_again(home, name.as_bytes(), last))
+                let name = M::reference(def)?;
+                Some(self.cached_index(home, name.as_bytes(), last))
             }
             // An import refers to one entry in every meaning, and is looked up only for parents.
-            Decider::Import(import) => match self.parents.get(place) {
+            Decider::Import(import) => match self.parents.get(index) {
                 Some(to) => *to,
-                None => Some(self.place_again(import.source.as_bytes(), entry.name, last)),
+                None => Some(self.cached_index(import.source.as_bytes(), entry.name, last)),
             },
             Decider::Root(_) => None,
         }
@@ -174,18 +174,18 @@ impl<'a> Directory<'a> {
 
     /// Returns the index of the entry that each entry refers to. Parents are found first, in a
     /// directory that has none.
-    pub(crate) fn next_places<M: Leads>(
+    pub(crate) fn next_indices<M: References>(
         &self,
         alloc: Global,
     ) -> Result<Vec<Option<usize>>, AllocError>
         requires { KeepsImports self.now }
         ensures { IfOk result (λ next.
-            next.items ≡ map (next_place self.now M.leads) self.now.entries.items) }
+            next.items ≡ map (next_index self.now M.refers_to) self.now.entries.items) }
     {
         let mut next = Vec::with_capacity(alloc, self.entries.len())?;
         let mut last = None;
-        'entries: for (place, entry) in self.entries.iter().enumerate() {
-            next.push(self.next::<M>(place, entry, &mut last))?;
+        'entries: for (index, entry) in self.entries.iter().enumerate() {
+            next.push(self.next::<M>(index, entry, &mut last))?;
         }
         Ok(next)
     }

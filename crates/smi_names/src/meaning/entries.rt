@@ -1,16 +1,20 @@
 //! The names of modules by their indices, what each means and what it resolves to.
 ghost use Rattle.std.specs.Prelude.{◌≡◌, ℕ, Option, None, Some, length, option_map, IfOk};
 ghost use Rattle.std.specs.{Prelude.MatchOption, List.slice_get, Option.option_and_then};
-ghost use Rattle.smi_names.specs.{chains.Order.at_place, meaning.Names.IsSourced};
-ghost use Rattle.smi_names.specs.chains.Resolution.{shared, far_at, resolution_by, AreWithin};
+ghost use Rattle.smi_names.specs.{chains.Order.option_at, meaning.Names.IsSourced};
+ghost use Rattle.smi_names.specs.chains.Resolution.{resolutions_at, far_at, resolution_by};
+ghost use Rattle.smi_names.specs.chains.Resolution.{AreWithin};
 ghost use Rattle.smi_names.specs.chains.Resolution.{HasReasons, GrowsTo};
 ghost use Rattle.smi_names.specs.meaning.Along.{AreMeant, AreNext, IsNext, MeansAt};
 ghost use Rattle.smi_names.specs.meaning.Parents.{origin_here, parent_of, AreResolved};
 ghost use Rattle.smi_names.specs.meaning.Scopes.{content_of, content_named};
 ghost use Rattle.smi_names.specs.declared.meaning.entry.Entry.{Entry};
 
-use crate::chains::{CYCLE, Resolution, Shared, UNRESOLVED, appended, led, ordered, reasons};
-use crate::meaning::along::{Leads, Meaning};
+use crate::chains::{
+    CYCLE, Resolution, Shared, UNRESOLVED, push_extended, reasons, resolve_through,
+    topological_order,
+};
+use crate::meaning::along::{Meaning, References};
 use crate::meaning::directory::Directory;
 use crate::meaning::entry::{Decider, Entry};
 use crate::meaning::parents::by_parts;
@@ -48,51 +52,51 @@ impl<'s, 'a> Entries<'s, 'a> {
 
     /// Returns the index of `name` in the module named `home`, or the number of names if it has no
     /// meaning there.
-    pub fn place(&self, home: &'a [u8], name: &'a [u8]) -> usize
+    pub fn entry_index(&self, home: &'a [u8], name: &'a [u8]) -> usize
         ensures { slice_get self.now.names result
             ≡ content_named self.now.modules (record { home = home.now; name = name.now }) }
     {
-        self.directory.place(home, name)
+        self.directory.entry_index(home, name)
     }
 
     /// Returns the name at an index.
-    pub fn get(&self, place: usize) -> Option<Entry<'a>>
-        ensures found { option_map content_of result ≡ slice_get self.now.names place }
+    pub fn get(&self, index: usize) -> Option<Entry<'a>>
+        ensures found { option_map content_of result ≡ slice_get self.now.names index }
         ensures source { (e : Entry) → result ≡ Some e → IsSourced self.now.modules e }
     {
-        self.directory.entries.get(place).copied()
+        self.directory.entries.get(index).copied()
     }
 
     /// Returns what each name means: `None` for a root, for a definition without a meaning, for an
     /// import of a name without one, and for a chain that has no end, as in a ring of imports.
     /// Visits each name once, without recursion. Fails only if memory runs out.
     pub fn along<M: Meaning>(&self, alloc: Global) -> Result<Vec<Option<M>>, AllocError>
-        ensures { IfOk result (λ found. AreMeant self.now M.leads M.means found.items) }
+        ensures { IfOk result (λ found. AreMeant self.now M.refers_to M.means found.items) }
     {
-        let next = self.next_places::<M>(alloc)?;
-        let order = ordered(alloc, &next)?;
+        let next = self.next_indices::<M>(alloc)?;
+        let order = topological_order(alloc, &next)?;
         let mut found = vec![in alloc; None; next.len()]?;
-        'places: for place in &order {
-            let place = *place;
-            found[place] = self.meant::<M>(place, far_meaning(&found, next[place]));
+        'indices: for index in &order {
+            let index = *index;
+            found[index] = self.meaning_at::<M>(index, far_meaning(&found, next[index]));
         }
         Ok(found)
     }
 
     /// Returns the index of the name that each name refers to.
-    fn next_places<M: Leads>(&self, alloc: Global) -> Result<Vec<Option<usize>>, AllocError>
-        ensures { IfOk result (λ next. AreNext self.now M.leads next.items) }
+    fn next_indices<M: References>(&self, alloc: Global) -> Result<Vec<Option<usize>>, AllocError>
+        ensures { IfOk result (λ next. AreNext self.now M.refers_to next.items) }
     {
-        self.directory.next_places::<M>(alloc)
+        self.directory.next_indices::<M>(alloc)
     }
 
-    /// Returns what the name at `place` means, if the name that it refers to means `far`.
-    fn meant<M: Meaning>(&self, place: usize, far: Option<M>) -> Option<M>
-        ensures { let k = self.now in (to : Option ℕ) → IsNext k M.leads place to
-            → MatchOption to (far ≡ None) (λ q. MeansAt k M.leads M.means q far)
-            → MeansAt k M.leads M.means place result }
+    /// Returns what the name at `index` means, if the name that it refers to means `far`.
+    fn meaning_at<M: Meaning>(&self, index: usize, far: Option<M>) -> Option<M>
+        ensures { let k = self.now in (to : Option ℕ) → IsNext k M.refers_to index to
+            → MatchOption to (far ≡ None) (λ q. MeansAt k M.refers_to M.means q far)
+            → MeansAt k M.refers_to M.means index result }
     {
-        let Some(entry) = self.get(place) else {
+        let Some(entry) = self.get(index) else {
             return None;
         };
         match entry.decider {
@@ -106,30 +110,30 @@ impl<'s, 'a> Entries<'s, 'a> {
     ///
     /// Visits each name once, without recursion: chains may be of any length, and may be rings.
     pub(crate) fn resolutions(&self, alloc: Global) -> Result<Shared, AllocError>
-        ensures within { IfOk result (λ s. AreWithin s.list.items s.places.items) }
+        ensures within { IfOk result (λ s. AreWithin s.list.items s.indices.items) }
         ensures resolved { IfOk result (λ s.
-            AreResolved self.now (shared s.list.items s.places.items)) }
+            AreResolved self.now (resolutions_at s.list.items s.indices.items)) }
     {
         let next = self.parents();
         // Without names nothing is stored, and no memory is allocated.
         if next.is_empty() {
             return Ok(Shared {
                 list: Vec::new(alloc),
-                places: Vec::new(alloc),
+                indices: Vec::new(alloc),
             });
         }
-        let order = ordered(alloc, next)?;
+        let order = topological_order(alloc, next)?;
         let mut list = reasons(alloc, self.most())?;
-        let mut places = vec![in alloc; CYCLE; next.len()]?;
-        'places: for place in &order {
-            let place = *place;
-            places[place] = self.entered(alloc, &mut list, &places, place, next[place])?;
+        let mut indices = vec![in alloc; CYCLE; next.len()]?;
+        'indices: for index in &order {
+            let index = *index;
+            indices[index] = self.resolve_entry(alloc, &mut list, &indices, index, next[index])?;
         }
-        Ok(Shared { list, places })
+        Ok(Shared { list, indices })
     }
 
     /// Returns the index of the name that each name refers to for its identifier.
-    #[tactic(auto, using(crate::proofs::Leading::are_next))]
+    #[tactic(auto, using(crate::proofs::ReferenceChains::are_next))]
     fn parents(&self) -> &[Option<usize>]
         ensures { AreNext self.now parent_of result.now }
     {
@@ -152,39 +156,39 @@ impl<'s, 'a> Entries<'s, 'a> {
         count
     }
 
-    /// Returns the index in `list` of what the name at `place` resolves to; a new identifier is
-    /// appended. `places[i]` is the index in `list` for the name `i`, if that came before.
-    fn entered(
+    /// Returns the index in `list` of what the name at `index` resolves to; a new identifier is
+    /// appended. `indices[i]` is the index in `list` for the name `i`, if that came before.
+    fn resolve_entry(
         &self,
         alloc: Global,
         list: &mut Vec<Resolution>,
-        places: &[usize],
-        place: usize,
+        indices: &[usize],
+        index: usize,
         to: Option<usize>,
     ) -> Result<usize, AllocError>
         requires reasons { HasReasons list.old.items }
-        requires within { AreWithin list.old.items places.now }
+        requires within { AreWithin list.old.items indices.now }
         ensures grown { IfOk result (λ at. GrowsTo list.old.items list.new.items at
-            (resolution_by (origin_here (slice_get self.now.names place))
-            (far_at (shared list.old.items places.now) to))) }
+            (resolution_by (origin_here (slice_get self.now.names index))
+            (far_at (resolutions_at list.old.items indices.now) to))) }
     {
-        let Some(entry) = self.get(place) else {
+        let Some(entry) = self.get(index) else {
             return Ok(UNRESOLVED);
         };
         match entry.decider {
             Decider::Definition(def) => match def.identifier() {
-                Some(parts) => by_parts(alloc, list, places, to, parts.as_slice()),
+                Some(parts) => by_parts(alloc, list, indices, to, parts.as_slice()),
                 None => Ok(UNRESOLVED),
             },
-            Decider::Import(_) => led(alloc, list, places, to, &[]),
-            Decider::Root(number) => appended(alloc, list, &[number]),
+            Decider::Import(_) => resolve_through(alloc, list, indices, to, &[]),
+            Decider::Root(number) => push_extended(alloc, list, &[number]),
         }
     }
 }
 
 /// Returns what `found` has at the index `to`, if there is one.
 fn far_meaning<T: Copy>(found: &[Option<T>], to: Option<usize>) -> Option<T>
-    ensures { result ≡ option_and_then (λ p. at_place found.now p) to }
+    ensures { result ≡ option_and_then (λ p. option_at found.now p) to }
 {
     *found.get(to?)?
 }

@@ -2,16 +2,16 @@
 ghost use Rattle.std.specs.Prelude.{◌≡◌, IfOk, MatchOption, Some, is_some, option_map};
 ghost use Rattle.std.specs.{List.slice_get, Option.option_and_then};
 ghost use Rattle.smi_names.specs.{chains.Chain.nowhere, chains.Resolution.ComesTo};
-ghost use Rattle.smi_names.specs.{meaning.Scopes.decision_of, meaning.Names.module_place};
+ghost use Rattle.smi_names.specs.{meaning.Scopes.decision_of, meaning.Names.module_index};
 ghost use Rattle.smi_names.specs.meaning.Meaning.{origin, module_named, decision, QualifiedName};
 
 use crate::chains::{Resolution, Shared};
 use crate::hash::NameHash;
+use crate::indices::find;
 use crate::meaning::directory::{Directory, homes, scopes};
 use crate::meaning::entries::Entries;
 use crate::meaning::entry::Decider;
 use crate::meaning::parents::Parents;
-use crate::places::find;
 use smi_text::Module;
 use std::alloc::{AllocError, Global};
 use std::marker::Model;
@@ -28,7 +28,7 @@ pub struct Names<'a> {
 
 impl<'a> Model for Names<'a> {
     ghost use Rattle.indexmap.specs.IndexMap.{hasher_of};
-    ghost use Rattle.smi_names.specs.chains.Resolution.{shared, AreWithin};
+    ghost use Rattle.smi_names.specs.chains.Resolution.{resolutions_at, AreWithin};
     ghost use Rattle.smi_names.specs.meaning.Directory.{HaveOneKey};
     ghost use Rattle.smi_names.specs.meaning.Names.{KeyedNames};
     ghost use Rattle.smi_names.specs.meaning.Resolved.{IsDirectory, known_names};
@@ -38,10 +38,10 @@ impl<'a> Model for Names<'a> {
 
     ghost view = { λ s. record { modules = s.modules.now; key = hasher_of s.directory.homes } };
 
-    ghost invariant = { λ s. AreWithin s.resolutions.list.items s.resolutions.places.items
+    ghost invariant = { λ s. AreWithin s.resolutions.list.items s.resolutions.indices.items
         × IsDirectory s.modules.now s.directory
         × AreResolved (known_names s.modules.now s.directory)
-        (shared s.resolutions.list.items s.resolutions.places.items)
+        (resolutions_at s.resolutions.list.items s.resolutions.indices.items)
         × HaveOneKey s.directory };
 }
 
@@ -63,7 +63,7 @@ impl<'a> Names<'a> {
             entries,
             parents: Vec::new(alloc),
         };
-        directory.parents = directory.next_places::<Parents>(alloc)?;
+        directory.parents = directory.next_indices::<Parents>(alloc)?;
         let entries = Entries {
             modules,
             directory: &directory,
@@ -76,7 +76,7 @@ impl<'a> Names<'a> {
         })
     }
 
-    /// Returns the key of the maps that find the names.
+    /// Returns how the maps that find the names hash them.
     pub fn key(&self) -> NameHash
         ensures { result ≡ self.now.key }
     {
@@ -92,8 +92,8 @@ impl<'a> Names<'a> {
             MatchOption result (origin self.now.modules qualified ≡ nowhere)
             (λ resolution. ComesTo (origin self.now.modules) qualified resolution.now) }
     {
-        let place = self.directory.place(home, name);
-        self.resolutions.get(place)
+        let index = self.directory.entry_index(home, name);
+        self.resolutions.get(index)
     }
 
     /// Returns what `name` resolves to in `module`, which is the first of its name and has the
@@ -121,9 +121,9 @@ impl<'a> Names<'a> {
         if self.directory.is_entry(guess, source.0, name) {
             return self.resolutions.get(guess);
         }
-        let place = self.directory.place(module.name.as_bytes(), name);
-        *from = place.saturating_sub(source.1);
-        self.resolutions.get(place)
+        let index = self.directory.entry_index(module.name.as_bytes(), name);
+        *from = index.saturating_sub(source.1);
+        self.resolutions.get(index)
     }
 
     /// Returns a guess at the number of nodes: the number of resolutions stored.
@@ -137,7 +137,7 @@ impl<'a> Names<'a> {
             (module_named self.now.modules home.now) }
     {
         let entries = self.entries();
-        let entry = entries.get(entries.place(home, name))?;
+        let entry = entries.get(entries.entry_index(home, name))?;
         Some(entry.decider)
     }
 
@@ -152,8 +152,8 @@ impl<'a> Names<'a> {
     }
 
     /// Returns the index of the first module named `name`.
-    pub fn module_place(&self, name: &'a [u8]) -> Option<usize>
-        ensures { result ≡ module_place self.now.modules name.now }
+    pub fn module_index(&self, name: &'a [u8]) -> Option<usize>
+        ensures { result ≡ module_index self.now.modules name.now }
     {
         find(&self.directory.homes, name)
     }

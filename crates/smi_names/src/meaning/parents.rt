@@ -1,12 +1,13 @@
-//! What names resolve to: the numbers of a definition come after those of the name with which its
-//! identifier value begins.
+//! What names resolve to: the identifier of a definition is that of the name with which its value
+//! begins, followed by the numbers of the value.
 ghost use Rattle.std.specs.Prelude.{◌≡◌, ℕ, List, IfOk, is_some, option_map};
-ghost use Rattle.smi_names.specs.chains.Resolution.{far_at, resolution_by, shared, AreWithin};
+ghost use Rattle.smi_names.specs.chains.Resolution.{far_at, resolution_by, resolutions_at};
+ghost use Rattle.smi_names.specs.chains.Resolution.{AreWithin};
 ghost use Rattle.smi_names.specs.chains.Resolution.{HasReasons, GrowsTo};
 ghost use Rattle.smi_names.specs.meaning.Meaning.{arcs as arcs_of, origin_of_parts};
 
-use crate::chains::{Resolution, UNRESOLVED, appended, led};
-use crate::meaning::along::Leads;
+use crate::chains::{Resolution, UNRESOLVED, push_extended, resolve_through};
+use crate::meaning::along::References;
 use smi_text::{Def, Name, Part};
 use std::alloc::{AllocError, Global};
 
@@ -14,12 +15,12 @@ use std::alloc::{AllocError, Global};
 /// has a number (RFC 2578, section 7.10).
 pub(crate) struct Parents;
 
-impl Leads for Parents {
+impl References for Parents {
     ghost use Rattle.smi_names.specs.meaning.Parents.{parent_of};
 
-    ghost leads = { parent_of };
+    ghost refers_to = { parent_of };
 
-    fn lead(def: &Def) -> Option<&Name> {
+    fn reference(def: &Def) -> Option<&Name> {
         let [Part::Name(name), rest @ ..] = def.identifier()?.as_slice() else {
             return None;
         };
@@ -35,7 +36,7 @@ fn are_numbered(parts: &[Part]) -> bool
 }
 
 /// Returns the numbers of the parts, if each has one.
-#[tactic(auto, using(crate::proofs::Placing::arcs_none, crate::proofs::Placing::arcs_push, std::proofs::lemmas::List::take_more, std::proofs::lemmas::Grind::common_steps))]
+#[tactic(auto, using(crate::proofs::FirstPosition::arcs_none, crate::proofs::FirstPosition::arcs_push, std::proofs::lemmas::List::take_more, std::proofs::lemmas::Grind::common_steps))]
 fn arcs(alloc: Global, parts: &[Part]) -> Result<Option<Vec<u32>>, AllocError>
     ensures { IfOk result (λ numbers. option_map (λ v. v.items) numbers ≡ arcs_of parts.now) }
 {
@@ -54,28 +55,28 @@ fn arcs(alloc: Global, parts: &[Part]) -> Result<Option<Vec<u32>>, AllocError>
 pub(crate) fn by_parts(
     alloc: Global,
     list: &mut Vec<Resolution>,
-    places: &[usize],
+    indices: &[usize],
     to: Option<usize>,
     parts: &[Part],
 ) -> Result<usize, AllocError>
     requires reasons { HasReasons list.old.items }
-    requires within { AreWithin list.old.items places.now }
+    requires within { AreWithin list.old.items indices.now }
     ensures grown { IfOk result (λ at. (home : List ℕ) → GrowsTo list.old.items list.new.items at
         (resolution_by (origin_of_parts home parts.now)
-        (far_at (shared list.old.items places.now) to))) }
+        (far_at (resolutions_at list.old.items indices.now) to))) }
 {
     match parts {
         [] => Ok(UNRESOLVED),
         [Part::Name(_), part] => match part.number() {
-            Some(number) => led(alloc, list, places, to, &[number]),
+            Some(number) => resolve_through(alloc, list, indices, to, &[number]),
             None => Ok(UNRESOLVED),
         },
         [Part::Name(_), rest @ ..] => match arcs(alloc, rest)? {
-            Some(numbers) => led(alloc, list, places, to, &numbers),
+            Some(numbers) => resolve_through(alloc, list, indices, to, &numbers),
             None => Ok(UNRESOLVED),
         },
         _ => match arcs(alloc, parts)? {
-            Some(numbers) => appended(alloc, list, &numbers),
+            Some(numbers) => push_extended(alloc, list, &numbers),
             None => Ok(UNRESOLVED),
         },
     }

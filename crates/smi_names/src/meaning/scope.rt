@@ -12,9 +12,9 @@ ghost use Rattle.smi_names.specs.meaning.Scopes.{decision_of, decided_as, known,
 ghost use Rattle.smi_names.specs.meaning.Scopes.{IsDefinedAt, IsDecided, IsEntryOf, KnowsMore};
 
 use crate::hash::NameHash;
+use crate::indices::{NameIndices, insert_if_absent};
 use crate::meaning::entry::{Decider, Entry};
 use crate::name::NameRef;
-use crate::places::{NamePlaces, insert_if_absent};
 use indexmap::IndexMap;
 use smi_text::{Import, Module};
 use std::alloc::{AllocError, Global};
@@ -22,7 +22,7 @@ use std::alloc::{AllocError, Global};
 /// Enters a name with its entry, unless the scope has the name.
 fn enter<'a>(
     entries: &mut Vec<Entry<'a>>,
-    scope: &mut NamePlaces<'a>,
+    scope: &mut NameIndices<'a>,
     entry: Entry<'a>,
 ) -> Result<(), AllocError>
     requires within { IsWithin entries.old.items scope.old }
@@ -32,9 +32,9 @@ fn enter<'a>(
         (λ x. if same_text entry.entry.name.now x then Some (decision_of entry.entry.decider)
         else None)) }
 {
-    let place = entries.len();
-    let first = insert_if_absent(scope, NameRef::new(entry.name), place)?;
-    if first < place {
+    let index = entries.len();
+    let first = insert_if_absent(scope, NameRef::new(entry.name), index)?;
+    if first < index {
         return Ok(());
     }
     entries.push(entry)?;
@@ -44,13 +44,13 @@ fn enter<'a>(
 /// Enters the labels of the definitions of a module.
 fn enter_definitions<'a>(
     entries: &mut Vec<Entry<'a>>,
-    scope: &mut NamePlaces<'a>,
+    scope: &mut NameIndices<'a>,
     module: &'a Module,
-    place: usize,
+    index: usize,
 ) -> Result<(), AllocError>
     requires { IsWithin entries.old.items scope.old }
     ensures entered { OnOk result (KnowsMore entries.old.items scope.old entries.new.items
-        scope.new «module».now place
+        scope.new «module».now index
         (λ x. option_map defined (first_definition x «module».now.defs))) }
 {
     let defs = module.defs.as_slice();
@@ -59,7 +59,7 @@ fn enter_definitions<'a>(
             module,
             name: def.label.as_bytes(),
             decider: Decider::Definition(def),
-            source: (place, k),
+            source: (index, k),
         };
         enter(entries, scope, entry)?;
     }
@@ -69,14 +69,14 @@ fn enter_definitions<'a>(
 /// Enters the symbols of a FROM clause.
 fn enter_symbols<'a>(
     entries: &mut Vec<Entry<'a>>,
-    scope: &mut NamePlaces<'a>,
+    scope: &mut NameIndices<'a>,
     module: &'a Module,
-    place: usize,
+    index: usize,
     import: &'a Import,
 ) -> Result<(), AllocError>
     requires { IsWithin entries.old.items scope.old }
     ensures entered { OnOk result (KnowsMore entries.old.items scope.old entries.new.items
-        scope.new «module».now place
+        scope.new «module».now index
         (λ x. option_map imported (first_import x (import.now ∷ [])))) }
 {
     let symbols = import.symbols.as_slice();
@@ -85,7 +85,7 @@ fn enter_symbols<'a>(
             module,
             name: symbol.text.as_bytes(),
             decider: Decider::Import(import),
-            source: (place, 0),
+            source: (index, 0),
         };
         enter(entries, scope, entry)?;
     }
@@ -95,18 +95,18 @@ fn enter_symbols<'a>(
 /// Enters the symbols of FROM clauses.
 fn enter_imports<'a>(
     entries: &mut Vec<Entry<'a>>,
-    scope: &mut NamePlaces<'a>,
+    scope: &mut NameIndices<'a>,
     module: &'a Module,
-    place: usize,
+    index: usize,
     imports: &'a [Import],
 ) -> Result<(), AllocError>
     requires { IsWithin entries.old.items scope.old }
     ensures entered { OnOk result (KnowsMore entries.old.items scope.old entries.new.items
-        scope.new «module».now place
+        scope.new «module».now index
         (λ x. option_map imported (first_import x imports.now))) }
 {
     'imports: for import in imports {
-        enter_symbols(entries, scope, module, place, import)?;
+        enter_symbols(entries, scope, module, index, import)?;
     }
     Ok(())
 }
@@ -138,35 +138,35 @@ pub fn root_arc(label: &[u8]) -> Option<u32>
 }
 
 /// Returns the entry of a root.
-fn root_entry<'a>(module: &'a Module, place: usize, number: u32) -> Entry<'a>
+fn root_entry<'a>(module: &'a Module, index: usize, number: u32) -> Entry<'a>
     ensures entry { (result.«module».now ≡ «module».now)
         × (result.name.now ≡ meaning.root_label number)
-        × (decision_of result.decider ≡ root number) × (result.source.0 ≡ place) }
+        × (decision_of result.decider ≡ root number) × (result.source.0 ≡ index) }
     ensures found { IsDefinedAt result }
 {
     Entry {
         module,
         name: root_label(number),
         decider: Decider::Root(number),
-        source: (place, 0),
+        source: (index, 0),
     }
 }
 
 /// Enters the roots (RFC 2578, section 3.5).
 fn enter_roots<'a>(
     entries: &mut Vec<Entry<'a>>,
-    scope: &mut NamePlaces<'a>,
+    scope: &mut NameIndices<'a>,
     module: &'a Module,
-    place: usize,
+    index: usize,
 ) -> Result<(), AllocError>
     requires { IsWithin entries.old.items scope.old }
     ensures entered { OnOk result (KnowsMore entries.old.items scope.old entries.new.items
-        scope.new «module».now place
+        scope.new «module».now index
         (λ x. option_map root (meaning.root_arc x))) }
 {
-    enter(entries, scope, root_entry(module, place, 0))?;
-    enter(entries, scope, root_entry(module, place, 1))?;
-    enter(entries, scope, root_entry(module, place, 2))?;
+    enter(entries, scope, root_entry(module, index, 0))?;
+    enter(entries, scope, root_entry(module, index, 1))?;
+    enter(entries, scope, root_entry(module, index, 2))?;
     Ok(())
 }
 
@@ -186,19 +186,19 @@ pub(crate) fn scope<'a>(
     hash: NameHash,
     entries: &mut Vec<Entry<'a>>,
     module: &'a Module,
-    place: usize,
-) -> Result<NamePlaces<'a>, AllocError>
+    index: usize,
+) -> Result<NameIndices<'a>, AllocError>
     ensures decided { IfOk result (λ scope. (x : List ℕ)
         → known entries.new.items scope x ≡ decided_as «module».now x (decision «module».now x)) }
     ensures within { IfOk result (λ scope. IsWithin entries.new.items scope) }
     ensures grown { IfOk result (λ _. (added : List Entry)
         × (entries.new.items ≡ entries.old.items ++ added)
-        × All (IsEntryOf «module».now place) added × All IsDecided added) }
+        × All (IsEntryOf «module».now index) added × All IsDecided added) }
     ensures hashed { IfOk result (λ scope. hasher_of scope ≡ hash) }
 {
     let mut scope = IndexMap::with_capacity_and_hasher(alloc, module.defs.len(), hash)?;
-    enter_definitions(entries, &mut scope, module, place)?;
-    enter_imports(entries, &mut scope, module, place, import_clauses(module))?;
-    enter_roots(entries, &mut scope, module, place)?;
+    enter_definitions(entries, &mut scope, module, index)?;
+    enter_imports(entries, &mut scope, module, index, import_clauses(module))?;
+    enter_roots(entries, &mut scope, module, index)?;
     Ok(scope)
 }

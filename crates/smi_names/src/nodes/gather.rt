@@ -1,8 +1,8 @@
-//! The nodes and warnings that modules give, in order of loading.
+//! The nodes and warnings that modules have, in order of loading.
 ghost use Rattle.std.specs.Prelude.{◌≡◌, List, [], ◌∷◌, ◌++◌, length, take, Some, OnOk, IfOk};
 ghost use Rattle.std.specs.Prelude.{false, slice_get};
 ghost use Rattle.smi_names.specs.meaning.Meaning.{module_named};
-ghost use Rattle.smi_names.specs.nodes.Nodes.{is_loaded, GivesNodes, Gathers, Brings};
+ghost use Rattle.smi_names.specs.nodes.Nodes.{is_loaded, GivesNodes, Gathers, Contributes};
 ghost use Rattle.smi_names.specs.nodes.Gathered.{GrowsByDefinition, Adds, AreGathered};
 ghost use Rattle.smi_text.specs.declared.trees.tree.Module.{Module};
 
@@ -17,13 +17,15 @@ use std::alloc::{AllocError, Global};
 /// Where a node comes from.
 #[derive(Clone, Copy, Debug)]
 pub enum Source {
-    /// It is a root, `ccitt`, `iso` or `joint-iso-ccitt` (RFC 2578, section 3.5).
+    /// The node is a root: `ccitt`, `iso` or `joint-iso-ccitt` (RFC 2578, section 3.5). Holds its
+    /// number, from 0 to 2.
     Root(u32),
-    /// It is a definition: the place of its module, and its place in the module.
+    /// The node is that of a definition. Holds the index of its module, and its index in the
+    /// module.
     Definition(usize, usize),
 }
 
-/// The nodes of modules, and the warnings that the modules give.
+/// The nodes of modules, and the warnings about the modules.
 #[derive(Drop)]
 pub struct Gathered {
     /// Where each node comes from, in order of loading: the roots first.
@@ -34,19 +36,20 @@ pub struct Gathered {
     pub warnings: Vec<Warning>,
 }
 
-/// Whether one of the modules before this place has the name of a module.
-#[tactic(auto, using(crate::proofs::Importing::is_loaded_before, crate::proofs::Importing::is_loaded_none, std::proofs::lemmas::Grind::common_steps))]
-fn is_double<'a>(names: &Names<'a>, module: &'a Module, place: usize) -> bool
-    ensures { result ≡ is_loaded (take place names.now.modules) «module».now.name.octets }
+/// Returns whether a module before `index` has the name of `module`.
+#[tactic(auto, using(crate::proofs::Imports::is_loaded_before, crate::proofs::Imports::is_loaded_none, std::proofs::lemmas::Grind::common_steps))]
+fn is_double<'a>(names: &Names<'a>, module: &'a Module, index: usize) -> bool
+    ensures { result ≡ is_loaded (take index names.now.modules) «module».now.name.octets }
 {
-    match names.module_place(module.name.as_bytes()) {
-        Some(first) => first < place,
+    match names.module_index(module.name.as_bytes()) {
+        Some(first) => first < index,
         None => false,
     }
 }
 
 impl Gathered {
-    /// Adds what a definition gives if its name has this resolution.
+    /// Appends the node of `def`, a definition of `module`, if `resolution` is an identifier.
+    /// Otherwise appends the warning that says why it has none.
     fn add(
         &mut self,
         alloc: Global,
@@ -63,8 +66,8 @@ impl Gathered {
             self.oids.push(oid.copy(alloc)?)?;
             return Ok(());
         }
-        let home = Text::copied(alloc, module.name.as_bytes())?;
-        let label = Text::copied(alloc, def.label.as_bytes())?;
+        let home = Text::from_slice(alloc, module.name.as_bytes())?;
+        let label = Text::from_slice(alloc, def.label.as_bytes())?;
         self.warnings.push(match resolution {
             Resolution::Numbers(_) => unreachable!(),
             Resolution::Cycle => Warning::Cycle(home, label),
@@ -74,8 +77,9 @@ impl Gathered {
         Ok(())
     }
 
-    /// Adds what the definition at a place gives, by what its name resolves to in its module.
-    /// `from` is a guess of where the module's names begin.
+    /// Appends the node of `def`, a definition of `module`, or the warning about it; nothing if it
+    /// has no identifier value. `at` has the index of the module, and the index of the definition
+    /// in it. `from` is a guess at the index of the module's first name.
     fn add_definition<'a>(
         &mut self,
         alloc: Global,
@@ -103,16 +107,17 @@ impl Gathered {
         }
     }
 
-    /// Adds what the definitions of a module give, in order of the text.
+    /// Appends the nodes of the definitions of `module` and the warnings about them, in order of
+    /// the text. `index` is the index of the module.
     fn add_definitions<'a>(
         &mut self,
         alloc: Global,
         names: &Names<'a>,
         module: &'a Module,
-        place: usize,
+        index: usize,
     ) -> Result<(), AllocError>
         requires long { length self.old.sources.items ≡ length self.old.oids.items }
-        requires there { slice_get names.now.modules place ≡ Some «module».now }
+        requires there { slice_get names.now.modules index ≡ Some «module».now }
         requires first { module_named names.now.modules «module».now.name.octets
             ≡ Some «module».now }
         ensures added { let modules = names.now.modules in OnOk result
@@ -121,53 +126,57 @@ impl Gathered {
         let defs = module.defs.as_slice();
         let mut from = 0;
         'defs: for (k, def) in defs.iter().enumerate() {
-            self.add_definition(alloc, names, module, def, (place, k), &mut from)?;
+            self.add_definition(alloc, names, module, def, (index, k), &mut from)?;
         }
         Ok(())
     }
 
-    /// Adds what a module gives if no earlier one has its name: the warnings of its imports, and
-    /// then what its definitions give.
+    /// Appends the warnings about the imports of `module`, and then the nodes of its definitions
+    /// and the warnings about them. No earlier module may have its name.
     fn add_loaded<'a>(
         &mut self,
         alloc: Global,
         names: &Names<'a>,
         module: &'a Module,
-        place: usize,
+        index: usize,
     ) -> Result<(), AllocError>
         requires long { length self.old.sources.items ≡ length self.old.oids.items }
-        requires there { slice_get names.now.modules place ≡ Some «module».now }
-        requires first { is_loaded (take place names.now.modules) «module».now.name.octets ≡ false }
+        requires there { slice_get names.now.modules index ≡ Some «module».now }
+        requires first { is_loaded (take index names.now.modules) «module».now.name.octets ≡ false }
         ensures added { let modules = names.now.modules in OnOk result
-            (Adds modules self.old self.new (Brings modules (take place modules) «module».now)) }
+            (Adds modules self.old self.new (Contributes modules
+            (take index modules) «module».now)) }
     {
         add_import_warnings(alloc, &mut self.warnings, names, module)?;
-        self.add_definitions(alloc, names, module, place)?;
+        self.add_definitions(alloc, names, module, index)?;
         Ok(())
     }
 
-    /// Adds what the module at a place brings after those before it.
+    /// Appends the nodes of `module`, which is at `index`, and the warnings about it. If an
+    /// earlier module has its name, appends only the warning that it is left out.
     fn add_module<'a>(
         &mut self,
         alloc: Global,
         names: &Names<'a>,
         module: &'a Module,
-        place: usize,
+        index: usize,
     ) -> Result<(), AllocError>
         requires long { length self.old.sources.items ≡ length self.old.oids.items }
-        requires there { slice_get names.now.modules place ≡ Some «module».now }
+        requires there { slice_get names.now.modules index ≡ Some «module».now }
         ensures added { let modules = names.now.modules in OnOk result
-            (Adds modules self.old self.new (Brings modules (take place modules) «module».now)) }
+            (Adds modules self.old self.new (Contributes modules
+            (take index modules) «module».now)) }
     {
-        if is_double(names, module, place) {
-            let name = Text::copied(alloc, module.name.as_bytes())?;
+        if is_double(names, module, index) {
+            let name = Text::from_slice(alloc, module.name.as_bytes())?;
             self.warnings.push(Warning::DoubleModule(name))?;
             return Ok(());
         }
-        self.add_loaded(alloc, names, module, place)
+        self.add_loaded(alloc, names, module, index)
     }
 
-    /// The roots alone (RFC 2578, section 3.5), with room for this many nodes.
+    /// Returns the nodes of the roots (RFC 2578, section 3.5), with memory reserved for `room`
+    /// nodes.
     fn roots(alloc: Global, room: usize) -> Result<Gathered, AllocError>
         ensures { IfOk result (λ gathered. (ms : List Module) → AreGathered ms gathered []) }
     {
@@ -190,18 +199,18 @@ impl Gathered {
     }
 }
 
-/// The nodes and warnings of modules, by what their names resolve to: the roots, and then those of
-/// each module, in order.
+/// Returns the nodes of the roots, followed by those of each module in order, and the warnings
+/// about the modules.
 pub fn gather_nodes<'a>(
     alloc: Global,
     names: &Names<'a>,
     modules: &'a [Module],
 ) -> Result<Gathered, AllocError>
-    // The names are those of these modules.
+    // `names` must be the names of `modules`.
     requires { names.now.modules ≡ modules.now }
     ensures { IfOk result (λ gathered. AreGathered modules.now gathered modules.now) }
 {
-    // There is room for a node for each resolution: most of these are of nodes.
+    // Reserves memory for a node for each resolution, since most resolutions are those of nodes.
     let mut gathered = Gathered::roots(alloc, names.identifiers())?;
     'modules: for (i, module) in modules.iter().enumerate() {
         gathered.add_module(alloc, names, module, i)?;

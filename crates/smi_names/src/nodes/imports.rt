@@ -42,14 +42,14 @@ fn add_symbol_warnings<'a>(
 {
     let from = import.source.as_bytes();
     let name = symbol.text.as_bytes();
-    if is_macro(name) || TypeBase::named(name).is_some() || has_name(names, from, name) {
+    if is_macro(name) || TypeBase::from_name(name).is_some() || has_name(names, from, name) {
         return Ok(());
     }
-    let home = Text::copied(alloc, module.name.as_bytes())?;
+    let home = Text::from_slice(alloc, module.name.as_bytes())?;
     warnings.push(Warning::MissingImport(
         home,
-        Text::copied(alloc, name)?,
-        Text::copied(alloc, from)?,
+        Text::from_slice(alloc, name)?,
+        Text::from_slice(alloc, from)?,
     ))?;
     Ok(())
 }
@@ -89,8 +89,8 @@ fn add_clause_warnings<'a>(
     if names.is_loaded(import.source.as_bytes()) {
         return add_symbols_warnings(alloc, warnings, names, module, import);
     }
-    let home = Text::copied(alloc, module.name.as_bytes())?;
-    let source = Text::copied(alloc, import.source.as_bytes())?;
+    let home = Text::from_slice(alloc, module.name.as_bytes())?;
+    let source = Text::from_slice(alloc, import.source.as_bytes())?;
     warnings.push(Warning::MissingModule(home, source))?;
     Ok(())
 }

@@ -5,7 +5,7 @@ use Rattle.smi_value.specs.declared.letters.NameForm.{NameForm}
 use Rattle.smi_text.specs.{declared.trees.tree.Def.Def, trees.Lookup.kind_words}
 use Rattle.smi_show.specs.{name.Name.IsName}
 use Rattle.smi_tree.specs.Tree.{Contents}
-use Rattle.smi_tree.specs.Naming.{Standing, nearest_definition, nearest_node}
+use Rattle.smi_tree.specs.Naming.{NodeView, nearest_definition, nearest_node}
 use Rattle.smi_show.specs.{private.name.Shown.name_text, details.Value.identifier_text}
 use Rattle.smi_show.specs.details.Definition.{definition_text}
 
@@ -22,7 +22,7 @@ abbrev pub clauses_text : Option Def → List ℕ
 clauses_text None = []
 clauses_text (Some d) = definition_text d.kind
 
-abbrev pub node_detail : Option Standing → Option Def → List ℕ
+abbrev pub node_detail : Option NodeView → Option Def → List ℕ
 node_detail None definition = []
 node_detail (Some node) definition =
     node.label ++ codes " " ++ kind_text definition ++ codes "\n" ++ from_text node.home

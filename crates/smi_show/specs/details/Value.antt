@@ -4,10 +4,10 @@ use Rattle.std.specs.Prelude.{codes, decimal, Option, Some, None}
 use Rattle.std.specs.List.{flat_map}
 use Rattle.smi_show.specs.name.Beginnings.{beginnings}
 use Rattle.smi_tree.specs.{Nodes.last_number, Tree.Contents}
-use Rattle.smi_tree.specs.Naming.{Standing, nearest_node}
+use Rattle.smi_tree.specs.Naming.{NodeView, nearest_node}
 
 -- the number with the label of the node at `here`, or only the number if there is none
-abbrev pub labelled_number : Option Standing → List ℕ → ℕ → List ℕ
+abbrev pub labelled_number : Option NodeView → List ℕ → ℕ → List ℕ
 labelled_number None here n = decimal n
 labelled_number (Some node) here n =
     if node.depth == length here then node.label ++ codes "(" ++ decimal n ++ codes ")"

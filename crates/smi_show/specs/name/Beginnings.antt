@@ -5,4 +5,4 @@ use Rattle.std.specs.Prelude.{ℕ, List, [], ◌∷◌, map}
 -- all beginnings, from that of one number to the whole identifier
 abbrev pub beginnings : List ℕ → List (List ℕ)
 beginnings [] = []
-beginnings (n ∷ more) = (n ∷ []) ∷ map (λ front. n ∷ front) (beginnings more)
+beginnings (n ∷ more) = (n ∷ []) ∷ map (λ prefix. n ∷ prefix) (beginnings more)

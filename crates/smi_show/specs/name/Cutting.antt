@@ -10,8 +10,8 @@ is_unquoted (Some quote) = false
 
 -- the parts with these octets before the first one
 abbrev pub with_prefix : List ℕ → List (List ℕ) → List (List ℕ)
-with_prefix front [] = front ∷ []
-with_prefix front (part ∷ parts) = (front ++ part) ∷ parts
+with_prefix prefix [] = prefix ∷ []
+with_prefix prefix (part ∷ parts) = (prefix ++ part) ∷ parts
 
 -- the parts of a text, before which this quote is open, if any
 abbrev pub parts_after : Option ℕ → List ℕ → List (List ℕ)
@@ -30,7 +30,7 @@ is_double_colon (first ∷ []) = false
 is_double_colon (first ∷ second ∷ more) = (first == 58) && (second == 58)
 
 abbrev pub longer_module : List ℕ → List ℕ × List ℕ → List ℕ × List ℕ
-longer_module front (module_name, rest) = (front ++ module_name, rest)
+longer_module prefix (module_name, rest) = (prefix ++ module_name, rest)
 
 -- the text before the first `::` outside quotes and the text after it
 abbrev pub module_after : Option ℕ → List ℕ → Option (List ℕ × List ℕ)

@@ -4,7 +4,7 @@ use Rattle.std.specs.Prelude.{◌≡◌, ◌≢◌, ◌<◌, ◌≤◌, ◌⊎�
 use Rattle.std.specs.Prelude.{Bool, Option, Some, None, Result, Ok, Err}
 use Rattle.std.specs.Char.{is_ascii_digit}
 use Rattle.snmp_oid.specs.Numeric.{IsNumeral}
-use Rattle.snmp_io.specs.Quotes.{IsFrontOf}
+use Rattle.snmp_io.specs.Quotes.{IsUnquotedPrefix}
 use Rattle.smi_show.specs.index.Pieces.{IsPiece, Piece, counted_text, piece_numbers, plain_number}
 use Rattle.smi_show.specs.index.Pieces.{plain_text, shown_piece}
 use Rattle.smi_show.specs.name.Cut.{AreParts, HasNoModule, IsModuleCut}
@@ -14,7 +14,7 @@ use Rattle.smi_show.specs.declared.name.error.NameError.TheVariants.{Unknown}
 use Rattle.smi_tree.specs.Naming.{is_module_loaded, oid_anywhere, oid_in_module, oid_of_child}
 use Rattle.smi_tree.specs.{Naming.oid_of_root, Tree.Contents}
 
--- ---- a part on its own
+-- ---- what a part means without the parts before it
 
 -- `part` is a number in decimal digits, with or without leading zeros, or a text in quotes
 abbrev pub StatesPiece : (part : List ℕ) → Piece → Type 0
@@ -41,7 +41,7 @@ IsBadIndex [] = ⊥
 IsBadIndex (octet ∷ more) =
     ((octet ≡ 34) ⊎ (octet ≡ 39)) × ((piece : Piece) → StatesPiece (octet ∷ more) piece → ⊥)
 
--- ---- a part after others
+-- ---- what parts mean, one after the other
 
 -- `result` is the identifier `o` if it has at most 128 numbers (RFC 2578, section 3.5), otherwise
 -- `TooLong`
@@ -75,7 +75,7 @@ PartsMean tree look_up so_far (part ∷ more) result =
     × PartsMean tree (oid_of_child tree next) next more result)
     ⊎ ((why : NameError) × PartMeans look_up so_far part (Err why) × (result ≡ Err why))
 
--- ---- a text
+-- ---- what a text means as a name
 
 -- where the label of the first part is looked up
 pub data Scope : Type 0 where
@@ -119,9 +119,9 @@ TextMeans tree text result =
     × IsScoped text scope rest × ScopeMeans tree scope rest result)))
 
 -- the meaning of the prefix of `text` before the first `stop` outside quotes, with its length
-abbrev pub FrontMeans : Contents → (stop : ℕ) → (text : List ℕ) → Result (List ℕ × ℕ) NameError
+abbrev pub PrefixMeans : Contents → (stop : ℕ) → (text : List ℕ) → Result (List ℕ × ℕ) NameError
     → Type 0
-FrontMeans tree stop text (Ok (o, size)) = (front : List ℕ) × IsFrontOf stop text front
-    × TextMeans tree front (Ok o) × (size ≡ length front)
-FrontMeans tree stop text (Err why) = (front : List ℕ) × IsFrontOf stop text front
-    × TextMeans tree front (Err why)
+PrefixMeans tree stop text (Ok (o, size)) = (prefix : List ℕ) × IsUnquotedPrefix stop text prefix
+    × TextMeans tree prefix (Ok o) × (size ≡ length prefix)
+PrefixMeans tree stop text (Err why) = (prefix : List ℕ) × IsUnquotedPrefix stop text prefix
+    × TextMeans tree prefix (Err why)

@@ -6,7 +6,7 @@ use Rattle.snmp_oid.specs.Numeric.{numeric_text}
 use Rattle.smi_show.specs.index.Pieces.{AreInstancePieces, Piece, shown_pieces}
 use Rattle.smi_show.specs.name.Beginnings.{beginnings}
 use Rattle.smi_tree.specs.{Nodes.last_number, Tree.Contents}
-use Rattle.smi_tree.specs.Naming.{Standing, nearest_node}
+use Rattle.smi_tree.specs.Naming.{NodeView, nearest_node}
 use Rattle.smi_value.specs.declared.letters.NameForm.{NameForm}
 use Rattle.smi_value.specs.declared.letters.NameForm.TheVariants.{Numeric, Full, Label}
 use Rattle.smi_value.specs.declared.letters.NameForm.TheVariants.{ModuleLabel}
@@ -18,7 +18,7 @@ qualified (Some home) label = home ++ codes "::" ++ label
 
 -- the name of `n`, the last number of `o`: the label of the deepest node if it is at `o`, otherwise
 -- the number
-abbrev pub arc_text : Option Standing → List ℕ → ℕ → List ℕ
+abbrev pub arc_text : Option NodeView → List ℕ → ℕ → List ℕ
 arc_text None o n = decimal n
 arc_text (Some node) o n = if node.depth == length o then node.label else decimal n
 
@@ -29,23 +29,23 @@ path_text tree o =
     (beginnings o)
 
 -- the text of `node`, the deepest one, in a form
-abbrev pub node_text : Contents → NameForm → List ℕ → Standing → List ℕ
+abbrev pub node_text : Contents → NameForm → List ℕ → NodeView → List ℕ
 node_text tree Numeric o node = []
 node_text tree Full o node = path_text tree (take node.depth o)
 node_text tree Label o node = node.label
 node_text tree ModuleLabel o node = qualified node.home node.label
 
 -- `text` shows the numbers after the node, by its index unless that is to be shown as numbers
-abbrev pub IsInstanceText : Bool → List ℕ → Standing → (text : List ℕ) → Type 0
+abbrev pub IsInstanceText : Bool → List ℕ → NodeView → (text : List ℕ) → Type 0
 IsInstanceText numeric_index o node text =
     (pieces : List Piece) × AreInstancePieces (if numeric_index then None else node.index)
     (drop node.depth o) pieces × (text ≡ shown_pieces pieces)
 
 -- `text` shows `o` by its deepest node and what follows that, or in numbers if there is no node
-abbrev pub IsStandingText : Contents → NameForm → Bool → List ℕ → Option Standing
+abbrev pub IsNearestText : Contents → NameForm → Bool → List ℕ → Option NodeView
     → (text : List ℕ) → Type 0
-IsStandingText tree form numeric_index o None text = text ≡ numeric_text o
-IsStandingText tree form numeric_index o (Some node) text =
+IsNearestText tree form numeric_index o None text = text ≡ numeric_text o
+IsNearestText tree form numeric_index o (Some node) text =
     (instance : List ℕ) × IsInstanceText numeric_index o node instance
     × (text ≡ node_text tree form o node ++ instance)
 
@@ -53,7 +53,7 @@ IsStandingText tree form numeric_index o (Some node) text =
 abbrev pub IsName : Contents → NameForm → Bool → List ℕ → (text : List ℕ) → Type 0
 IsName tree Numeric numeric_index o text = text ≡ numeric_text o
 IsName tree form numeric_index o text =
-    IsStandingText tree form numeric_index o (nearest_node tree o) text
+    IsNearestText tree form numeric_index o (nearest_node tree o) text
 
 -- names of this form, read again, mean the identifier that they show
 abbrev pub ReadsBack : NameForm → Type 0

@@ -1,2 +1,2 @@
 pub mod Digits
-pub mod Reading
+pub mod IndexValues

@@ -1,4 +1,4 @@
 pub mod Left
 pub mod Part
-pub mod Reading
+pub mod NameResult
 pub mod Shown

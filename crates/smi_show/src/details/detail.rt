@@ -2,7 +2,7 @@
 ghost use Rattle.std.specs.Prelude.{◌≡◌, ◌++◌, [], Some, None, codes};
 ghost use Rattle.std.specs.Option.{option_copied};
 ghost use Rattle.snmp_io.specs.Draft.{Adds};
-ghost use Rattle.smi_tree.specs.Naming.{standing_of};
+ghost use Rattle.smi_tree.specs.Naming.{view_of};
 ghost use Rattle.smi_show.specs.details.Detail.{detail_text, node_detail, from_text, kind_text};
 ghost use Rattle.smi_show.specs.details.Detail.{clauses_text};
 
@@ -31,8 +31,8 @@ pub fn detail_text(tree: &Tree, form: NameForm, numeric_index: bool, oid: &Oid, 
 
 /// Appends the lines of `node` and its definition.
 fn node_text(node: NearestNode<'_>, definition: Option<&Def>, draft: &mut Draft)
-    ensures { let standing = Some (standing_of node.entry) in
-        Adds draft.old (node_detail standing (option_copied definition.entry)) draft.new }
+    ensures { let view = Some (view_of node.entry) in
+        Adds draft.old (node_detail view (option_copied definition.entry)) draft.new }
 {
     draft.octets(node.label);
     draft.octets(b" ");

@@ -23,8 +23,8 @@ fn parts_text(tree: &Tree, numbers: &[u32], draft: &mut Draft)
     requires { length numbers.now ≤ 128 }
     ensures { Adds draft.old (parts_text tree.now numbers.now) draft.new }
 {
-    if let [front @ .., last] = numbers {
-        labelled_parts(tree, front, draft);
+    if let [prefix @ .., last] = numbers {
+        labelled_parts(tree, prefix, draft);
         draft.number(u64::from(*last));
         draft.octets(b" ");
     }
@@ -45,8 +45,8 @@ fn labelled_parts(tree: &Tree, numbers: &[u32], draft: &mut Draft)
 
 /// Appends what [`labelled_number`] does, and a blank.
 fn labelled_part(tree: &Tree, here: &Oid, number: u32, near: &mut Near, draft: &mut Draft)
-    ensures { let standing = nearest_node tree.now here.now in
-        Adds draft.old (labelled_number standing here.now number ++ codes " ") draft.new }
+    ensures { let view = nearest_node tree.now here.now in
+        Adds draft.old (labelled_number view here.now number ++ codes " ") draft.new }
 {
     labelled_number(tree, here, number, near, draft);
     draft.octets(b" ");
@@ -54,8 +54,8 @@ fn labelled_part(tree: &Tree, here: &Oid, number: u32, near: &mut Near, draft: &
 
 /// Appends the label of the node at `here` and `number` in parentheses, or only `number`.
 fn labelled_number(tree: &Tree, here: &Oid, number: u32, near: &mut Near, draft: &mut Draft)
-    ensures { let standing = nearest_node tree.now here.now in
-        Adds draft.old (labelled_number standing here.now number) draft.new }
+    ensures { let view = nearest_node tree.now here.now in
+        Adds draft.old (labelled_number view here.now number) draft.new }
 {
     match tree.nearest_from(here, near) {
         Some(node) if node.depth == here.len() => {

@@ -3,26 +3,26 @@ ghost use Rattle.std.specs.Prelude.{◌≡◌, ℕ, ◌≤◌, ◌<◌, ◌↔�
 ghost use Rattle.std.specs.Prelude.{option_map, IfSome, IfNone, IsTrue};
 ghost use Rattle.std.specs.List.{list_all};
 ghost use Rattle.smi_show.specs.index.Index.{ReadsValue, is_octet};
-ghost use Rattle.smi_show.specs.private.index.Reading.{front_and_rest, counted, remaining};
-ghost use Rattle.smi_show.specs.private.index.Reading.{of_octets, in_extent, front_of};
+ghost use Rattle.smi_show.specs.private.index.IndexValues.{split_numbers, counted, remaining};
+ghost use Rattle.smi_show.specs.private.index.IndexValues.{of_octets, in_extent, value_and_rest};
 
 use smi_tree::{Extent, IndexPart};
 
 /// Returns the value of `part` at the start of `numbers`, without its length, and the numbers after
 /// it. Returns `None` if `numbers` doesn't begin with an encoded value (RFC 2578, section 7.7).
 pub fn read_part<'a>(part: IndexPart, numbers: &'a [u32]) -> Option<(&'a [u32], &'a [u32])>
-    ensures reads { option_map (λ r. (r.0.now, r.1.now)) result ≡ front_of part numbers.now }
+    ensures reads { option_map (λ r. (r.0.now, r.1.now)) result ≡ value_and_rest part numbers.now }
     ensures found { IfSome result (λ r. ReadsValue part numbers.now r.0.now r.1.now) }
     ensures none { IfNone result ((value rest : List ℕ)
         → ¬ ReadsValue part numbers.now value rest) }
 {
-    let read = front(part, numbers);
+    let read = value_and_rest(part, numbers);
     read
 }
 
 /// Returns what `read_part` does, by the cases of `part`.
-fn front<'a>(part: IndexPart, numbers: &'a [u32]) -> Option<(&'a [u32], &'a [u32])>
-    ensures { option_map (λ r. (r.0.now, r.1.now)) result ≡ front_of part numbers.now }
+fn value_and_rest<'a>(part: IndexPart, numbers: &'a [u32]) -> Option<(&'a [u32], &'a [u32])>
+    ensures { option_map (λ r. (r.0.now, r.1.now)) result ≡ value_and_rest part numbers.now }
 {
     match part {
         IndexPart::Number => split(numbers, 1),
@@ -58,7 +58,7 @@ fn split_extent<'a>(extent: Extent, numbers: &'a [u32]) -> Option<(&'a [u32], &'
 
 /// Returns the first `size` numbers and the rest, or `None` if there are fewer.
 fn split<'a>(numbers: &'a [u32], size: u64) -> Option<(&'a [u32], &'a [u32])>
-    ensures { option_map (λ r. (r.0.now, r.1.now)) result ≡ front_and_rest size numbers.now }
+    ensures { option_map (λ r. (r.0.now, r.1.now)) result ≡ split_numbers size numbers.now }
 {
     if size <= numbers.len() as u64 {
         Some(numbers.split_at(size as usize))

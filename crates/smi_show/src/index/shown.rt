@@ -7,7 +7,7 @@ ghost use Rattle.std.specs.{Bool.OnTrue, Bool.OnFalse, Option.is_some};
 ghost use Rattle.std.specs.List.{flat_map, list_all};
 ghost use Rattle.snmp_io.specs.Draft.{Adds};
 ghost use Rattle.smi_tree.specs.declared.columns.index_part.IndexPart.{IndexPart};
-ghost use Rattle.smi_show.specs.private.index.Reading.{has_text, instance_pieces, values_of};
+ghost use Rattle.smi_show.specs.private.index.IndexValues.{has_text, instance_pieces, values_of};
 ghost use Rattle.smi_show.specs.index.Pieces.{IsPiece, as_numbers, as_text, index_pieces, is_plain};
 ghost use Rattle.smi_show.specs.index.Pieces.{is_quotable, is_shown_text, is_text, piece_numbers};
 ghost use Rattle.smi_show.specs.index.Pieces.{shown_pieces, value_pieces};
@@ -48,9 +48,9 @@ pub fn numbers_text(numbers: &[u32], draft: &mut Draft)
 {
     // Most names fit into the buffer.
     let mut room = [0; ROOM];
-    let front = put_front(&mut room, numbers);
-    let mut filled = 2 * front;
-    'numbers: for at in front..numbers.len() {
+    let prefix = put_leading_numbers(&mut room, numbers);
+    let mut filled = 2 * prefix;
+    'numbers: for at in prefix..numbers.len() {
         filled = with_room(&room, filled, draft);
         filled = put_number(&mut room, filled, numbers[at]);
     }
@@ -75,9 +75,9 @@ pub fn index_text(parts: &[IndexPart], numbers: &[u32], draft: &mut Draft)
 /// name.
 ///
 /// A law: the call does nothing, and its caller may use what it ensures.
-#[tactic(auto, using(crate::proofs::PieceLemmas::whole, crate::proofs::PieceLemmas::each))]
+#[tactic(auto, using(crate::proofs::Pieces::whole, crate::proofs::Pieces::each))]
 #[inline]
-pub fn pieces_stand_for_numbers()
+pub fn pieces_represent_numbers()
     ensures whole { (index : Option (List IndexPart)) (numbers : List ℕ)
         → flat_map piece_numbers (instance_pieces index numbers) ≡ numbers }
     ensures each { (index : Option (List IndexPart)) (numbers : List ℕ)
@@ -191,28 +191,28 @@ fn number_text(number: u64, draft: &mut Draft)
 
 /// Writes leading numbers of one digit to the start of `room`, four at a time and at most 60, and
 /// returns how many it wrote. Most names begin with such numbers.
-#[tactic(auto, using(std::proofs::lemmas::Bool::OnTrue_at, crate::proofs::FrontNumbers::four_digits_more))]
+#[tactic(auto, using(std::proofs::lemmas::Bool::OnTrue_at, crate::proofs::LeadingNumbers::four_digits_more))]
 #[inline(always)]
-fn put_front(room: &mut [u8; ROOM], numbers: &[u32]) -> usize
-    ensures front { result ≤ length numbers.now }
+fn put_leading_numbers(room: &mut [u8; ROOM], numbers: &[u32]) -> usize
+    ensures prefix { result ≤ length numbers.now }
     ensures within { 2 * result ≤ 128 }
-    ensures text { let front = take result numbers.now in
-        take (2 * result) room.new ≡ shown_pieces (as_numbers front) }
+    ensures text { let prefix = take result numbers.now in
+        take (2 * result) room.new ≡ shown_pieces (as_numbers prefix) }
 {
-    let mut front = 0;
-    'fours: while front <= 56 && numbers.len() - front >= 4 {
-        let first = numbers[front];
-        let second = numbers[front + 1];
-        let third = numbers[front + 2];
-        let fourth = numbers[front + 3];
+    let mut prefix = 0;
+    'fours: while prefix <= 56 && numbers.len() - prefix >= 4 {
+        let first = numbers[prefix];
+        let second = numbers[prefix + 1];
+        let third = numbers[prefix + 2];
+        let fourth = numbers[prefix + 3];
         if !are_digits(first, second, third, fourth) {
-            return front;
+            return prefix;
         }
-        put_digits(room, 2 * front, first, second);
-        put_digits(room, 2 * front + 4, third, fourth);
-        front += 4;
+        put_digits(room, 2 * prefix, first, second);
+        put_digits(room, 2 * prefix + 4, third, fourth);
+        prefix += 4;
     }
-    front
+    prefix
 }
 
 /// Returns whether all four numbers have one digit.
@@ -273,7 +273,7 @@ fn put_number(room: &mut [u8; ROOM], filled: usize, number: u32) -> usize
 }
 
 /// Does what [`put_number`] does, for a number of four to ten digits.
-#[tactic(auto, using(crate::proofs::DigitLemmas::behind))]
+#[tactic(auto, using(crate::proofs::Digits::after))]
 #[inline(never)]
 fn put_long(room: &mut [u8; ROOM], filled: usize, number: u32) -> usize
     requires room { filled ≤ 117 }
@@ -284,13 +284,13 @@ fn put_long(room: &mut [u8; ROOM], filled: usize, number: u32) -> usize
     if number < 1_000_000 {
         return put_medium(room, filled, number);
     }
-    let front = put_medium(room, filled, number / 1_000_000);
-    let more = put_three(room, front, number / 1000 % 1000);
+    let prefix = put_medium(room, filled, number / 1_000_000);
+    let more = put_three(room, prefix, number / 1000 % 1000);
     put_three(room, more, number % 1000)
 }
 
 /// Does what [`put_number`] does, for a number of up to six digits.
-#[tactic(auto, using(crate::proofs::DigitLemmas::behind))]
+#[tactic(auto, using(crate::proofs::Digits::after))]
 fn put_medium(room: &mut [u8; ROOM], filled: usize, number: u32) -> usize
     requires room { filled ≤ 117 }
     requires medium { number < 1000000 }
@@ -301,8 +301,8 @@ fn put_medium(room: &mut [u8; ROOM], filled: usize, number: u32) -> usize
     if number < 1000 {
         return put_short(room, filled, number);
     }
-    let front = put_short(room, filled, number / 1000);
-    put_three(room, front, number % 1000)
+    let prefix = put_short(room, filled, number / 1000);
+    put_three(room, prefix, number % 1000)
 }
 
 /// Does what [`put_number`] does, for a number of up to three digits.
@@ -376,13 +376,13 @@ fn put_three(room: &mut [u8; ROOM], filled: usize, number: u32) -> usize
     filled + 3
 }
 
-/// Writes `octet` at the offset `place`.
+/// Writes `octet` at the offset `offset`.
 #[inline(always)]
-fn put(room: &mut [u8; ROOM], place: usize, octet: u8)
-    requires { place < 128 }
-    ensures { take (place + 1) room.new ≡ take place room.old ++ octet ∷ [] }
+fn put(room: &mut [u8; ROOM], offset: usize, octet: u8)
+    requires { offset < 128 }
+    ensures { take (offset + 1) room.new ≡ take offset room.old ++ octet ∷ [] }
 {
-    room[place] = octet;
+    room[offset] = octet;
 }
 
 /// Appends a dot and a string in quotes: double ones if its encoding begins with its length,

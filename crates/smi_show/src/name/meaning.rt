@@ -8,9 +8,9 @@ ghost use Rattle.smi_show.specs.name.Cutting.{name_parts, module_after};
 ghost use Rattle.smi_show.specs.private.name.Left.{parts_left};
 ghost use Rattle.smi_show.specs.name.Meaning.{further_meaning, meaning, meaning_in, or_unknown};
 ghost use Rattle.smi_show.specs.name.Meaning.{part_meaning, plain_meaning, scoped_meaning};
-ghost use Rattle.smi_show.specs.name.Meant.{FrontMeans, TextMeans, found_in};
+ghost use Rattle.smi_show.specs.name.Meant.{PrefixMeans, TextMeans, found_in};
 ghost use Rattle.smi_show.specs.{name.Name.IsName, name.Name.ReadsBack, private.name.Part.scope_in};
-ghost use Rattle.smi_show.specs.private.name.Reading.{meant_with, read_to};
+ghost use Rattle.smi_show.specs.private.name.NameResult.{meant_with, read_to};
 ghost use Rattle.smi_tree.specs.Naming.{oid_of_child};
 
 use crate::name::NameError;
@@ -18,8 +18,8 @@ use crate::name::cut::{cut_module, cut_part};
 use crate::name::part::{Part, read_part};
 use crate::name::piece::{push_number, push_piece};
 use smi_tree::Tree;
-use snmp_io::unquoted_front;
-use snmp_oid::{Oid, StoredOid, front_number, names, read_numeric};
+use snmp_io::unquoted_prefix;
+use snmp_oid::{Oid, StoredOid, leading_number, names, read_numeric};
 
 /// Returns the identifier that a name means, or the first fault from the left. Doesn't allocate.
 ///
@@ -44,7 +44,7 @@ pub fn resolve(tree: &Tree, text: &[u8]) -> Result<Oid, NameError>
 /// before the first `stop` outside quotes, or with `text` if there is none. Fails as [`resolve`]
 /// does. Doesn't allocate.
 pub fn resolve_front(tree: &Tree, text: &[u8], stop: u8) -> Result<(Oid, usize), NameError>
-    ensures { FrontMeans tree.now stop text.now result }
+    ensures { PrefixMeans tree.now stop text.now result }
 {
     let mut oid = Oid::new();
     let size = resolve_front_into(tree, text, stop, &mut oid)?;
@@ -69,12 +69,12 @@ pub fn resolve_front_into(
     oid: &mut Oid,
 ) -> Result<usize, NameError>
     ensures { MatchResult result
-        (λ size. FrontMeans tree.now stop text.now (Ok (oid.new, size)))
-        (λ why. FrontMeans tree.now stop text.now (Err why)) }
+        (λ size. PrefixMeans tree.now stop text.now (Ok (oid.new, size)))
+        (λ why. PrefixMeans tree.now stop text.now (Err why)) }
 {
-    let front = unquoted_front(text, stop);
-    resolve_into(tree, front, oid)?;
-    Ok(front.len())
+    let prefix = unquoted_prefix(text, stop);
+    resolve_into(tree, prefix, oid)?;
+    Ok(prefix.len())
 }
 
 /// Returns what `resolve` does, by the computed meaning.
@@ -87,7 +87,7 @@ fn meaning_of(tree: &Tree, text: &[u8]) -> Result<Oid, NameError>
 }
 
 /// Reads the identifier that `text` means into `oid`.
-#[tactic(auto, using(crate::proofs::NumericMeaning::numeric_meaning))]
+#[tactic(auto, using(crate::proofs::NumericNames::numeric_meaning))]
 fn read_meaning(tree: &Tree, text: &[u8], oid: &mut Oid) -> Result<(), NameError>
     ensures { read_to result oid.new ≡ meaning tree.now text.now }
 {
@@ -170,7 +170,8 @@ fn parts_meaning(tree: &Tree, scope: Scope<'_>, text: &[u8], oid: &mut Oid) -> R
     further_meaning(tree, left, oid)
 }
 
-/// Reads further parts, if there are any, after the identifier in `oid`.
+/// Reads `parts`, which follow the parts of a name that mean the identifier in `oid`, if there are
+/// any. Sets `oid` to the identifier of all these parts.
 fn further_meaning(tree: &Tree, parts: Option<&[u8]>, oid: &mut Oid) -> Result<(), NameError>
     ensures { let left = parts_left (option_map (λ rest. rest.now) parts.entry) in
         read_to result oid.new ≡ further_meaning tree.now oid.old left }
@@ -182,7 +183,8 @@ fn further_meaning(tree: &Tree, parts: Option<&[u8]>, oid: &mut Oid) -> Result<(
     Ok(())
 }
 
-/// Reads the first part of a name, and returns the text after the dot that ends it, if one does.
+/// Reads the first part of a name into `oid`, and returns the text after the dot that follows it,
+/// if there is one.
 fn first_meaning<'b>(
     tree: &Tree,
     scope: Scope<'_>,
@@ -198,7 +200,8 @@ fn first_meaning<'b>(
     Ok(rest)
 }
 
-/// Reads the first of further parts, and returns the text after the dot that ends it, if one does.
+/// Reads the first part of `text`, which follows the parts of a name that mean the identifier in
+/// `oid`. Returns the text after the dot that follows it, if there is one.
 fn next_meaning<'b>(
     tree: &Tree,
     text: &'b [u8],
@@ -211,7 +214,7 @@ fn next_meaning<'b>(
         IfSome left (λ rest. length rest.now < length text.now)) }
 {
     // Most further parts are numbers of a few digits.
-    if let Some((number, rest)) = front_number(text) {
+    if let Some((number, rest)) = leading_number(text) {
         return match push_number(oid, number) {
             Ok(()) => Ok(rest),
             Err(fault) => Err(fault),
@@ -222,7 +225,8 @@ fn next_meaning<'b>(
     Ok(rest)
 }
 
-/// Reads `part`, the first of a name, into `oid`.
+/// Sets `oid` to the identifier that `part`, the first part of a name, means. A label is looked up
+/// in `scope`.
 fn head_meaning(tree: &Tree, scope: Scope<'_>, part: &[u8], oid: &mut Oid) -> Result<(), NameError>
     ensures { let look_up = found_in tree.now (scope_in scope.entry) in
         read_to result oid.new ≡ part_meaning look_up [] part.now }
@@ -232,12 +236,12 @@ fn head_meaning(tree: &Tree, scope: Scope<'_>, part: &[u8], oid: &mut Oid) -> Re
             oid.clear();
             push_piece(oid, piece)
         }
-        Part::Label(label) => known(labelled(tree, scope, label), oid),
+        Part::Label(label) => copy_if_known(oid_of_label(tree, scope, label), oid),
     }
 }
 
-/// The identifier of the node of a label in a scope.
-fn labelled<'t>(tree: &'t Tree, scope: Scope<'_>, label: &[u8]) -> Option<&'t StoredOid>
+/// Returns the identifier of the node with the label `label` in `scope`, if there is one.
+fn oid_of_label<'t>(tree: &'t Tree, scope: Scope<'_>, label: &[u8]) -> Option<&'t StoredOid>
     ensures { option_copied result
         ≡ found_in tree.now (scope_in scope.entry) label.now }
 {
@@ -255,12 +259,12 @@ fn part_meaning(tree: &Tree, part: &[u8], oid: &mut Oid) -> Result<(), NameError
 {
     match read_part(part)? {
         Part::Piece(piece) => push_piece(oid, piece),
-        Part::Label(label) => known(tree.child_oid(oid, label), oid),
+        Part::Label(label) => copy_if_known(tree.child_oid(oid, label), oid),
     }
 }
 
 /// Copies the identifier that was found.
-fn known(found: Option<&StoredOid>, oid: &mut Oid) -> Result<(), NameError>
+fn copy_if_known(found: Option<&StoredOid>, oid: &mut Oid) -> Result<(), NameError>
     ensures { read_to result oid.new ≡ or_unknown (option_copied found.entry) }
 {
     oid.set_to_numbers(found.ok_or(NameError::Unknown)?.as_slice());

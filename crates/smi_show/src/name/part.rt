@@ -30,7 +30,7 @@ pub enum Piece<'a> {
 
 /// Reads a part: a number, a text in quotes, or a label. Fails if it is empty, or begins with a
 /// digit or a quote and is neither a number nor a text in quotes.
-#[tactic(auto, using(crate::proofs::NumeralLemmas::numeral_read))]
+#[tactic(auto, using(crate::proofs::Numerals::numeral_read))]
 pub fn read_part(part: &[u8]) -> Result<Part<'_>, NameError>
     ensures { outcome_in result ≡ word_of part.now }
 {
@@ -40,11 +40,11 @@ pub fn read_part(part: &[u8]) -> Result<Part<'_>, NameError>
             Some(number) => Ok(Part::Piece(Piece::Number(number))),
             None => Err(NameError::BadNumber),
         },
-        [b'"', rest @ ..] => match quoted(b'"', rest) {
+        [b'"', rest @ ..] => match unquote(b'"', rest) {
             Some(octets) => Ok(Part::Piece(Piece::Counted(octets))),
             None => Err(NameError::BadIndex),
         },
-        [b'\'', rest @ ..] => match quoted(b'\'', rest) {
+        [b'\'', rest @ ..] => match unquote(b'\'', rest) {
             Some(octets) if !octets.is_empty() => Ok(Part::Piece(Piece::Plain(octets))),
             _ => Err(NameError::BadIndex),
         },
@@ -53,7 +53,7 @@ pub fn read_part(part: &[u8]) -> Result<Part<'_>, NameError>
 }
 
 /// Returns the octets before the quote that ends `rest`, if each may appear between quotes.
-fn quoted(quote: u8, rest: &[u8]) -> Option<&[u8]>
+fn unquote(quote: u8, rest: &[u8]) -> Option<&[u8]>
     ensures { option_map (λ octets. octets.now) result ≡ quoted_in quote rest.now }
 {
     match rest {

@@ -1,7 +1,7 @@
 //! Appends the numbers that a part of a name stands for to an identifier.
 ghost use Rattle.std.specs.Prelude.{◌≡◌, ◌++◌, ◌∷◌, [], length};
 ghost use Rattle.smi_show.specs.{index.Pieces.piece_numbers, name.Meaning.fitting};
-ghost use Rattle.smi_show.specs.{private.name.Part.piece_in, private.name.Reading.read_to};
+ghost use Rattle.smi_show.specs.{private.name.Part.piece_in, private.name.NameResult.read_to};
 
 use crate::name::NameError;
 use crate::name::part::Piece;

@@ -94,7 +94,7 @@ IsLexeme K.Hex text = IsLiteral is_ascii_hexdigit 72 104 text
 IsLexeme K.Binary text = IsLiteral is_binary_digit 66 98 text
 IsLexeme kind text = text ≡ sign_text kind
 
--- ---- gaps
+-- ---- gaps: blank octets and comments
 
 -- two or more hyphens
 abbrev pub IsRunOfHyphens : List ℕ → Type 0
@@ -115,7 +115,7 @@ IsComment text = (opening remark closing : List ℕ) × (text ≡ opening ++ rem
 abbrev pub IsGap : List ℕ → Type 0
 IsGap text = ((c : ℕ) × (text ≡ c ∷ []) × IsTrue (is_blank c)) ⊎ IsComment text
 
--- ---- both
+-- ---- lexemes and gaps
 
 -- what a piece of the text is
 pub data Part : Type 0 where

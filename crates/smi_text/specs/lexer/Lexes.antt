@@ -8,16 +8,16 @@ use Rattle.smi_text.specs.lexer.Token.{Lexeme, Item}
 use Rattle.smi_text.specs.lexer.Lexeme.{Part, gap, lexeme, IsPart, is_newline, is_open_string}
 
 -- the line of what follows `before`: lines count from 1, and end with LF
-abbrev pub line_behind : List ℕ → ℕ
-line_behind before = count_by is_newline before + 1
+abbrev pub line_after : List ℕ → ℕ
+line_after before = count_by is_newline before + 1
 
 -- the lexeme of the octets `text` after the octets `before`
-abbrev pub lexeme_behind : List ℕ → TokenKind → List ℕ → Lexeme
-lexeme_behind before kind text = record {
+abbrev pub lexeme_after : List ℕ → TokenKind → List ℕ → Lexeme
+lexeme_after before kind text = record {
   kind = kind;
   span = record { start = length before; «end» = length before + length text };
   text = text;
-  line = line_behind before;
+  line = line_after before;
 }
 
 -- the fault of a text on line `line` at whose start no token or gap begins
@@ -30,8 +30,9 @@ pub record IsLongest (part : Part) (n : ℕ) (text : List ℕ) : Type 0 where
   pub is_one : IsPart part (take n text)
   pub longest : (other : Part) (m : ℕ) → n < m → m ≤ length text → IsPart other (take m text) → ⊥
 
--- After the octets `before`, the text is a sequence of gaps and lexemes, each the longest that can
--- begin there. The items are its tokens, and last the fault if the text breaks off before its end.
+-- After the octets `before`, the text is a sequence of lexemes and gaps (blank octets and
+-- comments), each the longest that can begin there. The items are its tokens, and last the fault
+-- if the text breaks off before its end.
 pub data Lexes : List ℕ → List ℕ → List Item → Type 0 where
   ends : {before : List ℕ} → Lexes before [] []
   passes : {before text : List ℕ} {items : List Item} (n : ℕ) → IsLongest gap n text
@@ -40,10 +41,10 @@ pub data Lexes : List ℕ → List ℕ → List Item → Type 0 where
   gives : {before text : List ℕ} {items : List Item} (kind : TokenKind) (n : ℕ)
       → IsLongest (lexeme kind) n text
       → Lexes (before ++ take n text) (drop n text) items
-      → Lexes before text (Ok (lexeme_behind before kind (take n text)) ∷ items)
+      → Lexes before text (Ok (lexeme_after before kind (take n text)) ∷ items)
   breaks : {before : List ℕ} (c : ℕ) (cs : List ℕ) → ((part : Part) (m : ℕ)
       → IsPart part (take m (c ∷ cs)) → ⊥)
-      → Lexes before (c ∷ cs) (Err (fault_on (line_behind before) (c ∷ cs)) ∷ [])
+      → Lexes before (c ∷ cs) (Err (fault_on (line_after before) (c ∷ cs)) ∷ [])
 
 -- from offset `from` on, each token comes after the one before it, isn't empty, and has the
 -- source's octets in its span as its text

@@ -46,11 +46,11 @@ unfoldable pub begins : List Ahead → List Item → Bool
 begins cs items = meets_any cs (token_ahead items)
 
 -- the items are the tokens that the marks say, followed by `rest`
-abbrev pub StandsAhead : List Mark → List Item → List Item → Type 0
-StandsAhead [] items rest = items ≡ rest
-StandsAhead (m ∷ ms) [] rest = ⊥
-StandsAhead (m ∷ ms) (Ok t ∷ items) rest = MarksToken m t × StandsAhead ms items rest
-StandsAhead (m ∷ ms) (Err fault ∷ items) rest = ⊥
+abbrev pub ItemsMatch : List Mark → List Item → List Item → Type 0
+ItemsMatch [] items rest = items ≡ rest
+ItemsMatch (m ∷ ms) [] rest = ⊥
+ItemsMatch (m ∷ ms) (Ok t ∷ items) rest = MarksToken m t × ItemsMatch ms items rest
+ItemsMatch (m ∷ ms) (Err fault ∷ items) rest = ⊥
 
 -- whether no token meets both conditions; those of different forms are compared in one order only
 abbrev pub half_apart : Ahead → Ahead → Bool
@@ -155,8 +155,8 @@ shaped to f = record {
 }
 
 -- a part after tokens that aren't stored, and a part before such tokens
-unfoldable pub behind : {A : Type 0} → Format (Unit {0}) → Format A → Format A
-behind {A} w f = shaped (λ (p : (Unit {0}) × A). p.1) (pair w f)
+unfoldable pub preceded : {A : Type 0} → Format (Unit {0}) → Format A → Format A
+preceded {A} w f = shaped (λ (p : (Unit {0}) × A). p.1) (pair w f)
 
 unfoldable pub before : {A : Type 0} → Format A → Format (Unit {0}) → Format A
 before {A} f w = shaped (λ (p : A × (Unit {0})). p.0) (pair f w)
@@ -197,13 +197,13 @@ many f = record {
 }
 
 -- `xs` before the parts that were read
-unfoldable pub with_front : {A : Type 0} → List A → Parsed (List A) → Parsed (List A)
-with_front xs r = option_map (λ p. (xs ++ p.0, p.1)) r
+unfoldable pub prepend : {A : Type 0} → List A → Parsed (List A) → Parsed (List A)
+prepend xs r = option_map (λ p. (xs ++ p.0, p.1)) r
 
 -- one part, and then any number of another, as one list
 unfoldable pub some_of : {A : Type 0} → Format A → Format A → Format (List A)
 some_of f g = record {
-  read = λ ts. option_and_then (λ p. with_front (p.0 ∷ []) ((many g).read p.1)) (f.read ts);
+  read = λ ts. option_and_then (λ p. prepend (p.0 ∷ []) ((many g).read p.1)) (f.read ts);
   first = (pair f (many g)).first;
   stop = (pair f (many g)).stop;
   empty = (pair f (many g)).empty;
@@ -211,7 +211,7 @@ some_of f g = record {
 
 -- parts with a sign between them
 unfoldable pub separated : {A : Type 0} → TokenKind → Format A → Format (List A)
-separated k f = some_of f (behind (token k) f)
+separated k f = some_of f (preceded (token k) f)
 
 -- the line of the token ahead, or 0 if no token is ahead
 abbrev pub line_ahead : List Item → ℕ

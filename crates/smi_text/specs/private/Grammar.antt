@@ -19,8 +19,8 @@ use Rattle.smi_text.specs.{declared.trees.tree.Base.Base, declared.trees.tree.Ra
 use Rattle.smi_text.specs.trees.Number.{is_arc, is_number, is_bound, is_symbol, is_macro}
 use Rattle.smi_text.specs.private.Format.{Format, Parsed, Ahead, a_word, a_name, a_kind, no_word}
 use Rattle.smi_text.specs.private.Format.{no_kind, begins, one, word, token, text, text_where, name}
-use Rattle.smi_text.specs.private.Format.{pair, behind, before, maybe, either, many, shaped}
-use Rattle.smi_text.specs.private.Format.{some_of, separated, lined, with_front, lower, name_where}
+use Rattle.smi_text.specs.private.Format.{pair, preceded, before, maybe, either, many, shaped}
+use Rattle.smi_text.specs.private.Format.{some_of, separated, lined, prepend, lower, name_where}
 use Rattle.smi_text.specs.declared.trees.tree.DefKind.TheVariants as D
 use Rattle.smi_text.specs.declared.trees.tree.Part.TheVariants as P
 use Rattle.smi_text.specs.declared.trees.tree.NamedNumber.{NamedNumber}
@@ -42,15 +42,15 @@ use Rattle.smi_text.specs.declared.trees.tree.Refinement.TheVariants as R
 
 -- a clause: its word, and the string after it
 unfoldable pub clause : List ℕ → Format (List ℕ)
-clause w = behind (word w) (text K.Text)
+clause w = preceded (word w) (text K.Text)
 
 -- a part in braces
 unfoldable pub braced : {A : Type 0} → Format A → Format A
-braced f = behind (token K.OpenBrace) (before f (token K.CloseBrace))
+braced f = preceded (token K.OpenBrace) (before f (token K.CloseBrace))
 
 -- a part in parentheses
 unfoldable pub parenthesized : {A : Type 0} → Format A → Format A
-parenthesized f = behind (token K.OpenParen) (before f (token K.CloseParen))
+parenthesized f = preceded (token K.OpenParen) (before f (token K.CloseParen))
 
 -- a token that is stored unchanged, and passes a test
 abbrev pub kept_text : Lexeme → TokenText
@@ -86,7 +86,7 @@ identifier = braced (some_of part later_part)
 
 -- what a definition ends with
 unfoldable pub value : Format (List Part)
-value = behind (token K.Assign) identifier
+value = preceded (token K.Assign) identifier
 
 -- types
 
@@ -96,7 +96,7 @@ bound = kept (a_kind K.Number ∷ a_kind K.Hex ∷ a_kind K.Binary ∷ []) is_bo
 unfoldable pub range : Format Range
 range =
     shaped (λ p. record { low = p.0; high = p.1 })
-    (pair bound (maybe (behind (token K.Range) bound)))
+    (pair bound (maybe (preceded (token K.Range) bound)))
 
 unfoldable pub ranges : Format (List Range)
 ranges = separated K.Bar range
@@ -113,7 +113,7 @@ to_refinement (inr (inl rs)) = R.Size rs
 to_refinement (inr (inr rs)) = R.Values rs
 
 unfoldable pub size : Format (List Range)
-size = behind (word (codes "SIZE")) (parenthesized ranges)
+size = preceded (word (codes "SIZE")) (parenthesized ranges)
 
 unfoldable pub refinement : Format Refinement
 refinement =
@@ -121,10 +121,10 @@ refinement =
     (parenthesized (either size ranges)))
 
 unfoldable pub object_identifier_words : Format (Unit {0})
-object_identifier_words = behind (word (codes "OBJECT")) (word (codes "IDENTIFIER"))
+object_identifier_words = preceded (word (codes "OBJECT")) (word (codes "IDENTIFIER"))
 
 unfoldable pub octet_string_words : Format (Unit {0})
-octet_string_words = behind (word (codes "OCTET")) (word (codes "STRING"))
+octet_string_words = preceded (word (codes "OCTET")) (word (codes "STRING"))
 
 abbrev pub to_base : Unit {0} ⊎ (Unit {0} ⊎ (Unit {0} ⊎ (Unit {0} ⊎ Name))) → Base
 to_base (inl x) = B.Integer
@@ -147,10 +147,10 @@ to_syntax (inl x) = T.SequenceOf x
 to_syntax (inr t) = T.Simple t
 
 unfoldable pub of_row : Format Name
-of_row = behind (word (codes "OF")) name
+of_row = preceded (word (codes "OF")) name
 
 unfoldable pub syntax_type : Format Syntax
-syntax_type = shaped to_syntax (either (behind (word
+syntax_type = shaped to_syntax (either (preceded (word
     (codes "SEQUENCE")) of_row) simple_type)
 
 unfoldable pub field : Format Field
@@ -164,11 +164,11 @@ names = braced (separated K.Comma lower)
 unfoldable pub status : Format Status
 status =
     shaped (λ p. record { status = p.0; description = p.1.0; reference = p.1.1 })
-    (pair (behind (word (codes "STATUS")) (text K.Lower)) (pair (clause (codes "DESCRIPTION"))
+    (pair (preceded (word (codes "STATUS")) (text K.Lower)) (pair (clause (codes "DESCRIPTION"))
     (maybe (clause (codes "REFERENCE")))))
 
 abbrev pub implied_name : Format Name
-implied_name = behind (word (codes "IMPLIED")) lower
+implied_name = preceded (word (codes "IMPLIED")) lower
 
 abbrev pub index_parts : List Name → Bool → IndexParts
 index_parts xs implied = record { names = xs; implied = implied }
@@ -206,7 +206,8 @@ to_index (inr x) = I.Augments x
 unfoldable pub index : Format Index
 index =
     shaped to_index
-    (either (behind (word (codes "INDEX")) (braced index_names)) (behind (word (codes "AUGMENTS"))
+    (either (preceded (word (codes "INDEX")) (braced index_names)) (preceded (word
+    (codes "AUGMENTS"))
     (braced lower)))
 
 -- raw runs
@@ -233,10 +234,10 @@ read_balanced depth [] = if depth == 0 then Some ([], []) else None
 read_balanced depth (Err fault ∷ items) = if depth == 0 then Some ([], Err fault ∷ items) else None
 read_balanced depth (Ok t ∷ items) =
     if is_outside t.kind depth then Some ([], Ok t ∷ items)
-    else with_front (kept_text t ∷ []) (read_balanced (depth_after t.kind depth) items)
+    else prepend (kept_text t ∷ []) (read_balanced (depth_after t.kind depth) items)
 
-unfoldable pub balanced : Format (List TokenText)
-balanced = record {
+unfoldable pub balanced_tokens : Format (List TokenText)
+balanced_tokens = record {
   read = read_balanced 0;
   first = no_kind K.CloseBrace ∷ [];
   stop = no_kind K.CloseBrace ∷ [];
@@ -260,7 +261,7 @@ module_identity =
       revisions = p.1.1.1.1.0;
       value = p.1.1.1.1.1;
     })
-    (behind (word (codes "MODULE-IDENTITY"))
+    (preceded (word (codes "MODULE-IDENTITY"))
     (pair (clause (codes "LAST-UPDATED")) (pair (clause (codes "ORGANIZATION")) (pair (clause
     (codes "CONTACT-INFO"))
     (pair (clause (codes "DESCRIPTION")) (pair (many revision) value))))))
@@ -268,13 +269,13 @@ module_identity =
 unfoldable pub object_identity : Format ObjectIdentity
 object_identity =
     shaped (λ p. record { status = p.0; value = p.1 })
-    (behind (word (codes "OBJECT-IDENTITY")) (pair status value))
+    (preceded (word (codes "OBJECT-IDENTITY")) (pair status value))
 
 unfoldable pub default_value : Format (List TokenText)
-default_value = behind (word (codes "DEFVAL")) (braced balanced)
+default_value = preceded (word (codes "DEFVAL")) (braced balanced_tokens)
 
 unfoldable pub syntax_clause : Format Syntax
-syntax_clause = behind (word (codes "SYNTAX")) syntax_type
+syntax_clause = preceded (word (codes "SYNTAX")) syntax_type
 
 unfoldable pub object_type : Format ObjectType
 object_type =
@@ -287,37 +288,37 @@ object_type =
       default = p.1.1.1.1.1.0;
       value = p.1.1.1.1.1.1;
     })
-    (behind (word (codes "OBJECT-TYPE"))
+    (preceded (word (codes "OBJECT-TYPE"))
     (pair syntax_clause (pair (maybe (clause (codes "UNITS")))
-    (pair (behind (word (codes "MAX-ACCESS")) (text K.Lower)) (pair status (pair (maybe index)
+    (pair (preceded (word (codes "MAX-ACCESS")) (text K.Lower)) (pair status (pair (maybe index)
     (pair (maybe default_value) value)))))))
 
 unfoldable pub objects : Format (List Name)
-objects = behind (word (codes "OBJECTS")) names
+objects = preceded (word (codes "OBJECTS")) names
 
 unfoldable pub notification_type : Format NotificationType
 notification_type =
     shaped (λ p. record { objects = p.0; status = p.1.0; value = p.1.1 })
-    (behind (word (codes "NOTIFICATION-TYPE")) (pair (maybe objects) (pair status value)))
+    (preceded (word (codes "NOTIFICATION-TYPE")) (pair (maybe objects) (pair status value)))
 
 -- a group after the word `w`, with its members after the word `v`
 unfoldable pub group : List ℕ → List ℕ → Format Group
 group w v =
     shaped (λ p. record { members = p.0; status = p.1.0; value = p.1.1 })
-    (behind (word w) (pair (behind (word v) names) (pair status value)))
+    (preceded (word w) (pair (preceded (word v) names) (pair status value)))
 
 unfoldable pub raw_definition : List ℕ → Format RawDefinition
 raw_definition w =
     shaped (λ p. record { clauses = p.0; value = p.1 })
-    (behind (word w) (pair (many before_assign) value))
+    (preceded (word w) (pair (many before_assign) value))
 
 unfoldable pub object_identifier : Format (List Part)
-object_identifier = behind object_identifier_words value
+object_identifier = preceded object_identifier_words value
 
 unfoldable pub textual_convention : Format TextualConvention
 textual_convention =
     shaped (λ p. record { display_hint = p.0; status = p.1.0; syntax = p.1.1 })
-    (behind (word (codes "TEXTUAL-CONVENTION"))
+    (preceded (word (codes "TEXTUAL-CONVENTION"))
     (pair (maybe (clause (codes "DISPLAY-HINT"))) (pair status syntax_clause)))
 
 -- a definition of a name that begins with a lower-case letter, by what follows the name
@@ -346,11 +347,11 @@ lower_definition =
 -- the number of `[APPLICATION n] IMPLICIT`
 unfoldable pub tag : Format (List ℕ)
 tag =
-    behind (token K.OpenBracket) (behind (word (codes "APPLICATION"))
-    (before (text_where K.Number is_number) (behind (token K.CloseBracket) (word
+    preceded (token K.OpenBracket) (preceded (word (codes "APPLICATION"))
+    (before (text_where K.Number is_number) (preceded (token K.CloseBracket) (word
     (codes "IMPLICIT")))))
 
--- what follows a name that begins with an upper-case letter and `::=`
+-- what follows `::=` after a name that begins with an upper-case letter
 abbrev pub Assigned : Type 0
 Assigned = TextualConvention ⊎ (List TokenText ⊎ ((List ℕ
     × Syntax) ⊎ ((List Field ⊎ Name) ⊎ SimpleType)))
@@ -366,19 +367,19 @@ to_assigned (inr (inr (inr (inr t)))) = D.TypeAssignment
     (record { tag = None; syntax = T.Simple t })
 
 unfoldable pub choice : Format (List TokenText)
-choice = behind (word (codes "CHOICE")) (braced balanced)
+choice = preceded (word (codes "CHOICE")) (braced balanced_tokens)
 
 unfoldable pub assigned : Format DefKind
 assigned =
     shaped to_assigned
     (either textual_convention (either choice (either (pair tag syntax_type) (either
-    (behind (word (codes "SEQUENCE")) (either (braced (separated K.Comma field)) of_row))
+    (preceded (word (codes "SEQUENCE")) (either (braced (separated K.Comma field)) of_row))
     simple_type))))
 
 unfoldable pub macro_definition : Format DefKind
 macro_definition =
     shaped D.Macro
-    (behind (word (codes "MACRO")) (behind (token K.Assign) (behind (word (codes "BEGIN"))
+    (preceded (word (codes "MACRO")) (preceded (token K.Assign) (preceded (word (codes "BEGIN"))
     (before (many before_end) (word (codes "END"))))))
 
 abbrev pub to_upper : DefKind ⊎ DefKind → DefKind
@@ -387,7 +388,7 @@ to_upper (inr k) = k
 
 -- what follows a name that begins with an upper-case letter
 unfoldable pub upper_definition : Format DefKind
-upper_definition = shaped to_upper (either (behind
+upper_definition = shaped to_upper (either (preceded
     (token K.Assign) assigned) macro_definition)
 
 -- the conditions on a token ahead that names a macro: it is one of these words
@@ -419,23 +420,23 @@ imported_symbol = kept (a_kind K.Lower ∷ a_name ∷ macro_words) is_symbol
 unfoldable pub import_clause : Format Import
 import_clause =
     shaped (λ p. record { symbols = p.1.0; source = p.1.1; line = p.0 })
-    (lined (pair (separated K.Comma imported_symbol) (behind (word (codes "FROM")) name)))
+    (lined (pair (separated K.Comma imported_symbol) (preceded (word (codes "FROM")) name)))
 
 unfoldable pub imports : Format (List Import)
-imports = behind (word (codes "IMPORTS")) (before (many import_clause) (token K.Semicolon))
+imports = preceded (word (codes "IMPORTS")) (before (many import_clause) (token K.Semicolon))
 
 unfoldable pub heading : Format (List Part)
 heading = braced (many part)
 
 -- what opens the body of a module
 unfoldable pub opening : Format (Unit {0})
-opening = behind (word (codes "DEFINITIONS")) (behind (token K.Assign) (word (codes "BEGIN")))
+opening = preceded (word (codes "DEFINITIONS")) (preceded (token K.Assign) (word (codes "BEGIN")))
 
 -- a module up to its definitions
 unfoldable pub head : Format Head
 head =
     shaped (λ p. record { name = p.0; heading = p.1.0; imports = p.1.1 })
-    (pair name (pair (maybe heading) (behind opening (maybe imports))))
+    (pair name (pair (maybe heading) (preceded opening (maybe imports))))
 
 unfoldable pub module_text : Format Module
 module_text =

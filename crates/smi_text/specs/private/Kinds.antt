@@ -1,6 +1,6 @@
 -- Kinds of tokens: words, and signs, which have one text each.
 use Rattle.std.specs.Prelude.{Bool, true, false, not}
-use Rattle.smi_text.specs.{lexer.Lexeme.sign_text, lexer.Reading.is_nothing}
+use Rattle.smi_text.specs.{lexer.Lexeme.sign_text, lexer.LongestMatch.is_nothing}
 use Rattle.smi_text.specs.declared.lexer.token.TokenKind.{TokenKind}
 use Rattle.smi_text.specs.declared.lexer.token.TokenKind.TheVariants.{Lower, Upper}
 

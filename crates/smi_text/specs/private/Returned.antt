@@ -4,7 +4,7 @@ use Rattle.std.specs.Prelude.{Result, Ok, Err, option_map, unwrap_or}
 use Rattle.std.specs.Borrow.{Bor}
 use Rattle.smi_text.specs.{lexer.Token.Lexeme, lexer.Token.Item, lexer.Token.tokens_of}
 use Rattle.smi_text.specs.{declared.error.Stop.Stop, declared.error.ParseError.ParseError}
-use Rattle.smi_text.specs.{trees.Mark.Stands, trees.Spelling.of_head, trees.Lookup.labels}
+use Rattle.smi_text.specs.{trees.Mark.TokensMatch, trees.Spelling.of_head, trees.Lookup.labels}
 use Rattle.smi_text.specs.{trees.Lookup.are_distinct, declared.trees.names.Name.Name}
 use Rattle.smi_text.specs.{declared.trees.tree.Module.Module, declared.trees.tree.Part.Part}
 use Rattle.smi_text.specs.{declared.trees.tree.Import.Import, declared.trees.tree.Def.Def}
@@ -31,7 +31,7 @@ error_of (Syntax line) = E.Syntax line
 error_of (Lex fault) = E.Lex fault
 error_of Memory = E.Memory
 
--- ---- the steps of a whole module
+-- ---- reading a whole module, step by step
 
 -- the text of the token ahead
 abbrev pub text_ahead : List Item → List ℕ
@@ -81,7 +81,7 @@ pub record OpensTwice (line : ℕ) (tokens : List Lexeme) : Type 0 where
   pub heading : Option (List Part)
   pub imports : Option (List Import)
   pub body : List Lexeme
-  pub stands : Stands (of_head name heading imports) tokens body
+  pub matched : TokensMatch (of_head name heading imports) tokens body
   pub twice : HasSecond line body
 
 abbrev pub ModuleFault : ParseError → List Item → Type 0

@@ -23,13 +23,13 @@ abbrev pub closing_braces : List TokenText → ℕ
 closing_braces xs = count_by (λ x. same_kind x.kind CloseBrace) xs
 
 -- the prefixes of the tokens, the empty one and the whole list included
-abbrev pub fronts : List TokenText → List (List TokenText)
-fronts [] = [] ∷ []
-fronts (x ∷ xs) = [] ∷ map (λ front. x ∷ front) (fronts xs)
+abbrev pub prefixes : List TokenText → List (List TokenText)
+prefixes [] = [] ∷ []
+prefixes (x ∷ xs) = [] ∷ map (λ prefix. x ∷ prefix) (prefixes xs)
 
 -- whether each prefix opens at least as many braces as it closes, and the whole list opens as many
 -- as it closes
 unfoldable pub has_balanced_braces : List TokenText → Bool
 has_balanced_braces xs =
-    list_all (λ front. nat_le (closing_braces front) (opening_braces front)) (fronts xs)
+    list_all (λ prefix. nat_le (closing_braces prefix) (opening_braces prefix)) (prefixes xs)
     && opening_braces xs == closing_braces xs

@@ -10,8 +10,8 @@ plain (spelled k x ok) = spelled k x ok
 plain (on_line n m) = plain m
 
 -- the module with 0 as each line
-abbrev pub unlined : Module → Module
-unlined m = record m {
+abbrev pub without_lines : Module → Module
+without_lines m = record m {
   imports = option_map (map (λ (x : Import). record x { line = 0 })) m.imports;
   defs = map (λ (d : Def). record d { line = 0 }) m.defs;
 }

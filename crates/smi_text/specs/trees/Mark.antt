@@ -18,7 +18,7 @@ same_text = bytes_eq
 pub data Mark : Type 0 where
   -- a token of this kind and text, if the flag is true; otherwise no token
   spelled : TokenKind → List ℕ → Bool → Mark
-  -- such a token, on this line
+  -- the token of this mark, on this line
   on_line : ℕ → Mark → Mark
 
 -- a token of this kind, which has only one text
@@ -31,7 +31,7 @@ MarksToken (spelled k x ok) t = (t.kind ≡ k) × (t.text ≡ x) × (ok ≡ true
 MarksToken (on_line n m) t = MarksToken m t × (t.line ≡ n)
 
 -- the tokens are those that the marks say, followed by `rest`
-abbrev pub Stands : List Mark → List Lexeme → List Lexeme → Type 0
-Stands [] ts rest = ts ≡ rest
-Stands (m ∷ ms) [] rest = ⊥
-Stands (m ∷ ms) (t ∷ ts) rest = MarksToken m t × Stands ms ts rest
+abbrev pub TokensMatch : List Mark → List Lexeme → List Lexeme → Type 0
+TokensMatch [] ts rest = ts ≡ rest
+TokensMatch (m ∷ ms) [] rest = ⊥
+TokensMatch (m ∷ ms) (t ∷ ts) rest = MarksToken m t × TokensMatch ms ts rest

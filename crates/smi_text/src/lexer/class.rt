@@ -1,13 +1,14 @@
-//! The classes of octets: the first octet of a lexeme or gap decides what it may be.
+//! The classes of octets: the first octet of a lexeme, or of a gap (a blank octet or a comment),
+//! decides what it may be.
 ghost use Rattle.std.specs.Prelude.{◌≡◌};
-ghost use Rattle.smi_text.specs.lexer.Reading.{class_of};
+ghost use Rattle.smi_text.specs.lexer.LongestMatch.{class_of};
 
 use crate::lexer::token::TokenKind;
 
 /// What can begin with an octet.
 #[derive(Clone, Copy)]
 pub enum Class {
-    /// A gap of one octet: tab, LF, VT, FF, CR or space.
+    /// A blank octet: tab, LF, VT, FF, CR or space.
     Blank,
     /// A word that begins with a lower-case letter.
     Lowercase,

@@ -1,7 +1,7 @@
 //! Runs of octets that pass a test, 16 octets at a time.
 ghost use Rattle.std.specs.Prelude.{◌≡◌, ◌+◌, ◌≤◌, length};
 ghost use Rattle.smi_text.specs.lexer.Lexeme.{is_word_octet};
-ghost use Rattle.smi_text.specs.lexer.Reading.{IsRunIn, first_set, is_space_or_tab};
+ghost use Rattle.smi_text.specs.lexer.LongestMatch.{IsRunIn, first_set, is_space_or_tab};
 
 use std::simd::prelude::*;
 

@@ -8,8 +8,8 @@ use crate::lexer::scan::{gaps_at, is_open, lexeme_at, lines_in};
 use crate::lexer::token::{LexError, Span, Token};
 use std::marker::Model;
 
-/// An iterator over the tokens of a module text. If neither a lexeme nor a gap begins at an octet,
-/// it returns the fault there and then ends. It doesn't allocate.
+/// An iterator over the tokens of a module text. At an octet that isn't blank and at which neither
+/// a token nor a comment begins, it returns the fault and then ends. It doesn't allocate.
 #[derive(Drop)]
 pub struct Lexer<'a> {
     /// The octets that aren't read yet.
@@ -26,7 +26,7 @@ impl<'a> Model for Lexer<'a> {
 
     ghost Value = { List Item };
 
-    ghost use Rattle.smi_text.specs.lexer.Reading.{items_at};
+    ghost use Rattle.smi_text.specs.lexer.LongestMatch.{items_at};
 
     ghost view = { λ s. items_at 0 s.at s.lines s.rest.now };
 

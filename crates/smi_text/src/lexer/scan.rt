@@ -1,23 +1,25 @@
-//! The lengths of lexemes and gaps, for the lexer's `next`.
+//! The lengths of lexemes, and of the gaps between them: blank octets and comments.
 ghost use Rattle.std.specs.Prelude.{◌≡◌, ◌≤◌, ◌<◌, ℕ, drop, length};
 ghost use Rattle.std.specs.{List.list_all, Option.option_map};
 ghost use Rattle.std.specs.Char.{is_ascii_digit, is_ascii_hexdigit};
 ghost use Rattle.smi_text.specs.lexer.Lexeme.{IsLexeme, lexeme, is_binary_digit, is_blank};
 ghost use Rattle.smi_text.specs.lexer.Lexeme.{is_hyphen, is_open_string, is_word_octet};
 ghost use Rattle.smi_text.specs.lexer.Lexeme.{is_word_rest};
-ghost use Rattle.smi_text.specs.lexer.Reading.{GoesOn, HasNoGap, IsFirstPlace, IsLexemeFront};
-ghost use Rattle.smi_text.specs.lexer.Reading.{ArePassedBetween, IsRunBetween, is_space_or_tab};
-ghost use Rattle.smi_text.specs.lexer.Reading.{IsLongestPassing, IsPartFront, IsRemarkEnd, Skips};
-ghost use Rattle.smi_text.specs.lexer.Reading.{is_comment_rest, is_remark_rest, hyphen_part};
-ghost use Rattle.smi_text.specs.lexer.Reading.{literal_of, literal_part, newlines, part_in};
-ghost use Rattle.smi_text.specs.lexer.Reading.{part_of, string_part, symbol_part};
+ghost use Rattle.smi_text.specs.lexer.LongestMatch.{GoesOn, HasNoGap, IsFirstIndex, IsLexemePrefix};
+ghost use Rattle.smi_text.specs.lexer.LongestMatch.{ArePassedBetween, IsRunBetween};
+ghost use Rattle.smi_text.specs.lexer.LongestMatch.{is_space_or_tab};
+ghost use Rattle.smi_text.specs.lexer.LongestMatch.{IsLongestPassing, IsPartPrefix, IsRemarkEnd};
+ghost use Rattle.smi_text.specs.lexer.LongestMatch.{Skips};
+ghost use Rattle.smi_text.specs.lexer.LongestMatch.{is_comment_rest, is_remark_rest, hyphen_part};
+ghost use Rattle.smi_text.specs.lexer.LongestMatch.{literal_of, literal_part, newlines, part_in};
+ghost use Rattle.smi_text.specs.lexer.LongestMatch.{part_of, string_part, symbol_part};
 
 use crate::lexer::class::{Class, class_of_octet};
 use crate::lexer::lanes::{LANES, blank_run, word_run};
 use crate::lexer::token::TokenKind;
 use memchr::{memchr, memchr_iter};
 
-/// Returns whether `octet` is a gap by itself: tab, LF, VT, FF, CR or space.
+/// Returns whether `octet` is blank: tab, LF, VT, FF, CR or space.
 fn is_blank(octet: u8) -> bool
     ensures { result ≡ is_blank octet }
 {
@@ -134,9 +136,9 @@ fn comment_rest_len(text: &[u8]) -> usize
 }
 
 /// Returns the offset of the first `octet` in `text`, if it occurs.
-#[tactic(auto, using(crate::proofs::Places::first_place))]
-fn place_of(octet: u8, text: &[u8]) -> Option<usize>
-    ensures { IsFirstPlace octet text.now result }
+#[tactic(auto, using(crate::proofs::FirstIndex::first_found))]
+fn first_index(octet: u8, text: &[u8]) -> Option<usize>
+    ensures { IsFirstIndex octet text.now result }
 {
     memchr(octet, text)
 }
@@ -145,9 +147,9 @@ fn place_of(octet: u8, text: &[u8]) -> Option<usize>
 /// begins after the opening quote. Returns `None` if there is no closing quote.
 #[tactic(auto, using(crate::proofs::Parts::string_none))]
 fn string_rest(text: &[u8]) -> Option<(TokenKind, usize)>
-    ensures { IsLexemeFront string_part text.now result }
+    ensures { IsLexemePrefix string_part text.now result }
 {
-    let end = place_of(b'"', text)?;
+    let end = first_index(b'"', text)?;
     Some((TokenKind::Text, end + 1))
 }
 
@@ -180,9 +182,9 @@ fn literal_kind(digits: &[u8], letter: u8) -> Option<TokenKind>
 /// Returns the kind and the length of the rest of a literal, its letter included. `text` begins
 /// after the opening quote. Returns `None` if it isn't the rest of a literal.
 fn literal_rest(text: &[u8]) -> Option<(TokenKind, usize)>
-    ensures { IsLexemeFront literal_part text.now result }
+    ensures { IsLexemePrefix literal_part text.now result }
 {
-    let end = place_of(b'\'', text)?;
+    let end = first_index(b'\'', text)?;
     if end + 1 == text.len() {
         return None;
     }
@@ -194,7 +196,7 @@ fn literal_rest(text: &[u8]) -> Option<(TokenKind, usize)>
 /// Returns the kind and the length of the rest of a number. `text` begins after the hyphen.
 /// Returns `None` if no digit follows.
 fn number_rest(text: &[u8]) -> Option<(TokenKind, usize)>
-    ensures { IsLexemeFront hyphen_part text.now result }
+    ensures { IsLexemePrefix hyphen_part text.now result }
 {
     let len = digits_len(text);
     if len == 0 {
@@ -207,7 +209,7 @@ fn number_rest(text: &[u8]) -> Option<(TokenKind, usize)>
 /// Returns the longest symbol that begins with the symbol `kind`, and how many octets of `text`
 /// belong to it. `text` begins after that symbol.
 fn symbol_rest(kind: TokenKind, text: &[u8]) -> (TokenKind, usize)
-    ensures { IsPartFront (symbol_part kind) text.now (lexeme result.0) result.1 }
+    ensures { IsPartPrefix (symbol_part kind) text.now (lexeme result.0) result.1 }
 {
     match (kind, text) {
         (TokenKind::Colon, [b':', b'=', ..]) => (TokenKind::Assign, 2),
@@ -220,7 +222,7 @@ fn symbol_rest(kind: TokenKind, text: &[u8]) -> (TokenKind, usize)
 /// octets of `text` belong to it. `text` begins after that octet. Returns `None` if there is no
 /// such lexeme.
 fn lexeme_rest(class: Class, text: &[u8]) -> Option<(TokenKind, usize)>
-    ensures { IsLexemeFront (part_in class) text.now result }
+    ensures { IsLexemePrefix (part_in class) text.now result }
 {
     match class {
         Class::Lowercase => Some((TokenKind::Lower, word_rest_len(text))),
@@ -237,7 +239,7 @@ fn lexeme_rest(class: Class, text: &[u8]) -> Option<(TokenKind, usize)>
 /// Returns the kind and the length of the longest lexeme at the start of `text`, or `None` if no
 /// lexeme begins there.
 pub fn lexeme_at(text: &[u8]) -> Option<(TokenKind, usize)>
-    ensures { IsLexemeFront part_of text.now result }
+    ensures { IsLexemePrefix part_of text.now result }
 {
     let (first, rest) = text.split_first()?;
     let (kind, len) = lexeme_rest(class_of_octet(*first), rest)?;
@@ -264,7 +266,8 @@ fn blanks_end(text: &[u8], from: usize) -> usize
     n
 }
 
-/// Returns how many octets of gaps are at the start of `text`, and how many lines end in them.
+/// Returns the length of the gaps (blank octets and comments) at the start of `text`, and the
+/// number of newlines in them.
 pub fn gaps_at(text: &[u8]) -> (usize, usize)
     ensures within { result.0 ≤ length text.now }
     ensures lines { result.1 ≤ result.0 }
@@ -304,7 +307,7 @@ pub fn lines_in(kind: TokenKind, octets: &[u8]) -> usize
 }
 
 /// Returns the number of newlines in `text`.
-#[tactic(auto, using(crate::proofs::Places::each_newline))]
+#[tactic(auto, using(crate::proofs::FirstIndex::each_newline))]
 fn newlines_in(text: &[u8]) -> usize
     ensures count { result ≡ newlines text.now }
     ensures within { result ≤ length text.now }
@@ -318,7 +321,7 @@ pub fn is_open(text: &[u8]) -> bool
     ensures { result ≡ is_open_string text.now }
 {
     match text {
-        [quote @ (b'"' | b'\''), rest @ ..] => place_of(*quote, rest).is_none(),
+        [quote @ (b'"' | b'\''), rest @ ..] => first_index(*quote, rest).is_none(),
         _ => false,
     }
 }

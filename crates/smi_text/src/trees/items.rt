@@ -40,7 +40,7 @@ impl Model for Text {
 
 impl Text {
     /// Returns the text of `octets`, which are copied.
-    pub fn copied(alloc: Global, octets: &[u8]) -> Result<Text, AllocError>
+    pub fn from_slice(alloc: Global, octets: &[u8]) -> Result<Text, AllocError>
         ensures { IfOk result (λ text. text ≡ octets.now) }
     {
         let octets = match ArrayVec::try_from(octets) {

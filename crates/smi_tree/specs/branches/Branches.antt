@@ -2,7 +2,7 @@
 use Rattle.std.specs.Prelude.{◌≡◌, ◌≢◌, ℕ, ◌+◌, ◌<◌, ◌≤◌, ◌⊎◌, List, [], ◌∷◌, ◌++◌, length, take}
 use Rattle.std.specs.Prelude.{slice_index_or, Option, Some, None}
 use Rattle.std.specs.{List.slice_get, Option.option_and_then, Ordering.nat_cmp, BTreeMap.get}
-use Rattle.smi_tree.specs.branches.Standing.{place_of, oid_at}
+use Rattle.smi_tree.specs.branches.FirstIndex.{first_index, oid_at}
 use Rattle.smi_tree.specs.declared.branches.branch.Branch.{Branch}
 use Rattle.smi_tree.specs.declared.branches.identifiers.Deepest.{Deepest}
 
@@ -11,8 +11,8 @@ abbrev pub follower : List Branch → ℕ → ℕ → Option ℕ
 follower bs at n = option_and_then (λ b. get nat_cmp b.after n) (slice_get bs at)
 
 -- the index that is stored at the branch `at`
-abbrev pub standing_at : List Branch → ℕ → Option ℕ
-standing_at bs at = option_and_then (λ b. b.standing) (slice_get bs at)
+abbrev pub id_at : List Branch → ℕ → Option ℕ
+id_at bs at = option_and_then (λ b. b.node_id) (slice_get bs at)
 
 -- the branch that numbers reach from the branch `at`, one after the other
 abbrev pub walk : (ℕ → ℕ → Option ℕ) → ℕ → List ℕ → Option ℕ
@@ -34,7 +34,7 @@ pub record AreBranches (known oids : List (List ℕ)) (bs : List Branch) : Type 
   pub some : 0 < length bs
   pub within : (at n b : ℕ) → follower bs at n ≡ Some b → b < length bs
   pub apart : (o p : List ℕ) (b : ℕ) → branch_of bs o ≡ Some b → branch_of bs p ≡ Some b → o ≡ p
-  pub standing : (o : List ℕ) (b : ℕ) → branch_of bs o ≡ Some b → standing_at bs b ≡ place_of oids o
+  pub node_id : (o : List ℕ) (b : ℕ) → branch_of bs o ≡ Some b → id_at bs b ≡ first_index oids o
   pub each : (k : ℕ) → k < length oids → (b : ℕ) × (branch_of bs (oid_at oids k) ≡ Some b)
   pub only : (o : List ℕ) (b : ℕ) → branch_of bs o ≡ Some b → o ≢ [] → IsBeginning known o
   pub reached : (at : ℕ) → at < length bs → (o : List ℕ) × (branch_of bs o ≡ Some at)
@@ -52,12 +52,12 @@ pub record AddsBranch (old new : List Branch) (at n b : ℕ) : Type 0 where
   pub none : follower old at n ≡ None
   pub back : (c m d : ℕ) → follower new c m ≡ Some d
       → (follower old c m ≡ Some d) ⊎ ((c ≡ at) × (m ≡ n) × (d ≡ b))
-  pub standing : (c : ℕ) → standing_at new c ≡ standing_at old c
+  pub node_id : (c : ℕ) → id_at new c ≡ id_at old c
 
 -- `n` reaches branch `b` from the branch `at`; `b` was there before or was added, and nothing else
 -- was changed
 pub record GrowsBranch (old new : List Branch) (at n b : ℕ) : Type 0 where
-  pub leads : follower new at n ≡ Some b
+  pub refers_to : follower new at n ≡ Some b
   pub kept : (c m d : ℕ) → follower old c m ≡ Some d → follower new c m ≡ Some d
   pub adds : (new ≡ old) ⊎ AddsBranch old new at n b
 
@@ -65,16 +65,16 @@ pub record GrowsBranch (old new : List Branch) (at n b : ℕ) : Type 0 where
 -- it
 abbrev pub deeper_of : Option ℕ → (branch depth : ℕ) → Option Deepest → Option Deepest
 deeper_of None branch depth before = before
-deeper_of (Some place) branch depth before =
-    Some (record { place = place; depth = depth; branch = branch })
+deeper_of (Some id) branch depth before =
+    Some (record { id = id; depth = depth; branch = branch })
 
 -- `Some d`: the longest prefix of `o` that is in the list, of those with at most `i` numbers;
 -- `None`: no such prefix is in the list
 abbrev pub SoFar : List (List ℕ) → List ℕ → ℕ → Option Deepest → Type 0
-SoFar oids o i None = (j : ℕ) → j ≤ i → place_of oids (take j o) ≡ None
+SoFar oids o i None = (j : ℕ) → j ≤ i → first_index oids (take j o) ≡ None
 SoFar oids o i (Some d) =
-    (d.depth ≤ i) × (place_of oids (take d.depth o) ≡ Some d.place)
-    × ((j : ℕ) → d.depth < j → j ≤ i → place_of oids (take j o) ≡ None)
+    (d.depth ≤ i) × (first_index oids (take d.depth o) ≡ Some d.id)
+    × ((j : ℕ) → d.depth < j → j ≤ i → first_index oids (take j o) ≡ None)
 
 -- the first `depth` numbers of `o` reach `branch`, and `deepest` is the longest prefix of them
 -- that is in the list

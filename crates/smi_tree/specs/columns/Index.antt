@@ -4,7 +4,8 @@ use Rattle.std.specs.Prelude.{slice_index_or, Option, Some, None}
 use Rattle.std.specs.List.{slice_get}
 use Rattle.smi_names.specs.{chains.Resolution.ComesTo, meaning.Meaning.origin, nodes.Nodes.Node}
 use Rattle.smi_names.specs.declared.chains.shared.Resolution.TheVariants as R
-use Rattle.smi_tree.specs.{Pairwise.ArePairwise, branches.Standing.place_of, columns.Parts.IsPartOf}
+use Rattle.smi_tree.specs.{Pairwise.ArePairwise, branches.FirstIndex.first_index}
+use Rattle.smi_tree.specs.{columns.Parts.IsPartOf}
 use Rattle.smi_tree.specs.declared.columns.index_part.IndexPart.{IndexPart}
 use Rattle.smi_text.specs.{declared.trees.tree.Module.Module, declared.trees.tree.Def.Def}
 use Rattle.smi_text.specs.{declared.trees.tree.DefKind.DefKind, declared.trees.tree.Index.Index}
@@ -68,19 +69,19 @@ IsObjectType definition = (d : Def) × (o : ObjectType) × (definition ≡ Some 
     × (d.kind ≡ D.ObjectType o)
 
 -- `node` represents the identifier `oid`: it is the first node with it
-pub record StandsAt (nodes : List Node) (oid : List ℕ) (node : Node) : Type 0 where
-  pub place : ℕ
-  pub first : place_of (map (λ n. n.oid) nodes) oid ≡ Some place
-  pub there : slice_get nodes place ≡ Some node
+pub record IsNodeAt (nodes : List Node) (oid : List ℕ) (node : Node) : Type 0 where
+  pub id : ℕ
+  pub first : first_index (map (λ n. n.oid) nodes) oid ≡ Some id
+  pub there : slice_get nodes id ≡ Some node
 
 -- `column` is a column of `row`: an object whose identifier is one number longer than the
 -- identifier that `row` represents
 pub record IsColumnOf (nodes : List Node) (column row : Node) : Type 0 where
   pub object : IsObjectType column.definition
-  pub front : List ℕ
+  pub prefix : List ℕ
   pub last : ℕ
-  pub below : column.oid ≡ front ++ last ∷ []
-  pub stands : StandsAt nodes front row
+  pub below : column.oid ≡ prefix ++ last ∷ []
+  pub is_at : IsNodeAt nodes prefix row
 
 -- `parts` are the parts of the index of `column`
 pub record IsIndexOf (ms : List Module) (nodes : List Node) (column : Node)

@@ -6,7 +6,7 @@ use Rattle.smi_tree.specs.declared.columns.index_part.IndexPart.{IndexPart}
 use Rattle.smi_text.specs.{declared.trees.tree.Module.Module, declared.trees.tree.Def.Def}
 use Rattle.smi_text.specs.declared.trees.tree.IndexParts.{IndexParts}
 use Rattle.smi_names.specs.nodes.Nodes.{Node}
-use Rattle.smi_tree.specs.{Pairwise.ArePairwise, branches.Standing.place_of}
+use Rattle.smi_tree.specs.{Pairwise.ArePairwise, branches.FirstIndex.first_index}
 use Rattle.smi_tree.specs.declared.columns.rows.LastRow.{LastRow}
 use Rattle.smi_tree.specs.columns.Index.{IsIndexPart, AreParts, IsIndexed, IsColumnOf, UsesIndexOf}
 use Rattle.smi_tree.specs.columns.Index.{clause_of}
@@ -99,4 +99,4 @@ AreRows ms nodes rows = ArePairwise (λ k node at. HasRowOrNone ms nodes node at
 -- is in the list
 abbrev pub IsLastRow : List (List ℕ) → Option LastRow → Type 0
 IsLastRow oids None = ⊤
-IsLastRow oids (Some row) = row.place ≡ place_of oids row.numbers.now
+IsLastRow oids (Some row) = row.id ≡ first_index oids row.numbers.now

@@ -7,7 +7,8 @@ use Rattle.smi_text.specs.{declared.trees.tree.DefKind.DefKind, declared.trees.t
 use Rattle.smi_text.specs.declared.trees.tree.SimpleType.{SimpleType}
 use Rattle.smi_text.specs.declared.trees.tree.NamedNumber.{NamedNumber}
 use Rattle.smi_names.specs.meaning.Meaning.{QualifiedName, or_else}
-use Rattle.smi_names.specs.{meaning.Scopes.KnownNames, chains.Order.at_place, meaning.Along.AreMeant}
+use Rattle.smi_names.specs.{meaning.Scopes.KnownNames, chains.Order.option_at}
+use Rattle.smi_names.specs.{meaning.Along.AreMeant}
 use Rattle.smi_tree.specs.{Pairwise.ArePairwise, types.Chain.TypeOrigin}
 use Rattle.smi_tree.specs.types.Types.{base_in, name_in, names_in, sizes_in, simple_in, type_hint}
 use Rattle.smi_tree.specs.types.Types.{type_syntax, object_syntax, origin_of_object, object_origin}
@@ -52,13 +53,14 @@ facts_at ms s = record {
 -- the stored syntax of definition `k` of module `i`
 abbrev pub kept_syntax : List Module → Types → ℕ → ℕ → Option Facts
 kept_syntax ms t i k = option_map (facts_at ms)
-    (option_and_then (λ kept. at_place kept.items k) (slice_get t.objects.items i))
+    (option_and_then (λ kept. option_at kept.items k) (slice_get t.objects.items i))
 
 -- `facts` is the syntax of a type with the origin `o`, or `None` if it has none
 abbrev pub IsSyntax : List Module → TypeOrigin QualifiedName → Option Facts → Type 0
 IsSyntax ms o facts = MatchOption facts (HasNoSyntax ms o) (λ f. HasSyntax ms o f)
 
--- the stored syntax of each definition is its syntax as an object, if it has one
+-- the stored syntax of each definition is that of the object that it defines; none is stored if it
+-- defines no object with a syntax
 abbrev pub AreTypesOf : List Module → Types → Type 0
 AreTypesOf ms t = (i k : ℕ) → IsSyntax ms (object_origin ms i k) (kept_syntax ms t i k)
 
@@ -93,15 +95,16 @@ abbrev pub type_at : ℕ × ℕ → Def → Option KeptSyntax → Option KeptSyn
 type_at at d far = option_and_then (λ s. refined_by at (is_some (type_hint d.kind)) s far)
     (option_and_then simple_in (type_syntax d.kind))
 
--- `types` has at the index of each name the syntax that the name means as a type
+-- `types` has at the index of each name the syntax of the type of that name, if there is one
 abbrev pub AreFollowed : KnownNames → List (Option KeptSyntax) → Type 0
 AreFollowed k types = AreMeant k refines type_at types
 
--- `kept` has the syntax of each definition of module `m` as an object
+-- `kept` has for each definition of module `m` the syntax of its values, if it defines an object
+-- that has one
 abbrev pub AreKeptOf : List Module → Module → List (Option KeptSyntax) → Type 0
 AreKeptOf ms m kept =
     ArePairwise (λ k d syntax. IsKept ms (origin_of_object m.name.octets d) syntax) m.defs kept
 
--- `objects` has the syntax of each definition of each module as an object
+-- `objects` has such a list for each module
 abbrev pub AreKeptOfAll : List Module → List (Vec (Option KeptSyntax) Global) → Type 0
 AreKeptOfAll ms objects = ArePairwise (λ i m kept. AreKeptOf ms m kept.items) ms objects

@@ -3,7 +3,7 @@
 ghost use Rattle.std.specs.Prelude.{◌≡◌, ◌<◌, ◌≤◌, ◌+◌, ℕ, List, [], ◌∷◌, ◌++◌, length, take, IfOk};
 ghost use Rattle.std.specs.Prelude.{Some, None, option_copied};
 ghost use Rattle.smi_tree.specs.branches.Branches.{follower, GrowsBranch, AreBranchesOf, IsWay};
-ghost use Rattle.smi_tree.specs.branches.Standing.{oid_at};
+ghost use Rattle.smi_tree.specs.branches.FirstIndex.{oid_at};
 
 use snmp_oid::StoredOid;
 use std::alloc::{AllocError, Global};
@@ -16,7 +16,7 @@ pub(crate) struct Branch {
     /// appended.
     pub(crate) after: BTreeMap<u32, usize>,
     /// The first index of the prefix in the list of identifiers, if it is in the list.
-    pub(crate) standing: Option<usize>,
+    pub(crate) node_id: Option<usize>,
 }
 
 /// Returns the index of the branch that `number` reaches from the branch `at`, if there is one.
@@ -38,17 +38,17 @@ fn grow(
     requires { at < length branches.old.items }
     ensures grows { IfOk result (GrowsBranch branches.old.items branches.new.items at number) }
 {
-    if let Some(place) = next(branches, at, number) {
-        return Ok(place);
+    if let Some(id) = next(branches, at, number) {
+        return Ok(id);
     }
-    let place = branches.len();
+    let id = branches.len();
     branches.push(Branch {
         after: BTreeMap::new(alloc),
-        standing: None,
+        node_id: None,
     })?;
     let branch = &mut branches[at];
-    branch.after.insert(number, place)?;
-    Ok(place)
+    branch.after.insert(number, id)?;
+    Ok(id)
 }
 
 /// Returns a list of only the first branch, which no number follows.
@@ -58,7 +58,7 @@ pub(crate) fn first(alloc: Global) -> Result<Vec<Branch>, AllocError>
     let mut branches = Vec::new(alloc);
     branches.push(Branch {
         after: BTreeMap::new(alloc),
-        standing: None,
+        node_id: None,
     })?;
     Ok(branches)
 }
@@ -68,7 +68,7 @@ pub(crate) fn first(alloc: Global) -> Result<Vec<Branch>, AllocError>
 pub(crate) type Way = [usize; 129];
 
 /// Returns the length of the longest common prefix of `a` and `b`.
-fn shared(a: &[u32], b: &[u32]) -> usize
+fn common_prefix_len(a: &[u32], b: &[u32]) -> usize
     ensures within { result ≤ length a.now }
     ensures too { result ≤ length b.now }
     ensures same { take result a.now ≡ take result b.now }
@@ -80,7 +80,7 @@ fn shared(a: &[u32], b: &[u32]) -> usize
     count
 }
 
-/// Adds the branches of the identifier at index `place` to those of the identifiers before it.
+/// Adds the branches of the identifier at index `id` to those of the identifiers before it.
 /// `last` is the identifier that was added last, and `way` its branches: successive identifiers
 /// mostly share a prefix, and only the numbers after it are followed. Afterwards `way` has the
 /// branches of the new identifier.
@@ -88,27 +88,27 @@ pub(crate) fn add(
     alloc: Global,
     branches: &mut Vec<Branch>,
     oids: &[StoredOid],
-    place: usize,
+    id: usize,
     last: &[u32],
     way: &mut Way,
 ) -> Result<(), AllocError>
-    requires within { place < length oids.now }
-    requires before { AreBranchesOf (take place oids.now) branches.old.items }
+    requires within { id < length oids.now }
+    requires before { AreBranchesOf (take id oids.now) branches.old.items }
     requires on_way { IsWay branches.old.items last.now way.old }
     ensures added { IfOk result
-        (λ _. AreBranchesOf (take (place + 1) oids.now) branches.new.items) }
-    ensures on_way { IfOk result (λ _. IsWay branches.new.items (oid_at oids.now place) way.new) }
+        (λ _. AreBranchesOf (take (id + 1) oids.now) branches.new.items) }
+    ensures on_way { IfOk result (λ _. IsWay branches.new.items (oid_at oids.now id) way.new) }
 {
-    let numbers = oids[place].as_slice();
-    let from = shared(last, numbers);
+    let numbers = oids[id].as_slice();
+    let from = common_prefix_len(last, numbers);
     let mut at = way[from];
     'numbers: for i in from..numbers.len() {
         at = grow(alloc, branches, at, numbers[i])?;
         way[i + 1] = at;
     }
     let branch = &mut branches[at];
-    if branch.standing.is_none() {
-        branch.standing = Some(place);
+    if branch.node_id.is_none() {
+        branch.node_id = Some(id);
     }
     Ok(())
 }

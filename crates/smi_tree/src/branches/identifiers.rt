@@ -3,11 +3,12 @@ ghost use Rattle.std.specs.Prelude.{◌≡◌, ◌<◌, ◌≤◌, ℕ, List, []
 ghost use Rattle.std.specs.Prelude.{MatchOption, IfSome, Some};
 ghost use Rattle.std.specs.{Ordering.nat_cmp, BTreeMap.get};
 ghost use Rattle.std.specs.Iterator.{YieldsFirst, item_count};
-ghost use Rattle.smi_tree.specs.branches.Standing.{place_of, oid_at, IsDeepestAt, HasNoBeginning};
-ghost use Rattle.smi_tree.specs.branches.Standing.{AreChildren, HasNoneBelow};
+ghost use Rattle.smi_tree.specs.branches.FirstIndex.{first_index, oid_at, IsDeepestAt};
+ghost use Rattle.smi_tree.specs.branches.FirstIndex.{HasNoBeginning};
+ghost use Rattle.smi_tree.specs.branches.FirstIndex.{AreChildren, HasNoneBelow};
 ghost use Rattle.smi_tree.specs.branches.Branches.{AreBranchesOf, IsUnderWay, branch_of};
-ghost use Rattle.smi_tree.specs.branches.Branches.{standing_at, deeper_of};
-ghost use Rattle.smi_tree.specs.branches.Children.{places_left};
+ghost use Rattle.smi_tree.specs.branches.Branches.{id_at, deeper_of};
+ghost use Rattle.smi_tree.specs.branches.Children.{ids_left};
 
 use crate::branches::branch::{Branch, add, first, next};
 use snmp_oid::{Oid, StoredOid};
@@ -44,7 +45,7 @@ impl Model for Identifiers {
 #[derive(Clone, Copy, Debug)]
 pub struct Deepest {
     /// The first index of the prefix in the list.
-    pub place: usize,
+    pub id: usize,
     /// The number of numbers in the prefix.
     pub depth: usize,
     /// The index of the branch of the prefix.
@@ -59,9 +60,9 @@ impl Identifiers {
         let mut branches = first(alloc)?;
         let mut last: &[u32] = &[];
         let mut way = [0; 129];
-        'places: for place in 0..oids.len() {
-            add(alloc, &mut branches, &oids, place, last, &mut way)?;
-            last = oids[place].as_slice();
+        'indices: for id in 0..oids.len() {
+            add(alloc, &mut branches, &oids, id, last, &mut way)?;
+            last = oids[id].as_slice();
         }
         Ok(Identifiers {
             oids,
@@ -77,28 +78,28 @@ impl Identifiers {
         self.oids.len()
     }
 
-    /// Returns the identifier at index `place`, which must be below `len()`.
-    pub fn get(&self, place: usize) -> &StoredOid
-        requires { place < length self.now }
-        ensures { result.now ≡ oid_at self.now place }
+    /// Returns the identifier at index `id`, which must be below `len()`.
+    pub fn get(&self, id: usize) -> &StoredOid
+        requires { id < length self.now }
+        ensures { result.now ≡ oid_at self.now id }
     {
-        &self.oids[place]
+        &self.oids[id]
     }
 
     /// Returns the first index of `oid`, if it is in the list.
     pub fn find(&self, oid: &Oid) -> Option<usize>
-        ensures { result ≡ place_of self.now oid.now }
+        ensures { result ≡ first_index self.now oid.now }
     {
         self.find_numbers(oid.as_slice())
     }
 
     /// Returns the first index of the identifier with these numbers, if it is in the list.
-    #[tactic(auto, using(crate::proofs::Branching::place_off))]
+    #[tactic(auto, using(crate::proofs::BranchLists::index_off))]
     pub(crate) fn find_numbers(&self, numbers: &[u32]) -> Option<usize>
-        ensures { result ≡ place_of self.now numbers.now }
+        ensures { result ≡ first_index self.now numbers.now }
     {
-        let at = walked(&self.branches, numbers)?;
-        standing(&self.branches, at)
+        let at = branch_of(&self.branches, numbers)?;
+        id_at(&self.branches, at)
     }
 
     /// Returns the longest prefix of `oid` that is in the list, if any is. `oid` itself counts as
@@ -108,9 +109,9 @@ impl Identifiers {
     pub fn deepest_near(&self, oid: &Oid, near: &mut usize) -> Option<Deepest>
         ensures { MatchOption result
             (HasNoBeginning self.now oid.now)
-            (λ deepest. IsDeepestAt self.now oid.now deepest.place deepest.depth) }
+            (λ deepest. IsDeepestAt self.now oid.now deepest.id deepest.depth) }
     {
-        let found = match known(&self.oids, &self.branches, oid, *near) {
+        let found = match deepest_at(&self.oids, &self.branches, oid, *near) {
             Some(known) => deepest_from(
                 &self.oids,
                 &self.branches,
@@ -127,15 +128,15 @@ impl Identifiers {
         found
     }
 
-    /// Returns the identifier at index `place` if none in the list is below it. `near` is the
-    /// value that `deepest_near` left when it found `place`; with any other, returns `None`.
-    pub fn last_on_way(&self, place: usize, near: usize) -> Option<&StoredOid>
-        ensures at { IfSome result (λ o. o.now ≡ oid_at self.now place) }
+    /// Returns the identifier at index `id` if none in the list is below it. `near` is the
+    /// value that `deepest_near` left when it found `id`; with any other, returns `None`.
+    pub fn last_on_way(&self, id: usize, near: usize) -> Option<&StoredOid>
+        ensures at { IfSome result (λ o. o.now ≡ oid_at self.now id) }
         ensures last { IfSome result (λ o. HasNoneBelow self.now o.now) }
     {
         let branch = self.branches.get(near)?;
-        match branch.standing {
-            Some(standing) if standing == place && branch.after.is_empty() => self.oids.get(place),
+        match branch.node_id {
+            Some(node_id) if node_id == id && branch.after.is_empty() => self.oids.get(id),
             _ => None,
         }
     }
@@ -143,7 +144,7 @@ impl Identifiers {
     /// Returns an iterator over the identifiers that have `oid` as a prefix and are one number
     /// longer, in increasing order of that number. It returns the first index of each.
     pub fn children(&self, oid: &Oid) -> Children<'_>
-        ensures { AreChildren self.now oid.now (places_left result) }
+        ensures { AreChildren self.now oid.now (ids_left result) }
     {
         let after = after(&self.branches, &self.nothing, oid.as_slice());
         Children {
@@ -154,8 +155,8 @@ impl Identifiers {
 }
 
 /// Returns the index of the branch that `numbers` reach from the first branch, if there is one.
-#[tactic(auto, using(crate::proofs::Branching::branch_more, crate::proofs::Branching::branch_off))]
-fn walked(branches: &[Branch], numbers: &[u32]) -> Option<usize>
+#[tactic(auto, using(crate::proofs::BranchLists::branch_more, crate::proofs::BranchLists::branch_off))]
+fn branch_of(branches: &[Branch], numbers: &[u32]) -> Option<usize>
     ensures { result ≡ branch_of branches.now numbers.now }
 {
     let mut at = 0;
@@ -166,20 +167,20 @@ fn walked(branches: &[Branch], numbers: &[u32]) -> Option<usize>
 }
 
 /// Returns the index that is stored at the branch `at`, if there is one.
-fn standing(branches: &[Branch], at: usize) -> Option<usize>
-    ensures { result ≡ standing_at branches.now at }
+fn id_at(branches: &[Branch], at: usize) -> Option<usize>
+    ensures { result ≡ id_at branches.now at }
 {
-    branches.get(at)?.standing
+    branches.get(at)?.node_id
 }
 
 /// Returns the prefix of the branch `at`, which has `depth` numbers, if it is in the list;
 /// otherwise `deepest`, the longest one found before.
 fn deeper(branches: &[Branch], at: usize, depth: usize, deepest: Option<Deepest>) -> Option<Deepest>
-    ensures { result ≡ deeper_of (standing_at branches.now at) at depth deepest }
+    ensures { result ≡ deeper_of (id_at branches.now at) at depth deepest }
 {
-    match standing(branches, at) {
-        Some(place) => Some(Deepest {
-            place,
+    match id_at(branches, at) {
+        Some(id) => Some(Deepest {
+            id,
             depth,
             branch: at,
         }),
@@ -188,19 +189,19 @@ fn deeper(branches: &[Branch], at: usize, depth: usize, deepest: Option<Deepest>
 }
 
 /// Returns the prefix of the branch `at`, if it is in the list and `oid` is below it.
-fn known(oids: &[StoredOid], branches: &[Branch], oid: &Oid, at: usize) -> Option<Deepest>
+fn deepest_at(oids: &[StoredOid], branches: &[Branch], oid: &Oid, at: usize) -> Option<Deepest>
     requires { AreBranchesOf oids.now branches.now }
     ensures { IfSome result (λ d.
         IsUnderWay oids.now branches.now oid.now d.depth d.branch (Some d)) }
 {
-    let place = standing(branches, at)?;
-    let known = oids.get(place)?;
+    let id = id_at(branches, at)?;
+    let known = oids.get(id)?;
     let numbers = known.as_slice();
     if !oid.is_below_numbers(numbers) {
         return None;
     }
     Some(Deepest {
-        place,
+        id,
         depth: numbers.len(),
         branch: at,
     })
@@ -211,7 +212,7 @@ fn deepest_of_all(oids: &[StoredOid], branches: &[Branch], oid: &Oid) -> Option<
     requires { AreBranchesOf oids.now branches.now }
     ensures { MatchOption result
         (HasNoBeginning oids.now oid.now)
-        (λ deepest. IsDeepestAt oids.now oid.now deepest.place deepest.depth) }
+        (λ deepest. IsDeepestAt oids.now oid.now deepest.id deepest.depth) }
 {
     deepest_from(oids, branches, oid, 0, 0, deeper(branches, 0, 0, None))
 }
@@ -230,7 +231,7 @@ fn deepest_from(
     requires way { IsUnderWay oids.now branches.now oid.now depth branch before }
     ensures { MatchOption result
         (HasNoBeginning oids.now oid.now)
-        (λ deepest. IsDeepestAt oids.now oid.now deepest.place deepest.depth) }
+        (λ deepest. IsDeepestAt oids.now oid.now deepest.id deepest.depth) }
 {
     let numbers = oid.as_slice();
     let mut at = branch;
@@ -246,7 +247,7 @@ fn deepest_from(
 }
 
 /// Returns the numbers that follow `numbers` in identifiers, each with the index of its branch.
-#[tactic(auto, using(std::proofs::lemmas::Option::slice_get_read, std::proofs::lemmas::Option::slice_get_past, crate::proofs::Walking::walk_push))]
+#[tactic(auto, using(std::proofs::lemmas::Option::slice_get_read, std::proofs::lemmas::Option::slice_get_past, crate::proofs::BranchWalks::walk_push))]
 fn after<'a>(
     branches: &'a [Branch],
     nothing: &'a BTreeMap<u32, usize>,
@@ -255,7 +256,7 @@ fn after<'a>(
     requires { nothing.now.entries ≡ [] }
     ensures { (n : ℕ) → get nat_cmp result.now n ≡ branch_of branches.now (numbers.now ++ n ∷ []) }
 {
-    let Some(at) = walked(branches, numbers) else {
+    let Some(at) = branch_of(branches, numbers) else {
         return nothing;
     };
     match branches.get(at) {
@@ -275,14 +276,14 @@ pub struct Children<'a> {
 impl Iterator for Children<'_> {
     type Item = usize;
 
-    ghost next_gives = { YieldsFirst places_left };
+    ghost next_gives = { YieldsFirst ids_left };
 
-    ghost remaining = { item_count places_left };
+    ghost remaining = { item_count ids_left };
 
     fn next(&mut self) -> Option<usize> {
         'left: while let Some((_number, at)) = self.left.next() {
-            if let Some(place) = standing(self.branches, *at) {
-                return Some(place);
+            if let Some(id) = id_at(self.branches, *at) {
+                return Some(id);
             }
         }
         None

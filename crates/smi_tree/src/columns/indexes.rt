@@ -40,7 +40,7 @@ impl Model for Indexes {
 impl Indexes {
     /// Returns the index of each node of `modules`. `sources` and `identifiers` belong to the
     /// nodes, in order.
-    #[tactic(auto, using(crate::proofs::Indexing::are_indexes))]
+    #[tactic(auto, using(crate::proofs::IndexesOfNodes::are_indexes))]
     pub fn new<'a>(
         alloc: Global,
         names: &Names<'a>,
@@ -62,12 +62,12 @@ impl Indexes {
         Ok(Indexes { parts, rows })
     }
 
-    /// Returns the parts of the index of the node `place`, or `None` if it isn't a column or its
+    /// Returns the parts of the index of the node `id`, or `None` if it isn't a column or its
     /// index can't be read.
-    pub fn get(&self, place: usize) -> Option<&[IndexPart]>
-        ensures { option_map (λ r. r.now) result ≡ index_at self.now place }
+    pub fn get(&self, id: usize) -> Option<&[IndexPart]>
+        ensures { option_map (λ r. r.now) result ≡ index_at self.now id }
     {
-        let (i, k) = (*self.rows.get(place)?)?;
+        let (i, k) = (*self.rows.get(id)?)?;
         let parts = self.parts.get(i)?.get(k)?.as_ref()?;
         Some(parts.as_slice())
     }

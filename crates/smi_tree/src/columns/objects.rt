@@ -18,8 +18,8 @@ ghost use Rattle.smi_tree.specs.columns.Kept.{UsesNone, items_of};
 use crate::branches::Identifiers;
 use crate::columns::IndexPart;
 use crate::columns::part::part;
-use crate::columns::rows::{LastRow, row_place};
-use crate::node::{definition, kept};
+use crate::columns::rows::{LastRow, row_index};
+use crate::node::{copy_at, definition};
 use crate::types::Types;
 use smi_names::{Entries, Names, Resolution, Source, one_resolution};
 use smi_text::{Def, DefKind, Index, IndexParts, Module, Name};
@@ -45,7 +45,7 @@ pub(crate) struct Objects<'n, 'a> {
 impl<'n, 'a> Model for Objects<'n, 'a> {
     ghost use Rattle.std.specs.Prelude.{List, ◌≡◌};
     ghost use Rattle.smi_text.specs.declared.trees.tree.Module.{Module};
-    ghost use Rattle.smi_names.specs.meaning.Along.{AreMeant, leads_nowhere, stands_at};
+    ghost use Rattle.smi_names.specs.meaning.Along.{AreMeant, refers_to_nothing, source_as_meaning};
     ghost use Rattle.smi_tree.specs.types.Kept.{AreTypesOf};
 
     ghost Value = { List Module };
@@ -54,7 +54,7 @@ impl<'n, 'a> Model for Objects<'n, 'a> {
 
     ghost invariant = { λ s. (s.entries.modules ≡ s.modules.now)
         × (s.names.now.modules ≡ s.modules.now) × AreTypesOf s.modules.now s.types.now
-        × AreMeant s.entries leads_nowhere stands_at s.found.items };
+        × AreMeant s.entries refers_to_nothing source_as_meaning s.found.items };
 }
 
 /// Returns the INDEX or AUGMENTS clause of a definition, if it has one.
@@ -81,14 +81,14 @@ fn is_identifier(resolution: &Resolution) -> bool
     matches!(resolution, Resolution::Numbers(_))
 }
 
-/// Returns whether IMPLIED precedes the name at index `place` of an INDEX clause. Only the last
+/// Returns whether IMPLIED precedes the name at index `id` of an INDEX clause. Only the last
 /// name can have it.
-fn is_implied(clause: &IndexParts, place: usize) -> bool
-    requires { place < length clause.now.names }
-    ensures { result ≡ is_implied clause.now place }
+fn is_implied(clause: &IndexParts, position: usize) -> bool
+    requires { position < length clause.now.names }
+    ensures { result ≡ is_implied clause.now position }
 {
     let names = clause.names.len();
-    clause.implied && place + 1 == names
+    clause.implied && position + 1 == names
 }
 
 impl<'n, 'a> Objects<'n, 'a> {
@@ -116,13 +116,13 @@ impl<'n, 'a> Objects<'n, 'a> {
     }
 
     /// Returns the definition that `name` refers to in the module named `home`, with imports
-    /// followed, if there is one: the index of its module, and its own index in that.
+    /// followed, if there is one: the index of its module, and its index in the module.
     fn find(&self, home: &'a [u8], name: &'a [u8]) -> Option<(usize, usize)>
         ensures { let qualified : QualifiedName = record { home = home.now; name = name.now } in
             MatchOption result (IsUndefined self.now qualified)
             (λ at. IsFoundAt self.now qualified at.0 at.1) }
     {
-        kept(&self.found, self.entries.place(home, name))
+        copy_at(&self.found, self.entries.entry_index(home, name))
     }
 
     /// Returns whether `name` resolves to an identifier in the module named `home`.
@@ -229,8 +229,8 @@ impl<'n, 'a> Objects<'n, 'a> {
 
     /// Returns the definition whose INDEX clause identifies the rows of `source`: its own
     /// definition, or the one that its AUGMENTS clause names. The result is the index of the
-    /// definition's module, and its own index in that.
-    fn used(&self, source: Source) -> Option<(usize, usize)>
+    /// definition's module, and the definition's index in the module.
+    fn index_clause_of(&self, source: Source) -> Option<(usize, usize)>
         ensures { let ms = self.now in MatchOption result
             ((o : List ℕ) → UsesNone ms (node_from ms source o))
             (λ at. (o : List ℕ) → UsesAt ms (node_from ms source o) at.0 at.1) }
@@ -246,31 +246,31 @@ impl<'n, 'a> Objects<'n, 'a> {
         }
     }
 
-    /// Returns the definition whose INDEX clause identifies the rows of the node `place`, or
+    /// Returns the definition whose INDEX clause identifies the rows of the node `id`, or
     /// `None` if the node isn't a column or its row uses no such clause. `last` is the row that
     /// was looked up last.
     fn row<'i>(
         &self,
         sources: &[Source],
         identifiers: &'i Identifiers,
-        place: usize,
+        id: usize,
         last: &mut Option<LastRow<'i>>,
     ) -> Option<(usize, usize)>
         requires long { length sources.now ≡ length identifiers.now }
-        requires within { place < length sources.now }
+        requires within { id < length sources.now }
         requires last { IsLastRow identifiers.now last.old }
         ensures row { let ms = self.now in
             let nodes = nodes_of ms sources.now identifiers.now in
-            (node : Node) → slice_get nodes place ≡ Some node → HasRowOrNone ms nodes node result }
+            (node : Node) → slice_get nodes id ≡ Some node → HasRowOrNone ms nodes node result }
         ensures last { IsLastRow identifiers.now last.new }
     {
-        let def = definition(self.modules, sources[place])?;
+        let def = definition(self.modules, sources[id])?;
         if !is_object_type(def) {
             return None;
         }
-        let row = row_place(identifiers, place, last)?;
+        let row = row_index(identifiers, id, last)?;
         let source = sources.get(row)?;
-        self.used(*source)
+        self.index_clause_of(*source)
     }
 
     /// Returns, for each node, the definition whose INDEX clause identifies its rows, or `None` if
@@ -287,8 +287,8 @@ impl<'n, 'a> Objects<'n, 'a> {
     {
         let mut rows = Vec::with_capacity(alloc, sources.len())?;
         let mut last = None;
-        'places: for place in 0..sources.len() {
-            rows.push(self.row(sources, identifiers, place, &mut last))?;
+        'indices: for id in 0..sources.len() {
+            rows.push(self.row(sources, identifiers, id, &mut last))?;
         }
         Ok(rows)
     }

@@ -21,8 +21,8 @@ fn number(bound: &TokenText) -> Option<u64>
 /// Returns the bound of a SIZE that is one number. A range has none, even if its two ends are the
 /// same.
 fn single(sizes: Option<&[Range]>) -> Option<&TokenText>
-    ensures { let given = option_copied sizes.entry in
-        MatchOption result (IsNotFixed given) (λ bound. IsFixedBy given bound.now) }
+    ensures { let returned = option_copied sizes.entry in
+        MatchOption result (IsNotFixed returned) (λ bound. IsFixedBy returned bound.now) }
 {
     match sizes {
         Some([Range { low, high: None }]) => Some(low),
@@ -33,9 +33,9 @@ fn single(sizes: Option<&[Range]>) -> Option<&TokenText>
 /// Returns what determines the number of numbers in a string, from its SIZE and from whether
 /// IMPLIED precedes it. Returns `None` if its SIZE is fixed below zero: no string has that length.
 fn extent(sizes: Option<&[Range]>, implied: bool) -> Option<Extent>
-    ensures { let given = option_copied sizes.entry in
-        MatchOption result ((extent : Extent) → HasExtent given implied extent → ⊥)
-        (λ extent. HasExtent given implied extent) }
+    ensures { let returned = option_copied sizes.entry in
+        MatchOption result ((extent : Extent) → HasExtent returned implied extent → ⊥)
+        (λ extent. HasExtent returned implied extent) }
 {
     match single(sizes) {
         Some(bound) => Some(Extent::Fixed(number(bound)?)),
@@ -48,10 +48,10 @@ fn extent(sizes: Option<&[Range]>, implied: bool) -> Option<Extent>
 /// says whether IMPLIED precedes it. Returns `None` for Counter64, and for a string whose SIZE is
 /// fixed below zero.
 pub(crate) fn part(base: TypeBase, sizes: Option<&[Range]>, implied: bool) -> Option<IndexPart>
-    ensures { let given = option_copied sizes.entry in
+    ensures { let returned = option_copied sizes.entry in
         MatchOption result
-        ((part : IndexPart) → IsPartOf base given implied part → ⊥)
-        (λ part. IsPartOf base given implied part) }
+        ((part : IndexPart) → IsPartOf base returned implied part → ⊥)
+        (λ part. IsPartOf base returned implied part) }
 {
     match base {
         TypeBase::Integer

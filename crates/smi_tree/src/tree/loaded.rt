@@ -5,7 +5,7 @@ ghost use Rattle.smi_tree.specs.private.Resolved.{IsResolved};
 
 use crate::branches::Identifiers;
 use crate::columns::Indexes;
-use crate::places::{LabelPlaces, Places};
+use crate::indices::{Indices, LabelIndices};
 use crate::tree::Tree;
 use crate::types::Types;
 use smi_names::{NameHash, Names, Source, Warning, gather_nodes};
@@ -26,11 +26,11 @@ pub(super) struct Resolved {
     indexes: Indexes,
     /// The warnings, in order of loading.
     warnings: Vec<Warning>,
-    /// The key of the maps that found the names.
+    /// How the maps that found the names hash them.
     key: NameHash,
 }
 
-/// Resolves what `modules` define, with maps of names that have the key `hash`.
+/// Resolves what `modules` define. The maps of names hash them as `hash` says.
 pub(super) fn resolve(
     alloc: Global,
     hash: NameHash,
@@ -75,9 +75,9 @@ pub struct Loaded {
     pub(super) modules: Vec<Module>,
     pub(super) resolved: Resolved,
     /// The index of the first module of each name.
-    pub(super) homes: Places,
+    pub(super) homes: Indices,
     /// The first sources of labels, by their indices.
-    pub(super) places: LabelPlaces,
+    pub(super) indices: LabelIndices,
 }
 
 impl Model for Loaded {
@@ -89,7 +89,7 @@ impl Model for Loaded {
 
     ghost view = { λ s. load_kept s.modules.items s.resolved };
 
-    ghost invariant = { λ s. IsLoadKept s.modules.items s.resolved s.homes s.places };
+    ghost invariant = { λ s. IsLoadKept s.modules.items s.resolved s.homes s.indices };
 }
 
 impl Drop for Loaded {
@@ -99,7 +99,7 @@ impl Drop for Loaded {
             modules: _modules,
             resolved: _resolved,
             homes: _homes,
-            places: _places,
+            indices: _indices,
         } = self;
     }
 }
@@ -114,15 +114,15 @@ impl Loaded {
             modules,
             resolved,
             homes,
-            places,
+            indices,
         } = self;
         let tree = Tree {
             modules,
             sources: resolved.sources,
             identifiers: resolved.identifiers,
             homes,
-            labels: places.labels,
-            others: places.others,
+            labels: indices.labels,
+            others: indices.others,
             types: resolved.types,
             indexes: resolved.indexes,
         };

@@ -6,46 +6,46 @@ use Rattle.smi_value.specs.declared.hint.number.NumberForm.{NumberForm}
 use Rattle.smi_value.specs.declared.hint.number.NumberForm.TheVariants as form
 
 -- the decimal digits that a text begins with
-abbrev pub front_digits : List ℕ → List ℕ
-front_digits text = take_while is_ascii_digit text
+abbrev pub leading_digits : List ℕ → List ℕ
+leading_digits text = take_while is_ascii_digit text
 
 -- the text after the decimal digits that it begins with
 abbrev pub after_digits : List ℕ → List ℕ
-after_digits text = drop (length (front_digits text)) text
+after_digits text = drop (length (leading_digits text)) text
 
 -- `text` begins with one or more digits, perhaps with leading zeros, whose value is `number`, and
 -- `rest` follows them
 pub record StartsWithNumber (text : List ℕ) (number : ℕ) (rest : List ℕ) : Type 0 where
-  pub some : front_digits text ≢ []
-  pub value : number ≡ digits_value 10 (front_digits text)
+  pub some : leading_digits text ≢ []
+  pub value : number ≡ digits_value 10 (leading_digits text)
   pub after : rest ≡ after_digits text
 
--- `text` is `d`, a hyphen, and the number of digits after the point, `places`, which is at most 20
-pub record HasPlaces (text : List ℕ) (places : ℕ) : Type 0 where
+-- `text` is `d`, a hyphen, and the number of digits after the point, `indices`, which is at most 20
+pub record HasPlaces (text : List ℕ) (indices : ℕ) : Type 0 where
   pub after_hyphen : List ℕ
   pub whole : text ≡ 100 ∷ 45 ∷ after_hyphen
-  pub number : StartsWithNumber after_hyphen places []
-  pub at_most : places ≤ 20
+  pub number : StartsWithNumber after_hyphen indices []
+  pub at_most : indices ≤ 20
 
 -- `text` is the hint of integers for this form
 abbrev pub IsNumberHint : List ℕ → NumberForm → Type 0
-IsNumberHint text (form.Decimal places) =
-    ((text ≡ codes "d") × (places ≡ 0)) ⊎ HasPlaces text places
+IsNumberHint text (form.Decimal indices) =
+    ((text ≡ codes "d") × (indices ≡ 0)) ⊎ HasPlaces text indices
 IsNumberHint text form.Hexadecimal = text ≡ codes "x"
 IsNumberHint text form.Octal = text ≡ codes "o"
 IsNumberHint text form.Binary = text ≡ codes "b"
 
--- the digits with a point before the last `places` of them, if that isn't 0; zeros are put before
+-- the digits with a point before the last `indices` of them, if that isn't 0; zeros are put before
 -- them so that a digit precedes the point
 abbrev pub with_point : ℕ → List ℕ → List ℕ
 with_point zero number = number
-with_point (suc places) number =
-    let padded = replicate (suc places + 1 - length number) 48 ++ number in
-    take (length padded - suc places) padded ++ 46 ∷ drop (length padded - suc places) padded
+with_point (suc indices) number =
+    let padded = replicate (suc indices + 1 - length number) 48 ++ number in
+    take (length padded - suc indices) padded ++ 46 ∷ drop (length padded - suc indices) padded
 
 -- a magnitude in this form, in lower case; it has leading zeros only if a point needs them
 abbrev pub magnitude_text : NumberForm → ℕ → List ℕ
-magnitude_text (form.Decimal places) n = with_point places (decimal n)
+magnitude_text (form.Decimal indices) n = with_point indices (decimal n)
 magnitude_text form.Hexadecimal n = digits 16 false n
 magnitude_text form.Octal n = digits 8 false n
 magnitude_text form.Binary n = digits 2 false n

@@ -44,7 +44,8 @@ mark_before mark (_ ∷ _) = option_to_list mark
 abbrev pub last_mark : Spec → Option ℕ
 last_mark spec = if is_some spec.terminator then spec.terminator else spec.separator
 
--- the text of the pieces of one spec, with the marks after them; `rest` is what remains
+-- the text of the pieces of one spec: its separator, if it has one, is between them, and its last
+-- mark is after them if octets remain in `rest`
 abbrev pub pieces_text : Spec → List (List ℕ) → List ℕ → List ℕ
 pieces_text spec [] rest = []
 pieces_text spec (piece ∷ []) rest =

@@ -3,7 +3,7 @@ use Rattle.std.specs.Prelude.{◌≡◌, ◌≢◌, ℕ, ◌≤◌, nat_lt, Bool
 use Rattle.std.specs.Prelude.{if◌then◌else◌, List, [], ◌∷◌, length, drop, Option, Some, None}
 use Rattle.std.specs.Prelude.{is_some, slice_get, option_and_then, option_to_list}
 use Rattle.std.specs.{Char.is_ascii_digit, Str.Parse.digits_value}
-use Rattle.smi_value.specs.hint.Number.{front_digits, after_digits}
+use Rattle.smi_value.specs.hint.Number.{leading_digits, after_digits}
 use Rattle.smi_value.specs.declared.hint.spec.OctetFormat.{OctetFormat}
 use Rattle.smi_value.specs.declared.hint.spec.OctetFormat.TheVariants as octet_format
 use Rattle.smi_value.specs.declared.hint.spec.Spec.{Spec}
@@ -57,8 +57,8 @@ may_end spec = spec.is_counted && is_some spec.separator
 -- follows
 pub record IsFirstSpec (text : List ℕ) (spec : Spec) (rest : List ℕ) : Type 0 where
   pub star : spec.is_counted ≡ has_star text
-  pub digits : front_digits (after_star text) ≢ []
-  pub length_is : spec.length ≡ digits_value 10 (front_digits (after_star text))
+  pub digits : leading_digits (after_star text) ≢ []
+  pub length_is : spec.length ≡ digits_value 10 (leading_digits (after_star text))
   pub format : option_and_then format_of (slice_get (at_letter text) 0) ≡ Some spec.format
   pub fits : spec.length ≤ most_octets spec.format
   pub separator : spec.separator ≡ mark_of (after_format_letter text)

@@ -6,7 +6,7 @@ ghost use Rattle.std.specs.{List.take_while, Char.is_ascii_digit, Int.IsInRange}
 ghost use Rattle.std.specs.Fmt.{digits, digit_glyph};
 ghost use Rattle.snmp_io.specs.Draft.{Adds};
 ghost use Rattle.smi_value.specs.declared.hint.number.NumberForm.{NumberForm};
-ghost use Rattle.smi_value.specs.hint.Number.{StartsWithNumber, front_digits, after_digits};
+ghost use Rattle.smi_value.specs.hint.Number.{StartsWithNumber, leading_digits, after_digits};
 ghost use Rattle.smi_value.specs.hint.Number.{IsNumberHint, with_point, magnitude_text};
 ghost use Rattle.smi_value.specs.hint.Number.{number_text, begins_with_digit};
 
@@ -48,11 +48,11 @@ fn decimal_places(text: &[u8]) -> Option<NumberForm>
     ensures none { IfNone result
         ((form : NumberForm) → IsNumberHint (codes "d-" ++ text.now) form → ⊥) }
 {
-    let Some((places, rest)) = front_number(text, 20) else {
+    let Some((indices, rest)) = leading_number(text, 20) else {
         return None;
     };
     if rest.is_empty() {
-        Some(NumberForm::Decimal(places as u8))
+        Some(NumberForm::Decimal(indices as u8))
     } else {
         None
     }
@@ -60,7 +60,7 @@ fn decimal_places(text: &[u8]) -> Option<NumberForm>
 
 /// Returns the number that `text` begins with, and the rest of the text. Returns `None` if there is
 /// no digit at the start, or the number is above `most`.
-pub(crate) fn front_number(text: &[u8], most: u32) -> Option<(u32, &[u8])>
+pub(crate) fn leading_number(text: &[u8], most: u32) -> Option<(u32, &[u8])>
     requires { most < 2 ^ 24 }
     ensures found { IfSome result (λ r. StartsWithNumber text.now r.0 r.1.now) }
     ensures at_most { IfSome result (λ r. r.0 ≤ most) }
@@ -68,14 +68,14 @@ pub(crate) fn front_number(text: &[u8], most: u32) -> Option<(u32, &[u8])>
         → StartsWithNumber text.now number rest → most < number) }
 {
     // Most numbers of a hint have one digit.
-    match front_digit(text) {
+    match leading_digit(text) {
         Some((digit, rest)) if u32::from(digit) <= most => Some((u32::from(digit), rest)),
         _ => long_number(text, most),
     }
 }
 
 /// Returns the value of the first digit and the rest of `text`, if it begins with just one digit.
-fn front_digit(text: &[u8]) -> Option<(u8, &[u8])>
+fn leading_digit(text: &[u8]) -> Option<(u8, &[u8])>
     ensures { IfSome result (λ r. StartsWithNumber text.now r.0 r.1.now) }
 {
     match text {
@@ -94,7 +94,7 @@ fn begins_with_digit(text: &[u8]) -> bool
     }
 }
 
-/// Does what [`front_number`] does, for any number of digits.
+/// Does what [`leading_number`] does, for any number of digits.
 fn long_number(text: &[u8], most: u32) -> Option<(u32, &[u8])>
     requires { most < 2 ^ 24 }
     ensures found { IfSome result (λ r. StartsWithNumber text.now r.0 r.1.now) }
@@ -102,12 +102,12 @@ fn long_number(text: &[u8], most: u32) -> Option<(u32, &[u8])>
     ensures none { IfNone result ((number : ℕ) (rest : List ℕ)
         → StartsWithNumber text.now number rest → most < number) }
 {
-    let (front, rest) = split_digits(text);
-    if front.is_empty() {
+    let (prefix, rest) = split_digits(text);
+    if prefix.is_empty() {
         return None;
     }
     let mut number = 0;
-    'digits: for octet in front {
+    'digits: for octet in prefix {
         number = number * 10 + u32::from(*octet - b'0');
         if number > most {
             return None;
@@ -118,7 +118,7 @@ fn long_number(text: &[u8], most: u32) -> Option<(u32, &[u8])>
 
 /// Returns the digits that `text` begins with, and the rest of the text.
 fn split_digits(text: &[u8]) -> (&[u8], &[u8])
-    ensures front { result.0.now ≡ front_digits text.now }
+    ensures prefix { result.0.now ≡ leading_digits text.now }
     ensures after { result.1.now ≡ after_digits text.now }
     ensures digits { EachIndex result.0.now
         (λ k. IsInRange 48 57 (slice_index result.0.now k)) }
@@ -152,29 +152,29 @@ fn append_magnitude(draft: &mut Draft, form: NumberForm, n: u64)
 {
     match form {
         NumberForm::Decimal(0) => draft.number(n),
-        NumberForm::Decimal(places) => append_with_point(draft, usize::from(places), n),
+        NumberForm::Decimal(indices) => append_with_point(draft, usize::from(indices), n),
         NumberForm::Hexadecimal => append_base_16(draft, n),
         NumberForm::Octal => append_base_8(draft, n),
         NumberForm::Binary => append_base_2(draft, n),
     }
 }
 
-/// Appends `n` in decimal digits with a point before the last `places` of them. If there are too
+/// Appends `n` in decimal digits with a point before the last `indices` of them. If there are too
 /// few digits, zeros are put before them, so that one digit precedes the point.
-fn append_with_point(draft: &mut Draft, places: usize, n: u64)
-    requires { 0 < places }
-    ensures { Adds draft.old (with_point places (decimal n)) draft.new }
+fn append_with_point(draft: &mut Draft, indices: usize, n: u64)
+    requires { 0 < indices }
+    ensures { Adds draft.old (with_point indices (decimal n)) draft.new }
 {
     let mut buffer = Buffer::new();
     let number = buffer.format(n).as_bytes();
-    if number.len() > places {
-        let (whole, part) = number.split_at(number.len() - places);
+    if number.len() > indices {
+        let (whole, part) = number.split_at(number.len() - indices);
         draft.octets(whole);
         draft.octet(b'.');
         draft.octets(part);
     } else {
         draft.octets(b"0.");
-        append_zeros(draft, places - number.len());
+        append_zeros(draft, indices - number.len());
         draft.octets(number);
     }
 }
@@ -183,7 +183,7 @@ fn append_with_point(draft: &mut Draft, places: usize, n: u64)
 fn append_zeros(draft: &mut Draft, count: usize)
     ensures { Adds draft.old (replicate count 48) draft.new }
 {
-    'zeros: for place in 0..count {
+    'zeros: for index in 0..count {
         draft.octet(b'0');
     }
 }

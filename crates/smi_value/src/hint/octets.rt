@@ -238,7 +238,7 @@ fn append_piece<'a>(draft: &mut Draft, spec: &Spec, is_last: bool, octets: &'a [
 }
 
 /// Appends the mark, if there is one and octets remain.
-#[tactic(auto, using(crate::proofs::Growing::adds_none))]
+#[tactic(auto, using(crate::proofs::Drafts::adds_none))]
 fn append_mark(draft: &mut Draft, mark: Option<u8>, rest: &[u8])
     ensures { Adds draft.old (mark_before mark rest.now) draft.new }
 {
@@ -249,7 +249,7 @@ fn append_mark(draft: &mut Draft, mark: Option<u8>, rest: &[u8])
 }
 
 /// Appends the octets of one application in the format `format`.
-#[tactic(auto, using(crate::proofs::Growing::adds_none))]
+#[tactic(auto, using(crate::proofs::Drafts::adds_none))]
 fn append_formatted(draft: &mut Draft, format: OctetFormat, piece: &[u8])
     requires { length piece.now ≤ most_octets format }
     ensures { Adds draft.old (piece_text format piece.now) draft.new }

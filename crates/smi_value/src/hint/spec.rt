@@ -6,7 +6,7 @@ ghost use Rattle.smi_value.specs.hint.Spec.{after_star, mark_of, after_mark, mos
 ghost use Rattle.smi_value.specs.hint.{Spec.takes_octets, Pieces.last_mark, Pieces.is_single};
 ghost use Rattle.smi_value.specs.declared.hint.spec.Spec.{Spec};
 
-use crate::hint::number::front_number;
+use crate::hint::number::leading_number;
 
 /// How the octets of one application of a spec are shown.
 #[derive(Clone, Copy, Debug, PartialEq, Eq)]
@@ -46,7 +46,7 @@ pub(crate) fn first_spec(text: &[u8]) -> Option<(Spec, &[u8])>
         ((spec : Spec) (rest : List ℕ) → IsFirstSpec text.now spec rest → ⊥) }
 {
     let (is_counted, text) = split_star(text);
-    let Some((length, text)) = front_number(text, 65535) else {
+    let Some((length, text)) = leading_number(text, 65535) else {
         return None;
     };
     let Some((format, text)) = split_format(text) else {

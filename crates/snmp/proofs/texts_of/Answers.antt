@@ -5,5 +5,6 @@ use Rattle.snmp.proofs.texts_of.Goals as goal
 
 pub returns : goal.returns
 returns c =
-    map_from_collect _ c.collect.ensures.ran (YieldsList-from_map_by _ (λ r. r.now) string_bytes (YieldsList-from_slice c.args.words.now cc) c.map.ensures.closure
+    map_from_collect _ c.collect.ensures.ran (YieldsList-from_map_by _ (λ r. r.now) string_bytes
+    (YieldsList-from_slice c.args.words.now cc) c.map.ensures.closure
     (λ x r q k. search (rules, tests)))

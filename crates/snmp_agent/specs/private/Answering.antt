@@ -10,15 +10,16 @@ use Rattle.snmp_wire.specs.Message.{Datum, object_id, octet_string, opaque_octet
 use Rattle.snmp_wire.specs.Canon.{canon, canon_binding, canon_head}
 use Rattle.snmp_agent.specs.{table.Listing.got_at, table.Table.MibView, table.Table.IsNextAfter}
 use Rattle.snmp_agent.specs.declared.room.ReplyBindings.{ReplyBindings}
-use Rattle.snmp_agent.specs.Reply.{AreAnswers, IsResponse, not_writable, no_error, failed_place}
+use Rattle.snmp_agent.specs.Reply.{AreAnswers, IsResponse, not_writable, no_error, failed_index}
 use Rattle.snmp_agent.specs.Reply.{joined, or_zero}
-use Rattle.snmp_agent.specs.private.Standing.{given_in, is_over, next_at, place_of, places_of}
+use Rattle.snmp_agent.specs.private.Cursor.{bindings_in_round, is_over, next_at, cursor_of}
+use Rattle.snmp_agent.specs.private.Cursor.{cursors_of}
 
 -- what the reply to a Get, a GetNext or a Set has for one binding of the request, and for each of
 -- them
 abbrev pub answer_to : MibView → Kind → VarBind → VarBind
 answer_to view kind.GetRequest asked = got_at view asked.name
-answer_to view kind.GetNextRequest asked = next_at (place_of view 0 asked.name)
+answer_to view kind.GetNextRequest asked = next_at (cursor_of view 0 asked.name)
 answer_to view _ asked = asked
 
 abbrev pub answers_to : MibView → Kind → List VarBind → List VarBind
@@ -54,7 +55,7 @@ whole_status kind.SetRequest = not_writable
 whole_status _ = no_error
 
 abbrev pub whole_index : Kind → List VarBind → ℤ
-whole_index kind.SetRequest bindings = failed_place bindings
+whole_index kind.SetRequest bindings = failed_index bindings
 whole_index _ bindings = pos 0
 
 -- if `Some n`: the message was written to the start of `out`, its length is `n`, and this is at
@@ -103,19 +104,19 @@ fill h (p ∷ more) = fill (add h p) more
 
 -- ---- GetBulk
 
--- the same as `given_in`, in the standard's words; proofs compare the two
-abbrev pub AreGiven : MibView → ℕ → List VarBind → List VarBind → Type 0
-AreGiven view round = AreAnswers (λ asked given. IsNextAfter view round asked.name given)
+-- the same as `bindings_in_round`, in the standard's words; proofs compare the two
+abbrev pub AreInRound : MibView → ℕ → List VarBind → List VarBind → Type 0
+AreInRound view round = AreAnswers (λ asked returned. IsNextAfter view round asked.name returned)
 
 -- the rounds of the names after `round` others, at most `left`; none follows a round before which
 -- no variable was left for any name
 abbrev pub rounds_from : MibView → List VarBind → ℕ → ℕ → List (List VarBind)
 rounds_from view names round zero = []
-rounds_from view names round (suc left) = given_in view round names
-    ∷ cond (list_all is_over (places_of view round names)) []
+rounds_from view names round (suc left) = bindings_in_round view round names
+    ∷ cond (list_all is_over (cursors_of view round names)) []
     (rounds_from view names (round + 1) left)
 
 -- all bindings that a GetBulk asks for
 abbrev pub bulk_of : MibView → Message → List VarBind
-bulk_of view q = given_in view 0 (take (or_zero q.a) q.bindings)
+bulk_of view q = bindings_in_round view 0 (take (or_zero q.a) q.bindings)
     ++ joined (rounds_from view (drop (or_zero q.a) q.bindings) 0 (or_zero q.b))

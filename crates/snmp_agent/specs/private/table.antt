@@ -1,4 +1,4 @@
-pub mod Draft
-pub mod Halving
+pub mod TableBuilder
+pub mod BinarySearch
 pub mod Line
 pub mod Row

@@ -2,7 +2,7 @@
 -- of a row.
 use Rattle.std.specs.Prelude.{◌≡◌, ◌≢◌, ◌≤◌, ℕ, List, ◌∷◌, ◌++◌, length, codes, All, Option, Some}
 use Rattle.std.specs.Prelude.{IfSome, option_map}
-use Rattle.snmp_io.specs.Quotes.{HasNoneOutside, IsClosed, IsFrontOf}
+use Rattle.snmp_io.specs.Quotes.{HasNoneOutside, IsClosed, IsUnquotedPrefix}
 use Rattle.snmp_oid.specs.{Identifier.IsIdentifier, Numeric.IsNumericName}
 use Rattle.snmp_agent.specs.table.Exact.{IsOnly}
 
@@ -36,7 +36,7 @@ IsMarked lines = (more : List (List ℕ)) × (lines ≡ codes "#snmptab 2" ∷ m
 -- lines with that mark have the second format, with these names, and all others have the first
 abbrev pub IsFormat : Names → (lines : List (List ℕ)) → Format → Type 0
 IsFormat names lines first_format = IsMarked lines → ⊥
-IsFormat names lines (second_format given) = IsMarked lines × (given ≡ names)
+IsFormat names lines (second_format returned) = IsMarked lines × (returned ≡ names)
 
 -- `text` is a name of the identifier `o` in this format; in the second format it has no bar
 -- outside quotes
@@ -53,11 +53,12 @@ EndsAtBar (second_format names) name = IsClosed name × HasNoneOutside bar name
 -- what a reader of names finds at the start of `text`: the name and the length of the prefix
 -- before the first bar outside quotes, or of the whole text if there is no such bar; or that this
 -- isn't a name
-pub record IsFrontRead (names : Names) (text : List ℕ) (found : Option (List ℕ × ℕ)) : Type 0 where
-  pub front : List ℕ
-  pub place : IsFrontOf bar text front
-  pub named : IsOnly (Means names front) (option_map (λ f. f.0) found)
-  pub size : IfSome found (λ f. f.1 ≡ length front)
+pub record IsLeadingName (names : Names) (text : List ℕ) (found : Option (List ℕ
+    × ℕ)) : Type 0 where
+  pub prefix : List ℕ
+  pub is_prefix : IsUnquotedPrefix bar text prefix
+  pub named : IsOnly (Means names prefix) (option_map (λ f. f.0) found)
+  pub size : IfSome found (λ f. f.1 ≡ length prefix)
 
 -- ---- for private functions
 

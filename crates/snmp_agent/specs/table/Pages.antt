@@ -7,7 +7,7 @@ use Rattle.std.specs.FinMap.{FinMap, find, get, is_sorted}
 use Rattle.snmp_wire.specs.Message.{Datum, VarBind}
 use Rattle.snmp_agent.specs.{declared.table.page.Page.Page, table.Table.MibView}
 use Rattle.snmp_agent.specs.declared.table.page.TheConstants.{PAGE_ROWS}
-use Rattle.snmp_agent.specs.table.Places.{IsBeforeAll, IsBeforeNone, IsAfterAll, entry_of}
+use Rattle.snmp_agent.specs.table.Entries.{IsBeforeAll, IsBeforeNone, IsAfterAll, entry_of}
 
 -- the rows as entries
 abbrev pub entries_of : List VarBind → List (List ℕ × Datum)
@@ -25,24 +25,24 @@ IsSorted es = T (is_sorted (slice_cmp nat_cmp) es)
 abbrev pub ArePages : List Page → Type 0
 ArePages pages = IsSorted (entries_in pages)
 
--- the entries of the map `rows` in two parts: `front` has the names up to `o`, and `back` those
+-- the entries of the map `rows` in two parts: `prefix` has the names up to `o`, and `back` those
 -- after it
-pub record StandsApart (rows : FinMap (slice_cmp nat_cmp) Datum) (o : List ℕ) (front back : List
+pub record IsSplitAt (rows : FinMap (slice_cmp nat_cmp) Datum) (o : List ℕ) (prefix back : List
     (List ℕ × Datum)) : Type 0 where
-  pub found : (q : List ℕ) → get rows q ≡ find (slice_cmp nat_cmp) q (front ++ back)
-  pub rising : IsSorted (front ++ back)
-  pub passed : IsBeforeNone o front
+  pub found : (q : List ℕ) → get rows q ≡ find (slice_cmp nat_cmp) q (prefix ++ back)
+  pub rising : IsSorted (prefix ++ back)
+  pub passed : IsBeforeNone o prefix
   pub ahead : IsBeforeAll o back
 
 -- `back` is the variables of the view after the name `o`
-abbrev pub AreBehind : MibView → List ℕ → List (List ℕ × Datum) → Type 0
-AreBehind view o back = (front : List (List ℕ × Datum)) × StandsApart view.rows o front back
+abbrev pub AreAllAfter : MibView → List ℕ → List (List ℕ × Datum) → Type 0
+AreAllAfter view o back = (prefix : List (List ℕ × Datum)) × IsSplitAt view.rows o prefix back
 
 -- ---- for private functions
 
 -- the names of the rows increase
-abbrev pub IsRising : List VarBind → Type 0
-IsRising rows = IsSorted (entries_of rows)
+abbrev pub IsIncreasing : List VarBind → Type 0
+IsIncreasing rows = IsSorted (entries_of rows)
 
 -- whether the name of the row isn't greater than `o`
 abbrev pub is_up_to : List ℕ → VarBind → Bool
@@ -53,61 +53,61 @@ abbrev pub begins_up_to : List ℕ → List VarBind → Bool
 begins_up_to o [] = true
 begins_up_to o (row ∷ rows) = is_up_to o row
 
--- the rows after the name `o` begin at index `place`: the names of those before it aren't greater
-pub record IsPlaceAfter (o : List ℕ) (rows : List VarBind) (place : ℕ) : Type 0 where
-  pub bound : place ≤ length rows
-  pub passed : IsBeforeNone o (entries_of (take place rows))
-  pub ahead : IsBeforeAll o (entries_of (drop place rows))
+-- the rows after the name `o` begin at index `index`: the names of those before it aren't greater
+pub record IsIndexAfter (o : List ℕ) (rows : List VarBind) (index : ℕ) : Type 0 where
+  pub bound : index ≤ length rows
+  pub passed : IsBeforeNone o (entries_of (take index rows))
+  pub ahead : IsBeforeAll o (entries_of (drop index rows))
 
--- the row at index `place` has the name `o`
-pub record HasNameAt (o : List ℕ) (rows : List VarBind) (place : ℕ) : Type 0 where
+-- the row at index `index` has the name `o`
+pub record HasNameAt (o : List ℕ) (rows : List VarBind) (index : ℕ) : Type 0 where
   pub found : VarBind
-  pub at : slice_get rows place ≡ Some found
-  pub low : place < length rows
+  pub at : slice_get rows index ≡ Some found
+  pub low : index < length rows
   pub name : found.name ≡ o
-  pub passed : IsAfterAll o (entries_of (take place rows))
-  pub ahead : IsBeforeAll o (entries_of (drop (suc place) rows))
+  pub passed : IsAfterAll o (entries_of (take index rows))
+  pub ahead : IsBeforeAll o (entries_of (drop (suc index) rows))
 
--- no row has the name `o`: the rows before index `place` come before it, and the others after it
-pub record BelongsAt (o : List ℕ) (rows : List VarBind) (place : ℕ) : Type 0 where
-  pub bound : place ≤ length rows
-  pub passed : IsAfterAll o (entries_of (take place rows))
-  pub ahead : IsBeforeAll o (entries_of (drop place rows))
+-- no row has the name `o`: the rows before index `index` come before it, and the others after it
+pub record BelongsAt (o : List ℕ) (rows : List VarBind) (index : ℕ) : Type 0 where
+  pub bound : index ≤ length rows
+  pub passed : IsAfterAll o (entries_of (take index rows))
+  pub ahead : IsBeforeAll o (entries_of (drop index rows))
 
 -- whether an entry has the name `o`
 abbrev pub has_name : List ℕ → List (List ℕ × Datum) → Bool
 has_name o es = is_some (find (slice_cmp nat_cmp) o es)
 
--- only the page at index `place` can have a row of the name `o`
-pub record IsPageOf (o : List ℕ) (pages : List Page) (place : ℕ) : Type 0 where
-  pub bound : place ≤ length pages
-  pub within : 1 ≤ length pages → place < length pages
-  pub passed : IsAfterAll o (entries_in (take place pages))
-  pub ahead : IsBeforeAll o (entries_in (drop (suc place) pages))
+-- only the page at index `index` can have a row of the name `o`
+pub record IsPageOf (o : List ℕ) (pages : List Page) (index : ℕ) : Type 0 where
+  pub bound : index ≤ length pages
+  pub within : 1 ≤ length pages → index < length pages
+  pub passed : IsAfterAll o (entries_in (take index pages))
+  pub ahead : IsBeforeAll o (entries_in (drop (suc index) pages))
 
--- the page at index `place` has more than one row
+-- the page at index `index` has more than one row
 abbrev pub IsLongPage : List Page → ℕ → Type 0
-IsLongPage pages place = (page : Page) × (slice_get pages place ≡ Some page)
+IsLongPage pages index = (page : Page) × (slice_get pages index ≡ Some page)
     × (1 < length page.rows.items)
 
--- the page at index `place` is the only one that can have a row of the name `o`, and has room for
+-- the page at index `index` is the only one that can have a row of the name `o`, and has room for
 -- one more row
-pub record IsPageWithRoom (o : List ℕ) (pages : List Page) (place : ℕ) : Type 0 where
-  pub page_of : IsPageOf o pages place
+pub record IsPageWithRoom (o : List ℕ) (pages : List Page) (index : ℕ) : Type 0 where
+  pub page_of : IsPageOf o pages index
   pub page : Page
-  pub at : slice_get pages place ≡ Some page
+  pub at : slice_get pages index ≡ Some page
   pub room : length page.rows.items < PAGE_ROWS
 
--- the page at index `place` has a row at index `row`
+-- the page at index `index` has a row at index `row`
 abbrev pub IsRowIn : List Page → ℕ → ℕ → Type 0
-IsRowIn pages place row = (page : Page) × (slice_get pages place ≡ Some page)
+IsRowIn pages index row = (page : Page) × (slice_get pages index ≡ Some page)
     × (row < length page.rows.items)
 
 -- `es` are the entries without that row
 abbrev pub IsWithoutRow : List Page → ℕ → ℕ → List (List ℕ × Datum) → Type 0
-IsWithoutRow pages place row es = (page : Page) → slice_get pages place ≡ Some page
-    → es ≡ entries_in (take place pages) ++ (entries_of (remove_at page.rows.items row)
-    ++ entries_in (drop (suc place) pages))
+IsWithoutRow pages index row es = (page : Page) → slice_get pages index ≡ Some page
+    → es ≡ entries_in (take index pages) ++ (entries_of (remove_at page.rows.items row)
+    ++ entries_in (drop (suc index) pages))
 
 -- the entries after the name `o`, of entries in the order of names
 abbrev pub entries_after : List ℕ → List (List ℕ × Datum) → List (List ℕ × Datum)

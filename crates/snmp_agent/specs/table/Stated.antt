@@ -17,27 +17,27 @@ pub record IsTableIn (format : Format) (lines : List (List ℕ)) (view : MibView
   pub objects : (object : List ℕ)
       → (contains view.objects object ≡ true) ↔ HasPrefix format lines object
 
--- `line` is the line with this number, counted from 1, and the lines before it, `front`, define a
+-- `line` is the line with this number, counted from 1, and the lines before it, `prefix`, define a
 -- table
-pub record IsBehindGood (format : Format) (lines : List (List ℕ)) (number : ℕ)
-    (front : List (List ℕ)) (line : List ℕ) : Type 0 where
+pub record IsAfterGoodLines (format : Format) (lines : List (List ℕ)) (number : ℕ)
+    (prefix : List (List ℕ)) (line : List ℕ) : Type 0 where
   pub back : List (List ℕ)
-  pub parts : lines ≡ front ++ line ∷ back
-  pub place : number ≡ length front + 1
-  pub good : AreTable format front
+  pub parts : lines ≡ prefix ++ line ∷ back
+  pub line_number : number ≡ length prefix + 1
+  pub good : AreTable format prefix
 
 -- the line defines an instance whose name an earlier line has
 abbrev pub IsDouble : Format → List (List ℕ) → List ℕ → Type 0
-IsDouble format front line = (p : VarBind) × (q : VarBind) × IsRowLine format line p
-    × HasRow format front q × (q.name ≡ p.name)
+IsDouble format prefix line = (p : VarBind) × (q : VarBind) × IsRowLine format line p
+    × HasRow format prefix q × (q.name ≡ p.name)
 
--- what is wrong with a line that comes after the lines `front`
-abbrev pub IsWrong : Format → (front : List (List ℕ)) → (line : List ℕ) → TableError → Type 0
-IsWrong format front line (error.BadLine number) = IsBadLine format line
-IsWrong format front line (error.BadName number) = IsBadName format line
-IsWrong format front line (error.BadValue number) = IsBadValue format line
-IsWrong format front line (error.Double number) = IsDouble format front line
-IsWrong format front line error.Memory = ⊥
+-- what is wrong with a line that comes after the lines `prefix`
+abbrev pub IsWrong : Format → (prefix : List (List ℕ)) → (line : List ℕ) → TableError → Type 0
+IsWrong format prefix line (error.BadLine number) = IsBadLine format line
+IsWrong format prefix line (error.BadName number) = IsBadName format line
+IsWrong format prefix line (error.BadValue number) = IsBadValue format line
+IsWrong format prefix line (error.Double number) = IsDouble format prefix line
+IsWrong format prefix line error.Memory = ⊥
 
 -- the number of the faulty line; 0 if memory ran out, which isn't a fault of a line
 abbrev pub number_of : TableError → ℕ
@@ -50,10 +50,10 @@ number_of error.Memory = 0
 -- why lines of this format don't define a table: what is wrong with the first line that isn't good
 abbrev pub IsFirstFaultIn : Format → List (List ℕ) → TableError → Type 0
 IsFirstFaultIn format lines error.Memory = Unit {0}
-IsFirstFaultIn format lines fault = (front : List (List ℕ)) × (line : List ℕ)
-    × IsBehindGood format lines (number_of fault) front line × IsWrong format front line fault
+IsFirstFaultIn format lines fault = (prefix : List (List ℕ)) × (line : List ℕ)
+    × IsAfterGoodLines format lines (number_of fault) prefix line × IsWrong format prefix line fault
 
--- ---- with the names that a caller passes
+-- ---- tables whose names a caller looks up
 
 -- the lines define a table, in the format that they have
 abbrev pub AreTableBy : Names → (lines : List (List ℕ)) → Type 0

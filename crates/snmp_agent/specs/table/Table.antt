@@ -80,7 +80,7 @@ pub data IsGet (view : MibView) (o : List ℕ) (p : VarBind) : Type 0 where
 -- `p` is the lexicographic successor of the name `o`: a variable after it, with none between
 pub record IsSuccessor (view : MibView) (o : List ℕ) (p : VarBind) : Type 0 where
   pub row : IsRow view p
-  pub behind : Precedes o p.name
+  pub after : Precedes o p.name
   pub nearest : (q : VarBind) → IsRow view q → Precedes o q.name → Precedes q.name p.name → ⊥
 
 -- a GetNext of the name `o` returns `p` (RFC 3416, section 4.2.2): its lexicographic successor, or

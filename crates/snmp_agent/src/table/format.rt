@@ -2,15 +2,16 @@
 ghost use Rattle.std.specs.Prelude.{◌≡◌, ◌++◌, ◌∷◌, ◌↔◌, IsTrue, MatchOption, codes};
 ghost use Rattle.std.specs.Str.Lines.{lines};
 ghost use Rattle.snmp_agent.specs.table.Exact.{IsOnlyThere};
-ghost use Rattle.snmp_agent.specs.table.Format.{EndsAtBar, Format, HasNoEnd, IsFrontRead, IsMarked};
+ghost use Rattle.snmp_agent.specs.table.Format.{EndsAtBar, Format, HasNoEnd, IsLeadingName};
+ghost use Rattle.snmp_agent.specs.table.Format.{IsMarked};
 ghost use Rattle.snmp_agent.specs.table.Format.{IsName, IsNameIn, Names, bar, numeric_names};
 ghost use Rattle.snmp_agent.specs.table.Format.{first_format, second_format};
 
 use crate::table::split::{split_line, split_once};
-use snmp_io::{split_unquoted, unquoted_front};
+use snmp_io::{split_unquoted, unquoted_prefix};
 use snmp_wire::{Oid, read_numeric};
 
-/// What reads the names of a table file of the second format (`docs/REFERENCE.md`).
+/// A reader of the names in a table file of the second format (`docs/REFERENCE.md`).
 pub trait Resolver {
     /// The texts that are names, with their identifiers.
     ghost names: { Self → Names };
@@ -18,8 +19,8 @@ pub trait Resolver {
     /// Reads the name that `text` has before the first `|` outside quotes, or all of `text` if it
     /// has no such bar. Returns its identifier and its length in octets, or `None` if that isn't a
     /// name.
-    fn front(&self, text: &[u8]) -> Option<(Oid, usize)>
-        ensures { IsFrontRead (names self.now) text.now result };
+    fn leading_name(&self, text: &[u8]) -> Option<(Oid, usize)>
+        ensures { IsLeadingName (names self.now) text.now result };
 }
 
 /// A reader of only numeric names.
@@ -27,17 +28,17 @@ pub trait Resolver {
 pub struct NumericNames;
 
 impl Resolver for NumericNames {
-    ghost use Rattle.snmp_agent.specs.table.Format.{IsFrontRead, numeric_names};
+    ghost use Rattle.snmp_agent.specs.table.Format.{IsLeadingName, numeric_names};
 
     ghost names = { λ _. numeric_names };
 
-    fn front(&self, text: &[u8]) -> Option<(Oid, usize)>
-        ensures { IsFrontRead numeric_names text.now result }
+    fn leading_name(&self, text: &[u8]) -> Option<(Oid, usize)>
+        ensures { IsLeadingName numeric_names text.now result }
     {
-        let front = unquoted_front(text, b'|');
+        let prefix = unquoted_prefix(text, b'|');
         let mut oid = Oid::new();
-        if numeric_name(front, &mut oid) {
-            Some((oid, front.len()))
+        if numeric_name(prefix, &mut oid) {
+            Some((oid, prefix.len()))
         } else {
             None
         }
@@ -106,7 +107,7 @@ impl<'a, R: Resolver> LineFormat for SecondFormat<'a, R> {
         ensures { IsOnlyThere (IsNameIn (second_format (R.names self.now.names.now)) text.now)
             result into.new }
     {
-        match self.names.front(text) {
+        match self.names.leading_name(text) {
             Some((oid, size)) if size == text.len() => {
                 into.set_to(&oid);
                 true

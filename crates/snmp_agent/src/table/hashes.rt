@@ -93,8 +93,8 @@ fn put_hash(buckets: &mut [[u32; BUCKET]], hash: u64) -> bool {
         if is_there {
             return false;
         }
-        if let Some(place) = bucket.get_mut(used) {
-            *place = high;
+        if let Some(index) = bucket.get_mut(used) {
+            *index = high;
             return true;
         }
         at = at.wrapping_add(1) & last;
@@ -107,9 +107,9 @@ fn put_hash(buckets: &mut [[u32; BUCKET]], hash: u64) -> bool {
 fn look_for(bucket: &[u32; BUCKET], high: u32) -> (bool, usize) {
     let mut is_there = false;
     let mut used: u32 = 0;
-    for place in bucket {
-        is_there |= *place == high;
-        used = used.wrapping_add(u32::from(*place != 0));
+    for index in bucket {
+        is_there |= *index == high;
+        used = used.wrapping_add(u32::from(*index != 0));
     }
     (is_there, used as usize)
 }
@@ -124,14 +124,14 @@ fn hash_of(content: &[u8]) -> u64 {
     let mut hash = content.len() as u64;
     let mut rest = content;
     'words: while rest.len() > 8 {
-        let Some((word, behind)) = rest.split_first_chunk::<8>() else {
+        let Some((word, after)) = rest.split_first_chunk::<8>() else {
             break;
         };
-        hash = mixed(hash ^ u64::from_be_bytes(*word));
-        rest = behind;
+        hash = mix_bits(hash ^ u64::from_be_bytes(*word));
+        rest = after;
     }
     // Mixed once more, so that the low bits, which select the bucket, depend on all octets.
-    mixed(mixed(hash ^ u64::from_be_bytes(*last)))
+    mix_bits(mix_bits(hash ^ u64::from_be_bytes(*last)))
 }
 
 /// Returns the hash of a content of fewer than eight octets.
@@ -140,12 +140,12 @@ fn hash_of_few(content: &[u8]) -> u64 {
     let mut few = [0; 8];
     let size = content.len().min(8);
     few[..size].copy_from_slice(&content[..size]);
-    mixed(mixed(content.len() as u64 ^ u64::from_be_bytes(few)))
+    mix_bits(mix_bits(content.len() as u64 ^ u64::from_be_bytes(few)))
 }
 
 /// Returns a number each of whose bits depends on many bits of `number`.
 #[inline]
-fn mixed(number: u64) -> u64 {
+fn mix_bits(number: u64) -> u64 {
     let product = number.wrapping_mul(FACTOR);
     product ^ product >> 32
 }

@@ -134,7 +134,7 @@ impl<'h> Guesses<'h> {
             return Guess::of(0, 0);
         }
         let hash = hash_of(name.content());
-        let Some(pair) = self.kept.get(place_of(hash)) else {
+        let Some(pair) = self.kept.get(pair_index(hash)) else {
             return Guess::of(hash, 0);
         };
         let [later, earlier] = *pair;
@@ -152,7 +152,7 @@ impl<'h> Guesses<'h> {
     /// names aren't greater than the name.
     #[inline]
     pub(crate) fn keep(&mut self, guess: Guess, page: usize, row: usize) {
-        let Some(pair) = self.kept.get_mut(place_of(guess.hash)) else {
+        let Some(pair) = self.kept.get_mut(pair_index(guess.hash)) else {
             return;
         };
         let later = pair[0];
@@ -189,7 +189,7 @@ impl Guess {
 
 /// Returns the index of the pair for the high bits of a hash.
 #[inline]
-fn place_of(hash: u32) -> usize {
+fn pair_index(hash: u32) -> usize {
     (hash >> 8) as usize % PAIRS
 }
 
@@ -200,9 +200,9 @@ fn place_of(hash: u32) -> usize {
 /// fewer than four. Names with the same hash cost comparisons, and no more.
 #[inline]
 fn hash_of(content: &[u8]) -> u32 {
-    let (front, last) = last_word(content);
-    let (_, before) = last_word(front);
-    let mixed = mix(mix(middle_of(front), before), last);
+    let (prefix, last) = last_word(content);
+    let (_, before) = last_word(prefix);
+    let mixed = mix(mix(middle_of(prefix), before), last);
     (mixed >> 47) as u32
 }
 
@@ -251,8 +251,8 @@ fn first_word(octets: &[u8]) -> Option<(u64, &[u8])> {
 #[inline]
 fn last_word(octets: &[u8]) -> (&[u8], u64) {
     match octets {
-        [front @ .., a, b, c, d, e, f, g, h] => (
-            front,
+        [prefix @ .., a, b, c, d, e, f, g, h] => (
+            prefix,
             u64::from_be_bytes([*a, *b, *c, *d, *e, *f, *g, *h]),
         ),
         _ => (&[], few_octets(octets)),

@@ -105,8 +105,8 @@ fn row_form<'a, F: LineFormat>(format: &F, line: &'a [u8]) -> Option<Form<'a>>
     requires no_object { (text : List ℕ) → line.now ≢ codes "object " ++ text }
     ensures { IsForm (F.format format.now) line.now result }
 {
-    let (name, behind) = format.split_name(line)?;
-    let (tag, text) = split_near(behind, b'|')?;
+    let (name, after) = format.split_name(line)?;
+    let (tag, text) = split_near(after, b'|')?;
     Some(Form::Row {
         name,
         tag: Tag::from_text(tag)?,
@@ -159,7 +159,7 @@ fn instance<'a, F: LineFormat>(
     }
 }
 
-/// Returns the row of this name and value.
+/// Returns the row with the name `name` and the value of `stated`.
 // `inline(never)`: inlined, its `ValueRef` would be zeroed for all other rows too.
 #[inline(never)]
 fn encoded_text(alloc: Global, name: &Oid, stated: &RowText) -> Result<EncodedBinding, AllocError>

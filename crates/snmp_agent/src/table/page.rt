@@ -26,7 +26,7 @@ impl Page {
     ghost use Rattle.std.specs.Cmp.Lexicographic.{slice_cmp};
     ghost use Rattle.std.specs.FinMap.Entries.{put};
     ghost use Rattle.std.specs.List.{remove as remove_at};
-    ghost use Rattle.snmp_agent.specs.table.Pages.{IsRising, entries_of, has_name};
+    ghost use Rattle.snmp_agent.specs.table.Pages.{IsIncreasing, entries_of, has_name};
 
     /// Returns a page of one row.
     pub fn of_row(alloc: Global, row: EncodedBinding) -> Result<Page, AllocError>
@@ -51,7 +51,7 @@ impl Page {
     /// Inserts a row in the order of names, or replaces the row that has its name. Returns whether
     /// there was such a row.
     pub fn put(&mut self, row: EncodedBinding) -> Result<bool, AllocError>
-        requires rising { IsRising self.old.rows.items }
+        requires rising { IsIncreasing self.old.rows.items }
         requires room { length self.old.rows.items < PAGE_ROWS }
         ensures put { IfOk result (λ _. entries_of self.new.rows.items
             ≡ put (slice_cmp nat_cmp) row.name row.value (entries_of self.old.rows.items)) }
@@ -62,12 +62,12 @@ impl Page {
     {
         let found = find_row(self.rows.as_slice(), &row.name());
         match found {
-            Ok(place) => {
-                self.rows[place] = row;
+            Ok(index) => {
+                self.rows[index] = row;
                 Ok(true)
             }
-            Err(place) => {
-                insert_row(&mut self.rows, place, row)?;
+            Err(index) => {
+                insert_row(&mut self.rows, index, row)?;
                 Ok(false)
             }
         }
@@ -93,22 +93,22 @@ impl Page {
         let belongs = self
             .rows
             .partition_point(|row| row.name().compare(name).is_lt());
-        let place = match belongs {
+        let index = match belongs {
             0 => 1,
             _ if belongs == count || at_name && belongs > half => belongs.min(count - 1),
             _ => half,
         };
-        let rows = self.rows.split_off(place)?;
+        let rows = self.rows.split_off(index)?;
         Ok(Page { rows })
     }
 
-    /// Removes the row at index `place`, which must not be the only one.
-    pub fn remove(&mut self, place: usize)
+    /// Removes the row at index `index`, which must not be the only one.
+    pub fn remove(&mut self, index: usize)
         requires other { 1 < length self.old.rows.items }
-        requires within { place < length self.old.rows.items }
-        ensures { self.new.rows.items ≡ remove_at self.old.rows.items place }
+        requires within { index < length self.old.rows.items }
+        ensures { self.new.rows.items ≡ remove_at self.old.rows.items index }
     {
-        let _ = self.rows.remove(place);
+        let _ = self.rows.remove(index);
     }
 }
 
@@ -130,14 +130,14 @@ impl Placed for Page {
     }
 }
 
-/// Inserts a row at index `place`.
+/// Inserts a row at index `index`.
 fn insert_row(
     rows: &mut Vec<EncodedBinding>,
-    place: usize,
+    index: usize,
     row: EncodedBinding,
 ) -> Result<(), AllocError>
-    requires { place ≤ length rows.old.items }
-    ensures inserted { IfOk result (λ _. rows.new.items ≡ insert rows.old.items place row) }
+    requires { index ≤ length rows.old.items }
+    ensures inserted { IfOk result (λ _. rows.new.items ≡ insert rows.old.items index row) }
     ensures unchanged_on_error { IfErr result (λ _. rows.new.items ≡ rows.old.items) }
 {
     let count = rows.len();
@@ -147,6 +147,6 @@ fn insert_row(
     }
     rows.push(row)?;
     // Moves the rows after it at once; `Vec::insert` moves them one by one.
-    rows[place..].rotate_right(1);
+    rows[index..].rotate_right(1);
     Ok(())
 }

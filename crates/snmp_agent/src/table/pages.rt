@@ -4,17 +4,17 @@ ghost use Rattle.std.specs.Prelude.{IsTrue, Some};
 ghost use Rattle.std.specs.{Ordering.nat_cmp, Cmp.Lexicographic.slice_cmp, FinMap.find};
 ghost use Rattle.std.specs.{FinMap.from_sorted, Option.option_map_or};
 ghost use Rattle.snmp_wire.specs.Message.{Datum};
-ghost use Rattle.snmp_agent.specs.table.Places.{IsAfterAll, entry_of, last_name};
+ghost use Rattle.snmp_agent.specs.table.Entries.{IsAfterAll, entry_of, last_name};
 ghost use Rattle.snmp_agent.specs.table.Pages.{ArePages, IsPageOf, IsLongPage, IsPageWithRoom};
-ghost use Rattle.snmp_agent.specs.table.Pages.{IsRowIn, IsWithoutRow, StandsApart, entries_in};
+ghost use Rattle.snmp_agent.specs.table.Pages.{IsRowIn, IsWithoutRow, IsSplitAt, entries_in};
 ghost use Rattle.snmp_agent.specs.table.Pages.{entries_of};
-ghost use Rattle.snmp_agent.specs.private.table.Halving.{StandsBetween};
+ghost use Rattle.snmp_agent.specs.private.table.BinarySearch.{SplitsAt};
 
 use crate::table::hashes::Hashes;
 use crate::table::hint::{Guess, Guesses};
-use crate::table::late::{Late, sort_falling};
 use crate::table::page::{PAGE_ROWS, Page};
-use crate::table::search::{Placed, count_between, find_row, near, place_near, row_at};
+use crate::table::pending::{PendingRow, sort_decreasing};
+use crate::table::search::{Placed, count_between, find_row, index_near, near, row_at};
 use snmp_oid::order;
 use snmp_wire::{Binding, EncodedBinding, EncodedName, Oid, ValueRef};
 use std::alloc::{AllocError, Global};
@@ -87,8 +87,8 @@ impl Pages {
     ghost use Rattle.std.specs.Option.{option_map};
     ghost use Rattle.std.specs.FinMap.{contains_key, entries, get, insert, remove as remove_key};
     ghost use Rattle.snmp_wire.specs.Message.{Datum};
-    ghost use Rattle.snmp_agent.specs.table.Places.{IsAfterAll, entry_of};
-    ghost use Rattle.snmp_agent.specs.table.Pages.{StandsApart, entries_of};
+    ghost use Rattle.snmp_agent.specs.table.Entries.{IsAfterAll, entry_of};
+    ghost use Rattle.snmp_agent.specs.table.Pages.{IsSplitAt, entries_of};
 
     /// Returns an empty list of rows.
     pub fn new(alloc: Global) -> Pages
@@ -123,9 +123,9 @@ impl Pages {
         let at = page_near(pages, name, guess.page);
         let page = pages.get(at)?;
         let rows = page.rows.as_slice();
-        let place = place_near(rows, name, guess.row);
-        hint.keep(guess, at, place);
-        row_at(rows, name, place)
+        let index = index_near(rows, name, guess.row);
+        hint.keep(guess, at, index);
+        row_at(rows, name, index)
     }
 
     /// Returns the rows after `name`, for a walk, which mostly asks from the row that was returned
@@ -133,9 +133,9 @@ impl Pages {
     // `inline(always)`: called for each request of a walk.
     #[inline(always)]
     pub fn after_last(&self, name: &EncodedName<'_>, hint: &mut Guesses<'_>) -> Successors<'_>
-        ensures { (front : List (List ℕ × Datum)) × StandsApart self.now name.now front result }
+        ensures { (prefix : List (List ℕ × Datum)) × IsSplitAt self.now name.now prefix result }
     {
-        match self.behind(name, hint) {
+        match self.after_row(name, hint) {
             Some(rows) => rows,
             None => self.after_near(name, hint),
         }
@@ -145,19 +145,19 @@ impl Pages {
     /// records in the hint the position of that row under its name, since another walk may
     /// continue from there.
     #[inline(always)]
-    fn behind(&self, name: &EncodedName<'_>, hint: &mut Guesses<'_>) -> Option<Successors<'_>>
-        ensures { IfSome result (λ rows. (front : List (List ℕ × Datum))
-            × StandsApart self.now name.now front rows) }
+    fn after_row(&self, name: &EncodedName<'_>, hint: &mut Guesses<'_>) -> Option<Successors<'_>>
+        ensures { IfSome result (λ rows. (prefix : List (List ℕ × Datum))
+            × IsSplitAt self.now name.now prefix rows) }
     {
         let pages = self.list.as_slice();
         let left = hint.last();
         let page_end = pages.len().checked_sub(left.1)?;
-        let (front, pages) = pages.split_at(page_end);
-        let page = front.last()?;
+        let (prefix, pages) = pages.split_at(page_end);
+        let page = prefix.last()?;
         let rows = page.rows.as_slice();
         let row_end = rows.len().checked_sub(left.0)?;
-        let (front, rows) = rows.split_at(row_end);
-        let row = front.last()?;
+        let (prefix, rows) = rows.split_at(row_end);
+        let row = prefix.last()?;
         if row.name().compare(name).is_eq() {
             Some(Successors { rows, pages })
         } else {
@@ -171,7 +171,7 @@ impl Pages {
     /// path of a walk stays short.
     #[inline(never)]
     pub fn after_near(&self, name: &EncodedName<'_>, hint: &mut Guesses<'_>) -> Successors<'_>
-        ensures { (front : List (List ℕ × Datum)) × StandsApart self.now name.now front result }
+        ensures { (prefix : List (List ℕ × Datum)) × IsSplitAt self.now name.now prefix result }
     {
         let guess = hint.guess(name);
         let pages = self.list.as_slice();
@@ -187,9 +187,9 @@ impl Pages {
         };
         let (_, pages) = pages.split_at(at + 1);
         let rows = page.rows.as_slice();
-        let place = place_near(rows, name, guess.row);
-        hint.keep(guess, at, place);
-        let (_, rows) = rows.split_at(place);
+        let index = index_near(rows, name, guess.row);
+        hint.keep(guess, at, index);
+        let (_, rows) = rows.split_at(index);
         Successors { rows, pages }
     }
 
@@ -205,9 +205,9 @@ impl Pages {
             append(alloc, &mut self.list, row)?;
             return Ok(false);
         }
-        let place = page_with_room(&mut self.list, &name)?;
-        self.order.note(place);
-        let replaced = self.list[place].put(row)?;
+        let index = page_with_room(&mut self.list, &name)?;
+        self.order.note(index);
+        let replaced = self.list[index].put(row)?;
         Ok(replaced)
     }
 
@@ -254,7 +254,7 @@ impl Pages {
     }
 
     /// Returns whether all rows come before `name`.
-    #[tactic(auto, using(crate::proofs::Gathering::entries_are))]
+    #[tactic(auto, using(crate::proofs::GatheredRows::entries_are))]
     pub fn ends_before(&self, name: &EncodedName<'_>) -> bool
         ensures { IsTrue result → IsAfterAll name.now (entries self.now) }
     {
@@ -274,11 +274,15 @@ impl Pages {
 
     /// Sorts `rows`, inserts each in the order of names, and returns whether none has the name of
     /// another row. If one has, or memory runs out, some rows are lost.
-    pub fn put_sorted(&mut self, alloc: Global, rows: &mut Vec<Late>) -> Result<bool, AllocError>
+    pub fn put_sorted(
+        &mut self,
+        alloc: Global,
+        rows: &mut Vec<PendingRow>,
+    ) -> Result<bool, AllocError>
         ensures { IfOk result (λ apart. IsTrue apart
             → IsPermutation (entries self.old ++ entries_of rows.old.items) (entries self.new)) }
     {
-        sort_falling(rows);
+        sort_decreasing(rows);
         // A search for each of few rows takes less time than a pass over all rows.
         if rows.len() < self.most_rows() / 8 {
             self.put_all(alloc, rows)
@@ -289,8 +293,8 @@ impl Pages {
 
     /// Inserts each of `rows` in the order of names, from the last one on, and returns whether
     /// none has the name of another row. If one has, or memory runs out, some rows are lost.
-    #[tactic(auto, using(crate::proofs::Gathering::last_moves))]
-    pub fn put_all(&mut self, alloc: Global, rows: &mut Vec<Late>) -> Result<bool, AllocError>
+    #[tactic(auto, using(crate::proofs::GatheredRows::last_moves))]
+    pub fn put_all(&mut self, alloc: Global, rows: &mut Vec<PendingRow>) -> Result<bool, AllocError>
         ensures { IfOk result (λ apart. IsTrue apart
             → IsPermutation (entries self.old ++ entries_of rows.old.items) (entries self.new)) }
     {
@@ -304,7 +308,7 @@ impl Pages {
 
     /// Does what [`Pages::put_all`] does, by one pass over all rows, also those that were there
     /// before. This is faster for many rows if their names decrease.
-    pub fn merge(&mut self, alloc: Global, rows: &mut Vec<Late>) -> Result<bool, AllocError>
+    pub fn merge(&mut self, alloc: Global, rows: &mut Vec<PendingRow>) -> Result<bool, AllocError>
         ensures { IfOk result (λ apart. IsTrue apart
             → IsPermutation (entries self.old ++ entries_of rows.old.items) (entries self.new)) }
     {
@@ -323,7 +327,7 @@ impl Pages {
         &mut self,
         alloc: Global,
         page: Page,
-        others: &mut Vec<Late>,
+        others: &mut Vec<PendingRow>,
     ) -> Result<bool, AllocError>
         ensures { IfOk result (λ apart. IsTrue apart → IsPermutation
             (entries self.old ++ (entries_of others.old.items ++ entries_of page.rows.items))
@@ -341,12 +345,12 @@ impl Pages {
     /// Takes rows from the end of `rows` while they come before `name`, and inserts them. Returns
     /// whether none has the name of another row.
     #[inline(always)]
-    #[tactic(auto, using(crate::proofs::Gathering::last_moves))]
+    #[tactic(auto, using(crate::proofs::GatheredRows::last_moves))]
     fn put_before(
         &mut self,
         alloc: Global,
         name: &EncodedName<'_>,
-        rows: &mut Vec<Late>,
+        rows: &mut Vec<PendingRow>,
     ) -> Result<bool, AllocError>
         ensures { IfOk result (λ apart. IsTrue apart
             → IsPermutation (entries self.old ++ entries_of rows.old.items)
@@ -371,13 +375,13 @@ impl Pages {
         ensures removed { self.new ≡ remove_key self.old name.now }
         ensures found { result ≡ contains_key self.old name.now }
     {
-        let place = page_near(self.list.as_slice(), name, NO_GUESS);
-        let Some(page) = self.list.as_slice().get(place) else {
+        let index = page_near(self.list.as_slice(), name, NO_GUESS);
+        let Some(page) = self.list.as_slice().get(index) else {
             return false;
         };
         match find_row(page.rows.as_slice(), name) {
             Ok(row) => {
-                remove_row(&mut self.list, place, row);
+                remove_row(&mut self.list, index, row);
                 true
             }
             Err(_) => false,
@@ -434,29 +438,29 @@ fn rows_guessed<'a>(
     guess: Guess,
 ) -> Option<Successors<'a>>
     requires { ArePages pages.now }
-    ensures { IfSome result (λ rows. (front : List (List ℕ × Datum))
-        × StandsApart (from_sorted (entries_in pages.now)) name.now front rows) }
+    ensures { IfSome result (λ rows. (prefix : List (List ℕ × Datum))
+        × IsSplitAt (from_sorted (entries_in pages.now)) name.now prefix rows) }
 {
     let page = pages.get(guess.page)?;
     let rows = page.rows.as_slice();
     if guess.row > rows.len() {
         return None;
     }
-    let (front, rows) = rows.split_at(guess.row);
-    if !stands_between(name, front, rows) {
+    let (prefix, rows) = rows.split_at(guess.row);
+    if !splits_at(name, prefix, rows) {
         return None;
     }
     let (_, pages) = pages.split_at(guess.page + 1);
     Some(Successors { rows, pages })
 }
 
-/// Returns whether `front` ends with the row of `name`, or with a smaller name while `rows` begins
+/// Returns whether `prefix` ends with the row of `name`, or with a smaller name while `rows` begins
 /// with a greater one.
 #[inline]
-fn stands_between(name: &EncodedName<'_>, front: &[EncodedBinding], rows: &[EncodedBinding]) -> bool
-    ensures { IsTrue result → StandsBetween name.now front.now rows.now }
+fn splits_at(name: &EncodedName<'_>, prefix: &[EncodedBinding], rows: &[EncodedBinding]) -> bool
+    ensures { IsTrue result → SplitsAt name.now prefix.now rows.now }
 {
-    let Some(row) = front.last() else {
+    let Some(row) = prefix.last() else {
         return false;
     };
     match row.name().compare(name) {
@@ -482,7 +486,7 @@ fn page_near(pages: &[Page], name: &EncodedName<'_>, guess: usize) -> usize
 /// Returns whether all rows come before `name`.
 // `inline(always)`: called for each row of a table that is read.
 #[inline(always)]
-#[tactic(auto, using(crate::proofs::Paging::after_all, crate::proofs::Rising::less_from_test))]
+#[tactic(auto, using(crate::proofs::Pages::after_all, crate::proofs::SortedEntries::less_from_test))]
 fn ends_before(pages: &[Page], name: &EncodedName<'_>) -> bool
     requires { ArePages pages.now }
     ensures before { IsTrue result → IsAfterAll name.now (entries_in pages.now) }
@@ -500,7 +504,7 @@ fn ends_before(pages: &[Page], name: &EncodedName<'_>) -> bool
 /// Appends a row, which must come after all others.
 // `inline(always)`: called for each row of a table that is read in order.
 #[inline(always)]
-#[tactic(auto, using(crate::proofs::Changing::if_err, crate::proofs::Paging::same_rows, crate::proofs::Paging::appended, crate::proofs::Paging::appended_page))]
+#[tactic(auto, using(crate::proofs::ChangedEntries::if_err, crate::proofs::Pages::same_rows, crate::proofs::Pages::appended, crate::proofs::Pages::appended_page))]
 fn append(alloc: Global, pages: &mut Vec<Page>, row: EncodedBinding) -> Result<(), AllocError>
     ensures rows { IfOk result (λ _. entries_in pages.new.items
         ≡ entries_in pages.old.items ++ entry_of row ∷ []) }
@@ -523,33 +527,33 @@ fn page_with_room(pages: &mut Vec<Page>, name: &EncodedName<'_>) -> Result<usize
     requires rising { ArePages pages.old.items }
     requires some { 1 ≤ length pages.old.items }
     ensures rows { entries_in pages.new.items ≡ entries_in pages.old.items }
-    ensures place { IfOk result (IsPageWithRoom name.now pages.new.items) }
+    ensures index { IfOk result (IsPageWithRoom name.now pages.new.items) }
 {
-    let place = page_near(pages.as_slice(), name, NO_GUESS);
-    if pages[place].rows.len() < PAGE_ROWS {
-        return Ok(place);
+    let index = page_near(pages.as_slice(), name, NO_GUESS);
+    if pages[index].rows.len() < PAGE_ROWS {
+        return Ok(index);
     }
-    divide(pages, place, name)
+    divide(pages, index, name)
 }
 
 /// Splits the page where a row of `name` belongs, and returns the index of the part where it
 /// belongs.
-fn divide(pages: &mut Vec<Page>, place: usize, name: &EncodedName<'_>) -> Result<usize, AllocError>
+fn divide(pages: &mut Vec<Page>, index: usize, name: &EncodedName<'_>) -> Result<usize, AllocError>
     requires rising { ArePages pages.old.items }
-    requires place { IsPageOf name.now pages.old.items place }
-    requires rows { IsLongPage pages.old.items place }
+    requires index { IsPageOf name.now pages.old.items index }
+    requires rows { IsLongPage pages.old.items index }
     ensures rows { entries_in pages.new.items ≡ entries_in pages.old.items }
-    ensures place { IfOk result (IsPageWithRoom name.now pages.new.items) }
+    ensures index { IfOk result (IsPageWithRoom name.now pages.new.items) }
 {
     pages.reserve(1)?;
     let at_name = pages.len() < FEW_PAGES;
-    let back = pages[place].divide(name, at_name)?;
+    let back = pages[index].divide(name, at_name)?;
     let belongs = if back.is_up_to(name) {
-        place + 1
+        index + 1
     } else {
-        place
+        index
     };
-    match pages.insert(place + 1, back) {
+    match pages.insert(index + 1, back) {
         Ok(()) => Ok(belongs),
         Err(_) => unreachable!(),
     }
@@ -557,14 +561,14 @@ fn divide(pages: &mut Vec<Page>, place: usize, name: &EncodedName<'_>) -> Result
 
 /// Removes a row from a page. If the page has no other row, removes the page, which frees its
 /// memory.
-fn remove_row(pages: &mut Vec<Page>, place: usize, row: usize)
-    requires { IsRowIn pages.old.items place row }
-    ensures { IsWithoutRow pages.old.items place row (entries_in pages.new.items) }
+fn remove_row(pages: &mut Vec<Page>, index: usize, row: usize)
+    requires { IsRowIn pages.old.items index row }
+    ensures { IsWithoutRow pages.old.items index row (entries_in pages.new.items) }
 {
-    if pages[place].rows.len() > 1 {
-        pages[place].remove(row);
+    if pages[index].rows.len() > 1 {
+        pages[index].remove(row);
     } else {
-        let _ = pages.remove(place);
+        let _ = pages.remove(index);
     }
 }
 
@@ -592,18 +596,18 @@ impl<'a> Successors<'a> {
     ghost use Rattle.std.specs.Prelude.{IsTrue};
     ghost use Rattle.snmp_wire.specs.Message.{var_bind};
     ghost use Rattle.std.specs.Option.{option_map_or};
-    ghost use Rattle.snmp_agent.specs.table.Places.{entry_of, last_name};
-    ghost use Rattle.snmp_agent.specs.table.Pages.{AreBehind};
+    ghost use Rattle.snmp_agent.specs.table.Entries.{entry_of, last_name};
+    ghost use Rattle.snmp_agent.specs.table.Pages.{AreAllAfter};
     ghost use Rattle.snmp_agent.specs.table.Table.{MibView, IsNext};
 
     /// Sets `binding`, whose name these rows follow, to the result of a GetNext of that name: the
     /// first of the rows, or the name itself with `EndOfMibView` if there is none (RFC 3416,
     /// section 4.2.2). The rows after it are left.
     pub fn advance(&mut self, binding: &mut Binding<'a>)
-        ensures next { (view : MibView) → AreBehind view binding.old.name self.old
+        ensures next { (view : MibView) → AreAllAfter view binding.old.name self.old
             → IsNext view binding.old.name (var_bind binding.new) }
-        ensures behind { (view : MibView) → AreBehind view binding.old.name self.old
-            → AreBehind view binding.new.name self.new }
+        ensures after { (view : MibView) → AreAllAfter view binding.old.name self.old
+            → AreAllAfter view binding.new.name self.new }
     {
         order();
         match self.next_row() {
@@ -631,7 +635,7 @@ impl<'a> Successors<'a> {
 
     /// Returns the number of rows left on the current page, and the number of pages after it.
     #[inline]
-    pub(crate) fn left(&self) -> (usize, usize) {
+    pub(crate) fn remaining_counts(&self) -> (usize, usize) {
         (self.rows.len(), self.pages.len())
     }
 
@@ -695,7 +699,7 @@ impl<'a> Default for Successors<'a> {
 
 /// Returns the last of `rows`, or `before` if there is none.
 #[inline]
-#[tactic(auto, using(crate::proofs::Following::last_rows))]
+#[tactic(auto, using(crate::proofs::NextEntries::last_rows))]
 fn last_of<'a>(
     rows: &'a [EncodedBinding],
     before: Option<&'a EncodedBinding>,

@@ -2,8 +2,8 @@
 ghost use Rattle.std.specs.Prelude.{◌≡◌, ◌<◌, ◌≤◌, Bool, List, ℕ, IfOk, IfErr, IfSome};
 ghost use Rattle.std.specs.{List.Sorted.IsPartitionedBy, Option.option_map, Ordering.nat_cmp};
 ghost use Rattle.std.specs.{Cmp.Lexicographic.slice_cmp, FinMap.find};
-ghost use Rattle.snmp_agent.specs.private.table.Halving.{IsHalvedTo};
-ghost use Rattle.snmp_agent.specs.table.Pages.{IsRising, HasNameAt, BelongsAt, IsPlaceAfter};
+ghost use Rattle.snmp_agent.specs.private.table.BinarySearch.{IsHalvedTo};
+ghost use Rattle.snmp_agent.specs.table.Pages.{IsIncreasing, HasNameAt, BelongsAt, IsIndexAfter};
 ghost use Rattle.snmp_agent.specs.table.Pages.{entries_of};
 
 use snmp_wire::{EncodedBinding, EncodedName};
@@ -104,32 +104,32 @@ fn by_test<T: Placed>(
 /// Returns how many rows are up to `name`. `guess` is a guess of the result, or 0 for none;
 /// nothing is searched if it is right.
 #[tactic(auto, using(crate::proofs::Partition::partitioned))]
-pub fn place_near(rows: &[EncodedBinding], name: &EncodedName<'_>, guess: usize) -> usize
-    requires { IsRising rows.now }
-    ensures { IsPlaceAfter name.now rows.now result }
+pub fn index_near(rows: &[EncodedBinding], name: &EncodedName<'_>, guess: usize) -> usize
+    requires { IsIncreasing rows.now }
+    ensures { IsIndexAfter name.now rows.now result }
 {
     // The last row up to the name is at the index before that number.
     let (passed, end) = near(rows, name, guess.wrapping_sub(1));
     count_between(rows, name, passed, end)
 }
 
-/// Returns the row of `name`, if there is one. `place` is the number of rows that are up to
+/// Returns the row of `name`, if there is one. `index` is the number of rows that are up to
 /// `name`.
 #[inline]
 pub fn row_at<'a>(
     rows: &'a [EncodedBinding],
     name: &EncodedName<'_>,
-    place: usize,
+    index: usize,
 ) -> Option<&'a EncodedBinding>
-    requires rising { IsRising rows.now }
-    requires place { IsPlaceAfter name.now rows.now place }
+    requires rising { IsIncreasing rows.now }
+    requires index { IsIndexAfter name.now rows.now index }
     ensures value { option_map
         (λ row. row.now.value) result ≡ find (slice_cmp nat_cmp) name.now (entries_of
         rows.now) }
     ensures name { IfSome result (λ row. row.now.name ≡ name.now) }
 {
-    let (front, _) = rows.split_at(place);
-    let row = front.last()?;
+    let (prefix, _) = rows.split_at(index);
+    let row = prefix.last()?;
     if row.name().compare(name).is_eq() {
         Some(row)
     } else {
@@ -139,14 +139,14 @@ pub fn row_at<'a>(
 
 /// Returns the index of the row of `name`, or as an error the index at which such a row belongs.
 pub fn find_row(rows: &[EncodedBinding], name: &EncodedName<'_>) -> Result<usize, usize>
-    requires { IsRising rows.now }
+    requires { IsIncreasing rows.now }
     ensures found { IfOk result (HasNameAt name.now rows.now) }
     ensures none { IfErr result (BelongsAt name.now rows.now) }
 {
-    let place = place_near(rows, name, 0);
-    let (front, _) = rows.split_at(place);
-    match front.last() {
-        Some(row) if row.name().compare(name).is_eq() => Ok(place - 1),
-        _ => Err(place),
+    let index = index_near(rows, name, 0);
+    let (prefix, _) = rows.split_at(index);
+    match prefix.last() {
+        Some(row) if row.name().compare(name).is_eq() => Ok(index - 1),
+        _ => Err(index),
     }
 }

@@ -44,7 +44,7 @@ pub fn split_line(text: &[u8]) -> (&[u8], &[u8])
     ensures shorter { length result.1.now < length text.now }
 {
     match split_once(text, b'\n') {
-        Some((line, behind)) => (without_return(line), behind),
+        Some((line, after)) => (without_return(line), after),
         None => (text, &[]),
     }
 }

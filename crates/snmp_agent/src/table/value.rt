@@ -99,7 +99,7 @@ pub fn read_plain<'a>(tag: Tag, text: &'a [u8], into: &mut ValueRef<'a>) -> Opti
     ensures other { IfNone result (TakesMemory tag) }
 {
     match tag {
-        Tag::Integer => match signed(text) {
+        Tag::Integer => match parse_i32(text) {
             Some(number) => set_integer(into, number),
             None => return Some(false),
         },
@@ -107,15 +107,15 @@ pub fn read_plain<'a>(tag: Tag, text: &'a [u8], into: &mut ValueRef<'a>) -> Opti
             Some(octets) => *into = ValueRef::IpAddress(octets),
             None => return Some(false),
         },
-        Tag::Counter32 => match unsigned(text) {
+        Tag::Counter32 => match parse_u32(text) {
             Some(number) => set_counter32(into, number),
             None => return Some(false),
         },
-        Tag::Gauge32 => match unsigned(text) {
+        Tag::Gauge32 => match parse_u32(text) {
             Some(number) => set_gauge32(into, number),
             None => return Some(false),
         },
-        Tag::TimeTicks => match unsigned(text) {
+        Tag::TimeTicks => match parse_u32(text) {
             Some(number) => set_time_ticks(into, number),
             None => return Some(false),
         },
@@ -137,7 +137,7 @@ fn set_integer(value: &mut ValueRef<'_>, number: i32)
     ensures { datum value.new ≡ integer_value number }
 {
     match value {
-        ValueRef::Integer(place) => *place = number,
+        ValueRef::Integer(index) => *index = number,
         _ => *value = ValueRef::Integer(number),
     }
 }
@@ -148,7 +148,7 @@ fn set_counter32(value: &mut ValueRef<'_>, number: u32)
     ensures { datum value.new ≡ counter32 number }
 {
     match value {
-        ValueRef::Counter32(place) => *place = number,
+        ValueRef::Counter32(index) => *index = number,
         _ => *value = ValueRef::Counter32(number),
     }
 }
@@ -159,7 +159,7 @@ fn set_gauge32(value: &mut ValueRef<'_>, number: u32)
     ensures { datum value.new ≡ gauge32 number }
 {
     match value {
-        ValueRef::Gauge32(place) => *place = number,
+        ValueRef::Gauge32(index) => *index = number,
         _ => *value = ValueRef::Gauge32(number),
     }
 }
@@ -170,7 +170,7 @@ fn set_time_ticks(value: &mut ValueRef<'_>, number: u32)
     ensures { datum value.new ≡ time_ticks number }
 {
     match value {
-        ValueRef::TimeTicks(place) => *place = number,
+        ValueRef::TimeTicks(index) => *index = number,
         _ => *value = ValueRef::TimeTicks(number),
     }
 }
@@ -181,7 +181,7 @@ fn set_counter64(value: &mut ValueRef<'_>, number: u64)
     ensures { datum value.new ≡ counter64 number }
 {
     match value {
-        ValueRef::Counter64(place) => *place = number,
+        ValueRef::Counter64(index) => *index = number,
         _ => *value = ValueRef::Counter64(number),
     }
 }
@@ -192,7 +192,7 @@ fn set_octets<'a>(value: &mut ValueRef<'a>, octets: &'a [u8])
     ensures { datum value.new ≡ octet_string octets.now }
 {
     match value {
-        ValueRef::Octets(place) => *place = octets,
+        ValueRef::Octets(index) => *index = octets,
         _ => *value = ValueRef::Octets(octets),
     }
 }
@@ -250,18 +250,18 @@ fn decimal(text: &[u8]) -> Option<u64>
 }
 
 /// Reads a number of 32 bits in decimal digits.
-fn unsigned(text: &[u8]) -> Option<u32>
+fn parse_u32(text: &[u8]) -> Option<u32>
     ensures { IsOnly (λ n. IsDecimal text.now n × (n < 2 ^ 32)) result }
 {
     u32::try_from(decimal(text)?).ok()
 }
 
 /// Reads a signed number of 32 bits in decimal digits, with or without a minus sign before them.
-fn signed(text: &[u8]) -> Option<i32>
+fn parse_i32(text: &[u8]) -> Option<i32>
     ensures { IsOnly (λ z. IsSignedDecimal text.now z × FitsSigned w32 z) result }
 {
     match text {
-        [b'-', digits @ ..] => 0_i32.checked_sub_unsigned(unsigned(digits)?),
+        [b'-', digits @ ..] => 0_i32.checked_sub_unsigned(parse_u32(digits)?),
         _ => i32::try_from(decimal(text)?).ok(),
     }
 }

@@ -25,7 +25,7 @@ pub record IsLoaded (Held : (path text : List ℕ) → Type 0) (paths : List (Li
     (tree : Contents) (before after : Stream) : Type 0 where
   pub warnings : List Warning
   pub loaded : AreLoaded Held paths tree warnings
-  pub told : IsWritten before (warning_lines warnings) after
+  pub was_reported : IsWritten before (warning_lines warnings) after
 
 -- How a load of the module files at `paths` relates the states of the error output just before and
 -- after it. Inside this crate, only the contract of a load ensures this relation. If a load fails,

@@ -8,7 +8,7 @@ use Rattle.snmp_net.specs.Address.{address_of}
 use Rattle.snmp_tools.specs.Asking.{AreShown, AskingFails, HasAgent, IsAskingDone, NameFails}
 use Rattle.snmp_tools.specs.Asking.{agent_step, community_step, letters_step, version_step}
 use Rattle.snmp_tools.specs.Letters as letters
-use Rattle.snmp_tools.specs.Message.{Fault, out_of_memory}
+use Rattle.snmp_tools.specs.FaultText.{Fault, out_of_memory}
 use Rattle.snmp_tools.specs.{declared.plan.request.AskJob.AskJob, declared.plan.Orders.Orders}
 use Rattle.snmp_tools.specs.{declared.plan.Plan.Plan, declared.plan.Question.Question}
 use Rattle.snmp_tools.specs.declared.plan.choices.Choices.{Choices}

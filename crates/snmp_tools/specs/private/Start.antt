@@ -4,7 +4,7 @@ use Rattle.snmp_oid.specs.Identifier.{IsWire, wire}
 use Rattle.snmp_walk.specs.Ordered.{IsAtOrBelow, IsUnsendable}
 use Rattle.snmp_io.specs.Steps.{IsFirstToFail}
 use Rattle.snmp_words.specs.Words.{texts_at}
-use Rattle.snmp_tools.specs.{Message.Fault, Message.outside_root, Message.unsendable}
+use Rattle.snmp_tools.specs.{FaultText.Fault, FaultText.outside_root, FaultText.unsendable}
 use Rattle.snmp_tools.specs.Question.{AreNames, HasSendable, HasUnsendable}
 use Rattle.snmp_tools.specs.declared.plan.Question as plan
 use Rattle.snmp_tools.specs.declared.plan.Question.TheVariants as planned

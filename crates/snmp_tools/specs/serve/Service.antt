@@ -6,7 +6,7 @@ use Rattle.snmp_io.specs.{Files.Holdings, Files.MayHold, Steps.IsFirstToFail}
 use Rattle.snmp_net.specs.Address.{IsHostAndPort}
 use Rattle.snmp_words.specs.Words.{ServeWords}
 use Rattle.snmp_tools.specs.{Asking.MibsFail, load.Files.AreModulesOf}
-use Rattle.snmp_tools.specs.Message.{Fault, bad_agent, long_community, out_of_memory}
+use Rattle.snmp_tools.specs.FaultText.{Fault, bad_agent, long_community, out_of_memory}
 
 -- the agent that the arguments ask for, with the table `view`
 abbrev pub served_agent : ServeWords → MibView → Agent
@@ -18,20 +18,20 @@ pub record IsPlaced (words : ServeWords) : Type 0 where
   pub short_community : length words.community ≤ 255
   pub host : List ℕ
   pub port : ℕ
-  pub place : IsHostAndPort words.listen host port
+  pub address : IsHostAndPort words.listen host port
 
 -- ---- why the arguments are refused
 
 -- the steps before the table file is read, in order
 pub data ServeStep : Type 0 where
   community_step : ServeStep
-  place_step : ServeStep
+  address_step : ServeStep
   modules_step : ServeStep
 
 -- the step is done: it finds nothing to refuse
 abbrev pub IsDoneForService : ServeWords → Holdings → ServeStep → Type 0
 IsDoneForService words files community_step = length words.community ≤ 255
-IsDoneForService words files place_step =
+IsDoneForService words files address_step =
     (host : List ℕ) × (port : ℕ) × IsHostAndPort words.listen host port
 IsDoneForService words files modules_step =
     (modules : List Module) × AreModulesOf (MayHold files) words.mibs modules
@@ -40,7 +40,7 @@ IsDoneForService words files modules_step =
 abbrev pub FailsForService : ServeWords → Holdings → ServeStep → Fault → Type 0
 FailsForService words files community_step why =
     (255 < length words.community) × (why ≡ long_community)
-FailsForService words files place_step why =
+FailsForService words files address_step why =
     ((host : List ℕ) (port : ℕ) → IsHostAndPort words.listen host port → ⊥)
     × (why ≡ bad_agent words.listen)
 FailsForService words files modules_step why = MibsFail files words.mibs why
@@ -48,7 +48,7 @@ FailsForService words files modules_step why = MibsFail files words.mibs why
 -- `why` is the reason of the first step that fails; the steps before it are done
 abbrev pub ServiceFails : ServeWords → Holdings → Fault → Type 0
 ServiceFails words files why =
-    IsFirstToFail (community_step ∷ place_step ∷ modules_step ∷ []) (IsDoneForService words files)
+    IsFirstToFail (community_step ∷ address_step ∷ modules_step ∷ []) (IsDoneForService words files)
     (FailsForService words files) why
 
 -- `why` is why no table file is read: memory ran out, or a step failed

@@ -1,4 +1,5 @@
--- The table that a file defines, with names by the tree of modules, or why it doesn't define one.
+-- The table that a file defines, with its names looked up in the tree of modules, or why it
+-- doesn't define one.
 use Rattle.std.specs.Prelude.{◌≡◌, ◌⊎◌, ◌↔◌, ℕ, List, Some, Ok}
 use Rattle.std.specs.{Result.result_ok, Str.Lines.lines}
 use Rattle.snmp_io.specs.Files.{Holdings, MayHold, MayHoldNone}
@@ -6,7 +7,7 @@ use Rattle.snmp_agent.specs.table.Format.{Names, names_by, numeric_names}
 use Rattle.snmp_agent.specs.{table.Stated.IsFirstFault, table.Stated.IsTableOf, table.Table.MibView}
 use Rattle.snmp_agent.specs.declared.table.error.TableError.{TableError}
 use Rattle.smi_show.specs.{name.Meaning.meaning, name.Meant.TextMeans}
-use Rattle.snmp_tools.specs.Message.{Fault, bad_table, unreadable}
+use Rattle.snmp_tools.specs.FaultText.{Fault, bad_table, unreadable}
 use Rattle.smi_tree.specs.{Tree.Contents}
 
 -- in the second format of table files, a text names the identifier that it means by `tree`

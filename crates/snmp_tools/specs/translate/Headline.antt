@@ -1,11 +1,11 @@
 -- What snmptranslate promises, in short.
 use Rattle.std.specs.Prelude.{◌≡◌, ◌⊎◌, ◌++◌, ℕ, List}
-use Rattle.snmp_tools.specs.{load.Files.AreModulesOf, translate.Outcome.AreNamesPrinted}
+use Rattle.snmp_tools.specs.{load.Files.AreModulesOf, translate.TranslateResult.AreNamesPrinted}
 use Rattle.snmp_tools.specs.{translate.Style.IsStyleOf, declared.translate.Style.Style}
 use Rattle.smi_text.specs.declared.trees.tree.Module.{Module}
 use Rattle.smi_names.specs.declared.nodes.warning.Warning.{Warning}
 use Rattle.smi_tree.specs.Tree.{Contents, IsTree}
-use Rattle.snmp_io.specs.{Files.Holdings, Files.Holds, Output.Stream, Output.TakesFront}
+use Rattle.snmp_io.specs.{Files.Holdings, Files.Holds, Output.Stream, Output.TakesPrefix}
 use Rattle.snmp_words.specs.Words.{TranslateWords}
 use Rattle.snmp_tools.specs.translate.Text.{AreTextsOf}
 
@@ -23,10 +23,11 @@ pub record IsByTree (modules : List Module) (Printed : Contents → Type 0) : Ty
   pub printed : Printed tree
 
 -- a prefix of the texts of the first names was printed
-abbrev pub IsFront : Style → (names : List (List ℕ)) → (before after : Stream) → Contents → Type 0
-IsFront style names before after mib =
+abbrev pub IsPrefixOfTexts : Style → (names : List (List ℕ)) → (before after : Stream) → Contents
+    → Type 0
+IsPrefixOfTexts style names before after mib =
     (first : List (List ℕ)) × (rest : List (List ℕ)) × (text : List ℕ) × (names ≡ first ++ rest)
-    × AreTextsOf mib style first text × TakesFront before text after
+    × AreTextsOf mib style first text × TakesPrefix before text after
 
 -- If the module files are known, the texts of all names are printed, and nothing else. This is
 -- promised at status 0.
@@ -37,7 +38,7 @@ PrintsAll words files before after =
 
 -- If the module files are known, nothing is printed, or a prefix of the texts of the first names.
 -- This is promised whatever fails.
-abbrev pub PrintsFront : TranslateWords → Holdings → (before after : Stream) → Type 0
-PrintsFront words files before after =
+abbrev pub PrintsPrefix : TranslateWords → Holdings → (before after : Stream) → Type 0
+PrintsPrefix words files before after =
     (style : Style) (modules : List Module) → AskForTranslation words files style modules
-    → (after ≡ before) ⊎ IsByTree modules (IsFront style words.names before after)
+    → (after ≡ before) ⊎ IsByTree modules (IsPrefixOfTexts style words.names before after)

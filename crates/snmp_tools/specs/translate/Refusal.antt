@@ -5,7 +5,7 @@ use Rattle.smi_value.specs.Letters.{first_other}
 use Rattle.smi_text.specs.declared.trees.tree.Module.{Module}
 use Rattle.snmp_io.specs.{Files.Holdings, Files.MayHold, Steps.IsFirstToFail}
 use Rattle.snmp_words.specs.Words.{TranslateWords}
-use Rattle.snmp_tools.specs.Message.{Fault, bad_letter, out_of_memory}
+use Rattle.snmp_tools.specs.FaultText.{Fault, bad_letter, out_of_memory}
 use Rattle.snmp_tools.specs.translate.Style.{first_other_of_t}
 
 -- the steps before anything is printed, in order

@@ -1,7 +1,7 @@
 //! Why module files can't be loaded.
 ghost use Rattle.std.specs.Prelude.{◌≡◌, ◌++◌, codes, decimal};
 ghost use Rattle.snmp_io.specs.Draft.{Adds};
-ghost use Rattle.snmp_tools.specs.load.Message.{at_line, fault_text, refusal_of, refusal_text};
+ghost use Rattle.snmp_tools.specs.load.FaultText.{at_line, fault_text, refusal_of, refusal_text};
 ghost use Rattle.snmp_tools.specs.declared.load.error.FilesError.TheVariants.{Memory};
 
 use smi_text::{LexError, ParseError};

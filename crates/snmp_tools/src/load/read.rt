@@ -4,7 +4,7 @@ ghost use Rattle.snmp_tools.specs.load.Files.{texts, AreModulesIn, AreModulesOf,
 ghost use Rattle.snmp_tools.specs.load.Files.{IsFilesRefusal, no_memory};
 ghost use Rattle.smi_text.specs.declared.trees.tree.Module.{Module as Tree};
 ghost use Rattle.snmp_io.specs.Files.{Holdings, Holds, MayHold};
-ghost use Rattle.snmp_tools.specs.load.Message.{refusal_of};
+ghost use Rattle.snmp_tools.specs.load.FaultText.{refusal_of};
 
 use crate::load::error::FilesError;
 use smi_text::{Module, ParseError, one_module_list, one_token_list, parse_modules};

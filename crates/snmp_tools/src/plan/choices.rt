@@ -2,7 +2,7 @@
 ghost use Rattle.std.specs.Prelude.{◌≤◌, ◌≡◌, ◌<◌, ℕ, true, false, length, slice_index, take};
 ghost use Rattle.std.specs.Prelude.{MatchOption, MatchResult};
 ghost use Rattle.std.specs.{Char.is_ascii_digit, List.list_all};
-ghost use Rattle.snmp_walk.specs.Walker.{IsMethod};
+ghost use Rattle.snmp_walk.specs.WalkState.{IsMethod};
 ghost use Rattle.snmp_tools.specs.private.Choosing.{OneMore};
 ghost use Rattle.snmp_tools.specs.Letters.{AreRepetitions, HaveChosen, IsFirstUnknown, IsKnown};
 ghost use Rattle.snmp_tools.specs.Letters.{IsUnknown, method_of, mode_of, no_choices};
@@ -64,7 +64,7 @@ impl Choices {
         let mut at = 0;
         'parts: while at < letters.len() {
             let rest = &letters[at + 1..];
-            let digits = front_digits(rest);
+            let digits = leading_digits_len(rest);
             choices = choices.after(letters[at], &rest[..digits], bulk)?;
             at += 1 + digits;
         }
@@ -124,7 +124,7 @@ impl Choices {
 }
 
 /// Returns how many digits `text` begins with.
-fn front_digits(text: &[u8]) -> usize
+fn leading_digits_len(text: &[u8]) -> usize
     ensures within { result ≤ length text.now }
     ensures digits { list_all is_ascii_digit (take result text.now) ≡ true }
     ensures maximal { result < length text.now

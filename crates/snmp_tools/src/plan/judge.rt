@@ -3,7 +3,7 @@ ghost use Rattle.std.specs.Prelude.{◌≡◌, ◌≤◌, codes, length, IfErr, 
 ghost use Rattle.std.specs.Prelude.{string_bytes};
 ghost use Rattle.snmp_words.specs.Words.{asking_words};
 ghost use Rattle.snmp_net.specs.Address.{address_of};
-ghost use Rattle.snmp_tools.specs.{Asking.AreShown, Asking.HasAgent, Message.fault_of};
+ghost use Rattle.snmp_tools.specs.{Asking.AreShown, Asking.HasAgent, FaultText.fault_of};
 ghost use Rattle.snmp_tools.specs.private.Planned.{AgentFails, ShowingFails};
 
 use crate::failure::Failure;

@@ -1,10 +1,10 @@
 //! Lines on an output: one for each binding of a walk or a Get, written when its reply arrives,
 //! and the count after them.
 ghost use Rattle.std.specs.Prelude.{◌≡◌, ◌+◌, ◌++◌, IfErr, IfOk, OnErr, OnOk};
-ghost use Rattle.snmp_io.specs.Output.{FailsWithin, extended};
+ghost use Rattle.snmp_io.specs.Output.{FailsWithin, stream_after};
 ghost use Rattle.snmp_tools.specs.Lines.{ArePrinted, IsTextPrinted, count_line, TakesLine};
-ghost use Rattle.snmp_tools.specs.{Answer.CanBeSent, Answer.IsAskedOver, Message.fault_of};
-ghost use Rattle.snmp_tools.specs.{Message.outcome_of, private.Start.BeginFails};
+ghost use Rattle.snmp_tools.specs.{Answer.CanBeSent, Answer.IsAskedOver, FaultText.fault_of};
+ghost use Rattle.snmp_tools.specs.{FaultText.outcome_of, private.Start.BeginFails};
 ghost use Rattle.snmp_tools.specs.private.Planned.{plan_of, question_of};
 
 use crate::failure::Failure;
@@ -18,8 +18,8 @@ use snmp_walk::{Link, Rows, Sink, SinkFault, WalkEnd};
 use snmp_wire::{Binding, ValueRef};
 use std::alloc::AllocError;
 
-/// A sink that writes the line of each binding, by the names and types of a tree and the letters
-/// of `-O`.
+/// A sink that writes the line of each binding. Names and types are looked up in a tree, and shown
+/// as the letters of `-O` say.
 #[derive(Drop)]
 pub(crate) struct Printer<'a, O: Output> {
     writer: LineWriter<'a>,
@@ -138,8 +138,9 @@ pub(crate) fn print_text<'a, O: Output>(text: &[u8], out: &mut O) -> Result<(), 
 
 /// Writes `lines`. If the output fails, fails too, and has written a prefix of them.
 fn write_lines<O: Output>(out: &mut O, lines: &[u8]) -> Result<(), SinkFault>
-    ensures whole_at_ok { OnOk result (O.stream out.new ≡ extended (O.stream out.old) lines.now) }
-    ensures front_at_fault { IfErr result (λ fault. (fault ≡ SinkFault.Output)
+    ensures whole_at_ok { OnOk result (O.stream out.new
+        ≡ stream_after (O.stream out.old) lines.now) }
+    ensures prefix_at_fault { IfErr result (λ fault. (fault ≡ SinkFault.Output)
         × FailsWithin (O.stream out.old) lines.now (O.stream out.new)) }
 {
     write_all(out, lines).map_err(|_| SinkFault::Output)

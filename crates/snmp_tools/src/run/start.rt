@@ -1,9 +1,9 @@
 //! Asks the question of a plan, if its names can be sent.
 ghost use Rattle.std.specs.Prelude.{◌≡◌, ◌≤◌, ◌+◌, IfErr, IfOk, OnErr, OnOk, length};
 ghost use Rattle.snmp_oid.specs.Identifier.{IsWire, wire};
-ghost use Rattle.snmp_walk.specs.{Facts.IsFresh, Ordered.IsUnsendable, Ran.IsRun};
+ghost use Rattle.snmp_walk.specs.{Facts.IsFresh, Ordered.IsUnsendable, RunResult.IsRun};
 ghost use Rattle.snmp_tools.specs.Answer.{CanBeSent, IsAskedOver, first_of};
-ghost use Rattle.snmp_tools.specs.{Message.fault_of, Question.subtree};
+ghost use Rattle.snmp_tools.specs.{FaultText.fault_of, Question.subtree};
 ghost use Rattle.snmp_tools.specs.private.Planned.{plan_of, question_of, walk_of};
 ghost use Rattle.snmp_tools.specs.private.Start.{BeginFails, StartFails};
 

@@ -7,10 +7,10 @@ use Rattle.snmp_wire.specs.ber.Number.{number_of}
 -- `octets` encode the subidentifier `n` (8.19.2): they are its digits to the base 128, with the
 -- high bit set on each but the last, and without a leading zero
 pub record IsSubidentifier (octets : List ℕ) (n : ℕ) : Type 0 where
-  pub front : List ℕ
+  pub prefix : List ℕ
   pub last : ℕ
-  pub parts : octets ≡ front ++ last ∷ []
-  pub goes_on : All (λ octet. 128 ≤ octet) front
+  pub parts : octets ≡ prefix ++ last ∷ []
+  pub goes_on : All (λ octet. 128 ≤ octet) prefix
   pub ends : last < 128
   pub minimal : slice_index octets 0 ≢ 128
   pub value : number_of 128 (map (λ octet. octet % 128) octets) ≡ n

@@ -1,6 +1,6 @@
 //! Why a datagram isn't accepted.
-ghost use Rattle.snmp_wire.specs.ber.Reading as reading;
-ghost use Rattle.snmp_wire.specs.ber.Reading.{AgreesBy};
+ghost use Rattle.snmp_wire.specs.ber.Decode as reading;
+ghost use Rattle.snmp_wire.specs.ber.Decode.{AgreesBy};
 
 use thiserror::Error;
 
@@ -29,7 +29,7 @@ pub enum BerError {
 
 /// Returns `Ok` if `is_allowed`, otherwise [`BerError::Content`].
 #[inline]
-pub(crate) fn allowed(is_allowed: bool) -> Result<(), BerError>
+pub(crate) fn check_content(is_allowed: bool) -> Result<(), BerError>
     ensures { AgreesBy (λ u. u) result (reading.allowed is_allowed) }
 {
     if is_allowed {

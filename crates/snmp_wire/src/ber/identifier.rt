@@ -2,8 +2,8 @@
 ghost use Rattle.std.specs.Prelude.{◌≡◌, true, ℕ, ◌+◌, ◌-◌, ◌<◌, ◌≤◌, ◌↔◌, List, [], ◌∷◌, ◌++◌};
 ghost use Rattle.std.specs.Prelude.{length, drop, IsOk, IsTrue, IfOk, IfErr, IfSome, Ok, Err, ◌*◌};
 ghost use Rattle.std.specs.Prelude.{◌^◌, ◌%◌};
-ghost use Rattle.snmp_wire.specs.ber.Reading as reading;
-ghost use Rattle.snmp_wire.specs.ber.Reading.{AgreesBy, checked};
+ghost use Rattle.snmp_wire.specs.ber.Decode as reading;
+ghost use Rattle.snmp_wire.specs.ber.Decode.{AgreesBy, checked};
 ghost use Rattle.std.specs.List.{flat_map};
 ghost use Rattle.snmp_oid.specs.Identifier.{IsIdentifier, IsWire};
 ghost use Rattle.snmp_wire.specs.ber.Canon.{AreShort, canon_content, canon_subidentifier};
@@ -21,7 +21,7 @@ const LARGEST_SUBIDENTIFIER: u64 = 4294967375;
 const MORE_NUMBERS: usize = 126;
 
 /// Returns the subidentifier at the start of `octets`, and the octets after it.
-#[tactic(auto, unfolding(crate::specs::ber::Reading::subidentifier_at))]
+#[tactic(auto, unfolding(crate::specs::ber::Decode::subidentifier_at))]
 #[inline]
 fn subidentifier_at(octets: &[u8]) -> Result<(u64, &[u8]), BerError>
     ensures { AgreesBy (λ x. (x.0, x.1.now)) result (reading.subidentifier_at octets.now) }
@@ -54,7 +54,7 @@ fn three_digits(high: u8, mid: u8, low: u8) -> u64
 /// Returns the number of the base-128 digits at the start of `octets`, the last of which has a
 /// clear high bit, and the octets after it. Fails if no octet has, or if the number is above the
 /// largest subidentifier.
-#[tactic(auto, using(crate::proofs::IdentifierReading::digit_steps))]
+#[tactic(auto, using(crate::proofs::ReadIdentifiers::digit_steps))]
 fn digits_at(octets: &[u8]) -> Result<(u64, &[u8]), BerError>
     ensures { AgreesBy (λ x. (x.0, x.1.now)) result (reading.subidentifier_from 0 octets.now) }
 {
@@ -72,7 +72,7 @@ fn digits_at(octets: &[u8]) -> Result<(u64, &[u8]), BerError>
 }
 
 /// Returns the number of 32 bits at the start of `octets`, and the octets after it.
-#[tactic(auto, unfolding(crate::specs::ber::Reading::number_at))]
+#[tactic(auto, unfolding(crate::specs::ber::Decode::number_at))]
 #[inline]
 fn number_at(octets: &[u8]) -> Result<(u32, &[u8]), BerError>
     ensures { AgreesBy (λ x. (x.0, x.1.now)) result (reading.number_at octets.now) }
@@ -87,7 +87,7 @@ fn number_at(octets: &[u8]) -> Result<(u32, &[u8]), BerError>
 /// Does what [`subidentifier_at`] does, for octets that are known to begin with a subidentifier.
 /// Checks nothing again.
 #[inline]
-#[tactic(auto, using(std::proofs::lemmas::Grind::common_steps, crate::proofs::IdentifierReading::reads_short))]
+#[tactic(auto, using(std::proofs::lemmas::Grind::common_steps, crate::proofs::ReadIdentifiers::reads_short))]
 fn subidentifier_in(octets: &[u8]) -> (u64, &[u8])
     requires { IsOk (reading.subidentifier_at octets.now) }
     ensures { reading.subidentifier_at octets.now ≡ Ok (result.0, result.1.now) }
@@ -111,7 +111,7 @@ fn subidentifier_in(octets: &[u8]) -> (u64, &[u8])
 }
 
 /// Does what [`subidentifier_in`] does, for a subidentifier of any length.
-#[tactic(auto, using(crate::proofs::ReadingLaws::never_err, crate::proofs::IdentifierReading::digits_ok))]
+#[tactic(auto, using(crate::proofs::ReadingLaws::never_err, crate::proofs::ReadIdentifiers::digits_ok))]
 fn digits_in(octets: &[u8]) -> (u64, &[u8])
     requires { IsOk (reading.subidentifier_at octets.now) }
     ensures { reading.subidentifier_at octets.now ≡ Ok (result.0, result.1.now) }
@@ -134,7 +134,7 @@ fn number_in(octets: &[u8]) -> (u32, &[u8])
 }
 
 /// Checks that `content` encodes an identifier.
-#[tactic(auto, unfolding(crate::specs::ber::Reading::identifier_of))]
+#[tactic(auto, unfolding(crate::specs::ber::Decode::identifier_of))]
 // `inline(always)`: called for each binding that is checked.
 #[inline(always)]
 pub fn check_identifier(content: &[u8]) -> Result<(), BerError>
@@ -148,7 +148,7 @@ pub fn check_identifier(content: &[u8]) -> Result<(), BerError>
 /// two.
 // `inline(always)`: this is the loop that checks a name.
 #[inline(always)]
-#[tactic(auto, using(crate::proofs::IdentifierReading::counted_numbers))]
+#[tactic(auto, using(crate::proofs::ReadIdentifiers::counted_numbers))]
 fn check_numbers(octets: &[u8]) -> Result<(), BerError>
     ensures { AgreesBy (λ u. u) result (checked (reading.numbers_of 126 octets.now)) }
 {
@@ -170,7 +170,7 @@ fn check_numbers(octets: &[u8]) -> Result<(), BerError>
 /// the octets after them.
 // `inline(always)`: its single caller is the loop that checks a name.
 #[inline(always)]
-#[tactic(auto, using(crate::proofs::IdentifierReading::checked_numbers))]
+#[tactic(auto, using(crate::proofs::ReadIdentifiers::checked_numbers))]
 fn some_numbers_at(octets: &[u8]) -> Result<(usize, &[u8]), BerError>
     requires { 0 < length octets.now }
     ensures some { IfOk result (λ x. (1 ≤ x.0) × (x.0 + length x.1.now ≤ length octets.now)) }
@@ -196,9 +196,9 @@ fn some_numbers_at(octets: &[u8]) -> Result<(usize, &[u8]), BerError>
 /// after them.
 // `inline(always)`: inlined, it is a few instructions for eight numbers of a name.
 #[inline(always)]
-#[tactic(auto, using(crate::proofs::IdentifierReading::plain_fronts))]
+#[tactic(auto, using(crate::proofs::ReadIdentifiers::plain_prefixes))]
 fn eight_at(octets: &[u8]) -> Option<(&[u8], &[u8])>
-    ensures { IfSome result (λ x. reading.IsPlainFront 8 x.0.now x.1.now octets.now) }
+    ensures { IfSome result (λ x. reading.IsPlainPrefix 8 x.0.now x.1.now octets.now) }
 {
     match octets {
         [a, b, c, d, e, f, g, h, ..] => {
@@ -215,9 +215,9 @@ fn eight_at(octets: &[u8]) -> Option<(&[u8], &[u8])>
 /// Returns the first four octets if each is a number of its own, and the octets after them.
 // `inline(always)`: inlined, it is a few instructions for four numbers of a name.
 #[inline(always)]
-#[tactic(auto, using(crate::proofs::IdentifierReading::plain_front))]
+#[tactic(auto, using(crate::proofs::ReadIdentifiers::plain_prefix))]
 fn four_at(octets: &[u8]) -> Option<(&[u8], &[u8])>
-    ensures { IfSome result (λ x. reading.IsPlainFront 4 x.0.now x.1.now octets.now) }
+    ensures { IfSome result (λ x. reading.IsPlainPrefix 4 x.0.now x.1.now octets.now) }
 {
     match octets {
         [a, b, c, d, ..] => {
@@ -254,7 +254,7 @@ pub(crate) fn identifier_of(content: &[u8]) -> Oid
 
 /// Sets `oid`, which must be empty, to the identifier that `content` encodes. The content must
 /// have been checked. Setting it in place saves moving its 520 octets.
-#[tactic(auto, using(crate::proofs::IdentifierReading::subidentifier_small), unfolding(crate::specs::ber::Reading::identifier_of))]
+#[tactic(auto, using(crate::proofs::ReadIdentifiers::subidentifier_small), unfolding(crate::specs::ber::Decode::identifier_of))]
 // `inline(always)`: called for each binding that is read.
 #[inline(always)]
 pub fn push_identifier(oid: &mut Oid, content: &[u8])
@@ -297,7 +297,7 @@ fn second_number(subidentifier: u64) -> u32
 /// Appends the numbers that `octets` encode. The octets must have been checked.
 // `inline(always)`: this is the loop that reads a name.
 #[inline(always)]
-#[tactic(auto, using(crate::proofs::IdentifierReading::pushed_numbers))]
+#[tactic(auto, using(crate::proofs::ReadIdentifiers::pushed_numbers))]
 fn push_numbers(oid: &mut Oid, octets: &[u8])
     requires numbers { IsOk (reading.numbers_of 126 octets.now) }
     requires two { length oid.old ≡ 2 }
@@ -369,7 +369,7 @@ pub fn identifier_size(name: &Oid) -> u64
 
 /// Returns the number of octets that the subidentifier of the first two numbers takes.
 #[inline]
-#[tactic(auto, using(crate::proofs::IdentifierWriting::subidentifier_one))]
+#[tactic(auto, using(crate::proofs::WrittenIdentifiers::subidentifier_one))]
 fn first_size(first: u32, second: u32) -> u64
     requires { first ≤ 2 }
     ensures value { result ≡ subidentifier_size (40 * first + second) }
@@ -388,7 +388,7 @@ fn first_size(first: u32, second: u32) -> u64
 /// In most names eight short numbers, the column among them, precede the last number.
 // `inline(always)`: its single caller measures each name that is written.
 #[inline(always)]
-#[tactic(auto, using(crate::proofs::IdentifierWriting::nine_counted, crate::proofs::IdentifierWriting::none_before))]
+#[tactic(auto, using(crate::proofs::WrittenIdentifiers::nine_counted, crate::proofs::WrittenIdentifiers::none_before))]
 fn numbers_size(numbers: &[u32]) -> u64
     requires { length numbers.now ≤ 128 }
     ensures value { result ≡ length (flat_map canon_subidentifier numbers.now) }
@@ -409,7 +409,7 @@ fn numbers_size(numbers: &[u32]) -> u64
 // This is 2.8 % of the work of an agent that serves tables, so four short numbers are counted at
 // once.
 #[inline(never)]
-#[tactic(auto, using(crate::proofs::IdentifierWriting::subidentifier_sizes))]
+#[tactic(auto, using(crate::proofs::WrittenIdentifiers::subidentifier_sizes))]
 fn other_numbers_size(numbers: &[u32]) -> u64
     requires { length numbers.now ≤ 128 }
     ensures value { result ≡ length (flat_map canon_subidentifier numbers.now) }
@@ -498,7 +498,7 @@ pub fn put_identifier(out: &mut [u8], end: usize, name: &Oid) -> usize
 /// [`numbers_size`] says what most numbers are.
 // `inline(always)`: its single caller writes each name.
 #[inline(always)]
-#[tactic(auto, using(crate::proofs::IdentifierWriting::subidentifier_sizes))]
+#[tactic(auto, using(crate::proofs::WrittenIdentifiers::subidentifier_sizes))]
 fn put_numbers(out: &mut [u8], end: usize, numbers: &[u32]) -> usize
     requires room { length (flat_map canon_subidentifier numbers.now) ≤ end }
     requires within { end ≤ length out.old }
@@ -573,7 +573,7 @@ fn put_eight(out: &mut [u8], end: usize, numbers: &[u32], from: usize) -> usize
 
 /// Writes a subidentifier before `end`, and returns its offset.
 #[inline]
-#[tactic(auto, using(crate::proofs::IdentifierWriting::subidentifier_sizes))]
+#[tactic(auto, using(crate::proofs::WrittenIdentifiers::subidentifier_sizes))]
 fn put_subidentifier(out: &mut [u8], end: usize, number: u64) -> usize
     requires room { length (canon_subidentifier number) ≤ end }
     requires within { end ≤ length out.old }

@@ -1,7 +1,7 @@
 //! Lengths and elements (X.690, section 8.1): a tag, the length of the content, and the content.
 ghost use Rattle.std.specs.Prelude.{◌≡◌, List, ℕ, ◌+◌, ◌^◌, ◌<◌, ◌≤◌, ◌++◌, length};
-ghost use Rattle.snmp_wire.specs.ber.Reading as reading;
-ghost use Rattle.snmp_wire.specs.{ber.Reading.AgreesBy, ber.Writing.Writes};
+ghost use Rattle.snmp_wire.specs.ber.Decode as reading;
+ghost use Rattle.snmp_wire.specs.{ber.Decode.AgreesBy, ber.Writing.Writes};
 ghost use Rattle.snmp_wire.specs.ber.Canon.{canon_header, canon_length, length_size, octets};
 
 use crate::ber::BerError;
@@ -10,7 +10,7 @@ use crate::ber::writing::put_octet;
 
 /// Returns the length that is encoded at the start of `octets`, and the octets after it. Fails
 /// with `cut` if the octets end before the length does.
-#[tactic(auto, unfolding(crate::specs::ber::Reading::length_at))]
+#[tactic(auto, unfolding(crate::specs::ber::Decode::length_at))]
 // `inline(always)`: called for each element. Inlined, its result stays in registers.
 #[inline(always)]
 fn length_at(octets: &[u8], cut: BerError) -> Result<(usize, &[u8]), BerError>
@@ -30,7 +30,7 @@ fn length_at(octets: &[u8], cut: BerError) -> Result<(usize, &[u8]), BerError>
 
 /// Returns the length in the long form whose first octet is `first`, and the octets after it.
 /// `octets` follow the first octet, which says how many octets the length has.
-#[tactic(auto, unfolding(crate::specs::ber::Reading::long_length_at))]
+#[tactic(auto, unfolding(crate::specs::ber::Decode::long_length_at))]
 #[cold]
 fn long_length_at(first: u8, octets: &[u8], cut: BerError) -> Result<(usize, &[u8]), BerError>
     ensures { AgreesBy (λ x. (x.0, x.1.now)) result (reading.long_length_at cut first octets.now) }
@@ -48,7 +48,7 @@ fn long_length_at(first: u8, octets: &[u8], cut: BerError) -> Result<(usize, &[u
 
 /// Returns the content of an element and the octets after it; `octets` follow the element's tag.
 /// Fails with `cut` if the octets end before the content does.
-#[tactic(auto, unfolding(crate::specs::ber::Reading::content_at))]
+#[tactic(auto, unfolding(crate::specs::ber::Decode::content_at))]
 // `inline(always)`: called for each element. Inlined, its result stays in registers.
 #[inline(always)]
 pub fn content_at(octets: &[u8], cut: BerError) -> Result<(&[u8], &[u8]), BerError>
@@ -63,7 +63,7 @@ pub fn content_at(octets: &[u8], cut: BerError) -> Result<(&[u8], &[u8]), BerErr
 
 /// Returns the content of the inner element at the start of `octets`, which must have this tag,
 /// and the octets after it.
-#[tactic(auto, unfolding(crate::specs::ber::Reading::inner_at))]
+#[tactic(auto, unfolding(crate::specs::ber::Decode::inner_at))]
 // `inline(always)`: called for each element. Inlined, its tag is a constant.
 #[inline(always)]
 pub fn inner_at(tag: u8, octets: &[u8]) -> Result<(&[u8], &[u8]), BerError>
@@ -83,7 +83,7 @@ pub fn inner_at(tag: u8, octets: &[u8]) -> Result<(&[u8], &[u8]), BerError>
 
 /// Returns the tag and the content of the inner element at the start of `octets`, and the octets
 /// after it.
-#[tactic(auto, unfolding(crate::specs::ber::Reading::element_at))]
+#[tactic(auto, unfolding(crate::specs::ber::Decode::element_at))]
 // `inline(always)`: called for each element. Inlined, its result stays in registers.
 #[inline(always)]
 pub fn element_at(octets: &[u8]) -> Result<(u8, &[u8], &[u8]), BerError>
@@ -118,7 +118,7 @@ fn digits_size(size: u64) -> usize
 
 /// Returns the length, in octets, of the header before a content of `size` octets.
 #[inline]
-#[tactic(auto, using(crate::proofs::CanonLemmas::header_lengths))]
+#[tactic(auto, using(crate::proofs::NumberSizes::header_lengths))]
 pub fn header_size(size: u64) -> u64
     ensures value { result ≡ 1 + length (canon_length size) }
     ensures at_most_6 { result ≤ 6 }
@@ -156,7 +156,7 @@ pub fn put_short_header(out: &mut [u8], end: usize, tag: u8, size: u64) -> usize
 
 /// Writes the shortest form of a length before `end`, and returns its offset.
 #[inline]
-#[tactic(auto, using(crate::proofs::CanonLemmas::length_forms))]
+#[tactic(auto, using(crate::proofs::NumberSizes::length_forms))]
 fn put_length(out: &mut [u8], end: usize, size: u64) -> usize
     requires room { length (canon_length size) ≤ end }
     requires within { end ≤ length out.old }

@@ -1,8 +1,8 @@
 //! Whole numbers (X.690, section 8.3).
 ghost use Rattle.std.specs.Prelude.{◌≡◌, ℕ, ◌^◌, ◌<◌, ◌≤◌, length, IsTrue, Ok, ◌+◌, pos};
 ghost use Rattle.snmp_wire.specs.ber.Number as number;
-ghost use Rattle.snmp_wire.specs.ber.Reading as reading;
-ghost use Rattle.snmp_wire.specs.{ber.Reading.AgreesBy, ber.Writing.Writes};
+ghost use Rattle.snmp_wire.specs.ber.Decode as reading;
+ghost use Rattle.snmp_wire.specs.{ber.Decode.AgreesBy, ber.Writing.Writes};
 ghost use Rattle.snmp_wire.specs.ber.Canon.{canon_number, magnitude_of, number_size, octets};
 
 use crate::ber::length::inner_at;
@@ -25,7 +25,7 @@ pub(crate) fn unsigned(octets: &[u8]) -> u64
 }
 
 /// Returns the INTEGER of 32 bits whose two's complement is `content`, of one to four octets.
-#[tactic(auto, unfolding(crate::specs::ber::Reading::integer_of))]
+#[tactic(auto, unfolding(crate::specs::ber::Decode::integer_of))]
 // `inline(always)`: called for each value of its type, and for four numbers of each message.
 #[inline(always)]
 pub(crate) fn integer_of(content: &[u8]) -> Result<i32, BerError>
@@ -56,7 +56,7 @@ fn sign_of(octet: u8) -> u8
 }
 
 /// Returns the INTEGER at the start of `octets`, and the octets after it.
-#[tactic(auto, unfolding(crate::specs::ber::Reading::integer_at, crate::specs::ber::Reading::inner_at, crate::specs::ber::Reading::content_at, crate::specs::ber::Reading::length_at, crate::specs::ber::Reading::integer_of))]
+#[tactic(auto, unfolding(crate::specs::ber::Decode::integer_at, crate::specs::ber::Decode::inner_at, crate::specs::ber::Decode::content_at, crate::specs::ber::Decode::length_at, crate::specs::ber::Decode::integer_of))]
 // `inline(always)`: called for four numbers of each message. Inlined, numbers of one octet take a
 // few tests.
 #[inline(always)]
@@ -71,7 +71,7 @@ pub fn integer_at(octets: &[u8]) -> Result<(i32, &[u8]), BerError>
 }
 
 /// Does what [`integer_at`] does, for a number of any length.
-#[tactic(auto, unfolding(crate::specs::ber::Reading::integer_at))]
+#[tactic(auto, unfolding(crate::specs::ber::Decode::integer_at))]
 #[inline(never)]
 fn any_integer_at(octets: &[u8]) -> Result<(i32, &[u8]), BerError>
     ensures { AgreesBy (λ x. (x.0, x.1.now)) result (reading.integer_at octets.now) }
@@ -145,7 +145,7 @@ pub(crate) fn unsigned_size(number: u64) -> usize
 
 /// Returns the number of octets that the content of an unsigned number of 32 bits takes.
 #[inline]
-#[tactic(auto, using(crate::proofs::CanonLemmas::size_four, crate::proofs::CanonLemmas::size_five))]
+#[tactic(auto, using(crate::proofs::NumberSizes::size_four, crate::proofs::NumberSizes::size_five))]
 pub(crate) fn unsigned32_size(number: u32) -> usize
     ensures value { result ≡ number_size number }
     ensures at_most_9 { result ≤ 9 }
@@ -161,7 +161,7 @@ pub(crate) fn unsigned32_size(number: u32) -> usize
 
 /// Returns the number of octets that the content of an INTEGER takes.
 #[inline]
-#[tactic(auto, using(crate::proofs::CanonLemmas::number_lengths))]
+#[tactic(auto, using(crate::proofs::NumberSizes::number_lengths))]
 pub fn integer_size(number: i32) -> usize
     ensures value { result ≡ length (canon_number number) }
     ensures at_most_9 { result ≤ 9 }
@@ -183,7 +183,7 @@ fn magnitude(number: i32) -> u64
 
 /// Writes the content of an unsigned number before `end`, and returns its offset.
 #[inline]
-#[tactic(auto, using(crate::proofs::WritingLaws::writes_same, crate::proofs::CanonLemmas::octets_from_zero))]
+#[tactic(auto, using(crate::proofs::WritingLaws::writes_same, crate::proofs::NumberSizes::octets_from_zero))]
 pub(crate) fn put_unsigned(out: &mut [u8], end: usize, number: u64) -> usize
     requires room { number_size number ≤ end }
     requires within { end ≤ length out.old }
@@ -194,7 +194,7 @@ pub(crate) fn put_unsigned(out: &mut [u8], end: usize, number: u64) -> usize
 
 /// Writes the four octets of a number before `end`, and returns their offset.
 #[inline]
-#[tactic(auto, using(crate::proofs::WritingLaws::writes_same, crate::proofs::CanonLemmas::four_octets))]
+#[tactic(auto, using(crate::proofs::WritingLaws::writes_same, crate::proofs::NumberSizes::four_octets))]
 pub(crate) fn put_four(out: &mut [u8], end: usize, number: u32) -> usize
     requires room { 4 ≤ end }
     requires within { end ≤ length out.old }
@@ -215,7 +215,7 @@ pub fn put_integer(out: &mut [u8], end: usize, number: i32) -> usize
 
 /// Returns the two's complement of 64 bits, whose lowest octets are the content of the number.
 #[inline]
-#[tactic(auto, using(std::proofs::lemmas::Grind::common_steps, crate::proofs::CanonLemmas::extended_below, crate::proofs::CanonLemmas::extended_above))]
+#[tactic(auto, using(std::proofs::lemmas::Grind::common_steps, crate::proofs::NumberSizes::extended_below, crate::proofs::NumberSizes::extended_above))]
 fn sign_extended(number: i32) -> u64
     ensures { octets (length (canon_number number)) result ≡ canon_number number }
 {

@@ -4,13 +4,13 @@ ghost use Rattle.std.specs.Prelude.{[], ◌++◌};
 ghost use Rattle.snmp_wire.specs.ber.Value.{datum, integer_value, ip_address, object_id};
 ghost use Rattle.snmp_wire.specs.ber.Value.{octet_string};
 ghost use Rattle.snmp_oid.specs.Identifier.{IsWire};
-ghost use Rattle.snmp_wire.specs.ber.Reading as reading;
-ghost use Rattle.snmp_wire.specs.ber.Reading.{AgreesBy, checked};
+ghost use Rattle.snmp_wire.specs.ber.Decode as reading;
+ghost use Rattle.snmp_wire.specs.ber.Decode.{AgreesBy, checked};
 ghost use Rattle.snmp_wire.specs.ber.Canon.{IsEncodableValue, canon_content, canon_element};
 ghost use Rattle.snmp_wire.specs.ber.Canon.{canon_number, canon_value};
 ghost use Rattle.snmp_wire.specs.{ber.Number.AreOctets, ber.Range.IsInRange, ber.Writing.Writes};
 
-use crate::ber::error::allowed;
+use crate::ber::error::check_content;
 use crate::ber::identifier::{check_identifier, identifier_of, identifier_size, put_identifier};
 use crate::ber::length::{put_header, put_short_header};
 use crate::ber::number::{
@@ -54,7 +54,7 @@ pub enum ValueRef<'a> {
 }
 
 /// Checks that `content` is the content of a value with this tag.
-#[tactic(auto, unfolding(crate::specs::ber::Reading::typed_value, crate::specs::ber::Reading::unsigned_of, crate::specs::ber::Reading::integer_of))]
+#[tactic(auto, unfolding(crate::specs::ber::Decode::typed_value, crate::specs::ber::Decode::unsigned_of, crate::specs::ber::Decode::integer_of))]
 // `inline(always)`: called for each binding that is checked.
 #[inline(always)]
 pub fn check_value(tag: u8, content: &[u8]) -> Result<(), BerError>
@@ -62,15 +62,15 @@ pub fn check_value(tag: u8, content: &[u8]) -> Result<(), BerError>
     ensures { AgreesBy (λ u. u) result (checked (reading.typed_value tag content.now)) }
 {
     match tag {
-        tag::INTEGER => allowed(!content.is_empty() && content.len() < 5),
+        tag::INTEGER => check_content(!content.is_empty() && content.len() < 5),
         tag::OCTET_STRING | tag::OPAQUE => Ok(()),
         tag::NULL | tag::NO_SUCH_OBJECT | tag::NO_SUCH_INSTANCE | tag::END_OF_MIB_VIEW => {
-            allowed(content.is_empty())
+            check_content(content.is_empty())
         }
         tag::OBJECT_IDENTIFIER => check_object_id(content),
-        tag::IP_ADDRESS => allowed(content.len() == 4),
-        tag::COUNTER32 | tag::GAUGE32 | tag::TIME_TICKS => allowed(has_width(4, content)),
-        tag::COUNTER64 => allowed(has_width(8, content)),
+        tag::IP_ADDRESS => check_content(content.len() == 4),
+        tag::COUNTER32 | tag::GAUGE32 | tag::TIME_TICKS => check_content(has_width(4, content)),
+        tag::COUNTER64 => check_content(has_width(8, content)),
         _ => Err(BerError::Tag),
     }
 }
@@ -99,7 +99,7 @@ pub fn read_value<'a>(tag: u8, content: &'a [u8], into: &mut ValueRef<'a>)
 
 /// Does what [`read_value`] does, over a value of any type. `inline(never)`: it writes all octets
 /// of a [`ValueRef`], which most reads of a value avoid.
-#[tactic(auto, unfolding(crate::specs::ber::Reading::typed_value, crate::specs::ber::Reading::unsigned_of))]
+#[tactic(auto, unfolding(crate::specs::ber::Decode::typed_value, crate::specs::ber::Decode::unsigned_of))]
 #[inline(never)]
 fn replace_value<'a>(tag: u8, content: &'a [u8], into: &mut ValueRef<'a>)
     requires { IsOk (reading.typed_value tag content.now) }
@@ -132,7 +132,7 @@ fn replace_value<'a>(tag: u8, content: &'a [u8], into: &mut ValueRef<'a>)
 /// Sets `into` to the identifier with this content. `inline(never)`: its `Oid`, of over 500
 /// octets, is zeroed when the function begins; inlined, it would be zeroed for the other types
 /// too.
-#[tactic(auto, unfolding(crate::specs::ber::Reading::typed_value))]
+#[tactic(auto, unfolding(crate::specs::ber::Decode::typed_value))]
 #[inline(never)]
 fn set_object_id<'a>(content: &'a [u8], into: &mut ValueRef<'a>)
     requires { IsOk (reading.typed_value 6 content.now) }
@@ -144,7 +144,7 @@ fn set_object_id<'a>(content: &'a [u8], into: &mut ValueRef<'a>)
 /// If `value` already has the type of this tag, as the values of a column have, sets it to the
 /// value with this content and returns `true`. Otherwise returns `false`, and so it does for the
 /// types that have no case here. Setting only the content saves writing over 500 octets.
-#[tactic(auto, unfolding(crate::specs::ber::Reading::typed_value, crate::specs::ber::Reading::unsigned_of))]
+#[tactic(auto, unfolding(crate::specs::ber::Decode::typed_value, crate::specs::ber::Decode::unsigned_of))]
 // `inline(always)`: its single caller calls it for each binding that is read.
 #[inline(always)]
 fn set_if_same_type<'a>(tag: u8, content: &'a [u8], value: &mut ValueRef<'a>) -> bool
@@ -318,7 +318,7 @@ fn put_number(out: &mut [u8], end: usize, tag: u8, number: u32) -> usize
 
 /// Writes a number of 64 bits before `end`, as an element with this tag, and returns its offset.
 #[inline(never)]
-#[tactic(auto, using(crate::proofs::ElementLemmas::number_short, crate::proofs::ElementLaws::header_fits))]
+#[tactic(auto, using(crate::proofs::ElementRoom::number_short, crate::proofs::ElementLaws::header_fits))]
 fn put_long_number(out: &mut [u8], end: usize, tag: u8, number: u64) -> usize
     requires room { length (canon_element tag (canon_number (pos number))) ≤ end }
     requires within { end ≤ length out.old }
@@ -330,7 +330,7 @@ fn put_long_number(out: &mut [u8], end: usize, tag: u8, number: u64) -> usize
 
 /// Writes an INTEGER before `end`, and returns its offset.
 #[inline]
-#[tactic(auto, using(crate::proofs::ElementLemmas::number_short, crate::proofs::ElementLaws::header_fits))]
+#[tactic(auto, using(crate::proofs::ElementRoom::number_short, crate::proofs::ElementLaws::header_fits))]
 fn put_integer_value(out: &mut [u8], end: usize, number: i32) -> usize
     requires room { length (canon_element 2 (canon_number number)) ≤ end }
     requires within { end ≤ length out.old }

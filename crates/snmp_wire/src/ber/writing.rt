@@ -6,7 +6,7 @@ ghost use Rattle.snmp_wire.specs.ber.Writing.{Writes};
 
 /// Writes an octet before `end`, and returns its offset.
 #[inline]
-#[tactic(auto, using(crate::proofs::WritingLemmas::writes_one))]
+#[tactic(auto, using(crate::proofs::WrittenOctets::writes_one))]
 pub fn put_octet(out: &mut [u8], end: usize, octet: u8) -> usize
     requires room { 1 ≤ end }
     requires within { end ≤ length out.old }
@@ -18,7 +18,7 @@ pub fn put_octet(out: &mut [u8], end: usize, octet: u8) -> usize
 
 /// Writes `text` before `end`, and returns its offset.
 #[inline]
-#[tactic(auto, using(crate::proofs::WritingLemmas::writes_copy))]
+#[tactic(auto, using(crate::proofs::WrittenOctets::writes_copy))]
 pub fn put_text(out: &mut [u8], end: usize, text: &[u8]) -> usize
     requires room { length text.now ≤ end }
     requires within { end ≤ length out.old }

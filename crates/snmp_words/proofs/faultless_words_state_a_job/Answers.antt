@@ -1,4 +1,4 @@
-use Rattle.snmp_words.proofs.FaultlessLemmas as lemma
+use Rattle.snmp_words.proofs.Faultless as lemma
 use Rattle.snmp_words.proofs.faultless_words_state_a_job.Goals as goal
 
 pub returns-clause-taken : goal.returns-clause-taken

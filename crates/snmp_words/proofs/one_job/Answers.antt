@@ -1,4 +1,4 @@
-use Rattle.snmp_words.proofs.GivenLemmas as lemma
+use Rattle.snmp_words.proofs.OptionValues as lemma
 use Rattle.snmp_words.proofs.one_job.Goals as goal
 
 pub returns : goal.returns

@@ -2,7 +2,7 @@ use Rattle.std.proofs.Common.{◌≡◌, ◌∙◌, ◌⊎◌, ap, subst, sym, m
 use Rattle.clap.specs.Words.{App, app_of, fault_of, is_simple, kind_of, subcommand_of, takes}
 use Rattle.clap.specs.{Faults.is_simple_and_free, Kinds.IsAmong}
 use Rattle.snmp_words.specs.{Command.snmp_app, Words.stated_in}
-use Rattle.snmp_words.proofs.{CommandLemmas.fault_of_refusal, CommandLemmas.states_job, CommandLemmas.plain_is_local, GivenLemmas.states}
+use Rattle.snmp_words.proofs.{Commands.fault_of_refusal, Commands.states_job, Commands.plain_is_local, OptionValues.states}
 use Rattle.clap.specs.declared.error.ErrorKind.TheVariants as ErrorKind
 use Rattle.snmp_words.proofs.read_words.Goals as goal
 

@@ -1,6 +1,6 @@
 use Rattle.std.proofs.Common.{refl}
 use Rattle.clap.proofs.OnLiterals.{clap_on_literals}
-use Rattle.snmp_words.proofs.GivenLemmas.{states}
+use Rattle.snmp_words.proofs.OptionValues.{states}
 use Rattle.snmp_words.proofs.walks_are_taken.Goals as goal
 
 pub returns-clause-joined : goal.returns-clause-joined

@@ -1,6 +1,6 @@
 use Rattle.std.proofs.{Common.◌≡◌, Common.is_some, Common.arith, Common.false, lemmas.Grind.common_steps}
-use Rattle.smi_show.specs.private.index.Reading.{values_of}
-use Rattle.smi_show.proofs.ReadingLemmas.{as_stated}
+use Rattle.smi_show.specs.private.index.IndexValues.{values_of}
+use Rattle.smi_show.proofs.IndexValues.{as_stated}
 use Rattle.smi_show.proofs.index.reads.Goals as goal
 
 pub returns-in-None : goal.returns-in-None

@@ -1,5 +1,5 @@
 use Rattle.std.proofs.Common.{◌≡◌, drop, is_some}
-use Rattle.smi_show.specs.private.index.Reading.{values_of}
+use Rattle.smi_show.specs.private.index.IndexValues.{values_of}
 use Rattle.smi_show.proofs.index.reads.Given as goal
 
 -- the parts left read the numbers left if and only if all read all

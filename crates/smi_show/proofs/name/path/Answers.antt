@@ -2,7 +2,7 @@ use Rattle.std.proofs.Common.{ℕ, List, [], ◌∷◌, ◌++◌, get_or, codes,
 use Rattle.std.proofs.lemmas.List.{take_more}
 use Rattle.snmp_io.specs.Draft.{Grows}
 use Rattle.smi_show.specs.name.Name.{arc_text, path_text}
-use Rattle.smi_show.proofs.BeginningLemmas.{text_more}
+use Rattle.smi_show.proofs.Beginnings.{text_more}
 use Rattle.smi_tree.specs.Naming.{nearest_node}
 use Rattle.smi_show.proofs.name.path.Goals as goal
 

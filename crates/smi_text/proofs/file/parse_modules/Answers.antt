@@ -1,16 +1,16 @@
 use Rattle.std.proofs.Common.{arith, ◌≡◌, ℕ, List, [], Some, ◌∙◌, sym, ap}
 use Rattle.std.proofs.lemmas.Grind.{common_steps}
 use Rattle.smi_text.specs.{lexer.Token.Item, lexer.Token.tokens_of, lexer.Lexes.Lexes, declared.error.ParseError.ParseError}
-use Rattle.smi_text.specs.{declared.trees.tree.Module.Module, trees.Mark.Stands, trees.Spelling.spelling, private.Grammar.file}
+use Rattle.smi_text.specs.{declared.trees.tree.Module.Module, trees.Mark.TokensMatch, trees.Spelling.spelling, private.Grammar.file}
 use Rattle.smi_text.specs.declared.error.ParseError.TheVariants as E
 use Rattle.smi_text.specs.Text.{AreSpelledBy, HasNoDoubles, IsCause}
 use Rattle.smi_text.specs.private.Returned.{ReadsModules, ModulesFault, IsLexFault, IsCauseOf}
 use Rattle.smi_text.proofs.{Laws.some-inj, ProductionLaws.file-law, Doubles.file-twice}
-use Rattle.smi_text.proofs.Tokens.{all-whole, taken-stands, taken-no_fault, tokens-read}
+use Rattle.smi_text.proofs.Tokens.{all-whole, taken-matched, taken-no_fault, tokens-read}
 use Rattle.smi_text.proofs.file.parse_modules.Goals as goal
 
 module _ (text : List ℕ) (items : List Item) (lexed : Lexes [] text items) (sole : (others : List Item) → Lexes [] text others → others ≡ items) where
-  spelled : (ms : List Module) → AreSpelledBy ms text → Stands (spelling ms) (tokens_of items) []
+  spelled : (ms : List Module) → AreSpelledBy ms text → TokensMatch (spelling ms) (tokens_of items) []
   spelled ms s = rw (sole s.items s.lexed) at s.spelled
 
   reads : (ms : List Module) → AreSpelledBy ms text → file.read items ≡ Some (ms, [])
@@ -23,7 +23,7 @@ module _ (text : List ℕ) (items : List Item) (lexed : Lexes [] text items) (so
           items = items;
           lexed = lexed;
           whole = taken-no_fault (spelling ms) items taken;
-          spelled = taken-stands (spelling ms) items [] taken;
+          spelled = taken-matched (spelling ms) items [] taken;
         },
         r.distinct,
       )

@@ -1,4 +1,4 @@
-use Rattle.smi_tree.proofs.Choosing.{one_syntax}
+use Rattle.smi_tree.proofs.TypesSingle.{one_syntax}
 use Rattle.smi_tree.proofs.laws.one_syntax.Goals as goal
 
 pub returns : goal.returns

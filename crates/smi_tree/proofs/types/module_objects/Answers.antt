@@ -1,6 +1,6 @@
--- One definition more.
+-- The invariant of the loop holds at its start and after one definition more, and implies what the function ensures.
 use Rattle.std.proofs.{Common.arith, Common.rules, lemmas.Grind.common_steps}
-use Rattle.smi_tree.proofs.Pairing.{first_none, first_next, first_all}
+use Rattle.smi_tree.proofs.Pairwise.{first_none, first_next, first_all}
 use Rattle.smi_tree.proofs.types.module_objects.Goals as goal
 
 pub defs-init : goal.defs-init

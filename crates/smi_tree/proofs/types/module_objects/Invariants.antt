@@ -1,5 +1,5 @@
 use Rattle.smi_tree.specs.{types.Types.origin_of_object, types.Kept.IsKept}
-use Rattle.smi_tree.proofs.Pairing.{AreFirst}
+use Rattle.smi_tree.proofs.Pairwise.{AreFirst}
 use Rattle.smi_tree.proofs.types.module_objects.Given as goal
 
 abbrev pub invariant-defs : goal.invariant-defs

@@ -1,5 +1,5 @@
 use Rattle.smi_tree.specs.types.Kept.{AreKeptOf}
-use Rattle.smi_tree.proofs.Pairing.{AreFirst}
+use Rattle.smi_tree.proofs.Pairwise.{AreFirst}
 use Rattle.smi_tree.proofs.types.objects.Given as goal
 
 abbrev pub invariant-modules : goal.invariant-modules

@@ -1,4 +1,4 @@
-use Rattle.smi_value.proofs.{Bits.bits_shown, Growing.adds_from}
+use Rattle.smi_value.proofs.{SetBits.bits_shown, Drafts.adds_from}
 use Rattle.smi_value.proofs.pieces.append_bits.Goals as goal
 
 pub returns : goal.returns

@@ -1,4 +1,4 @@
-use Rattle.smi_value.proofs.Growing.{adds_from}
+use Rattle.smi_value.proofs.Drafts.{adds_from}
 use Rattle.smi_value.proofs.pieces.append_octet_bits.Goals as goal
 
 pub returns : goal.returns

@@ -5,4 +5,4 @@ use Rattle.smi_value.specs.Pieces.{octet_bits}
 use Rattle.smi_value.proofs.pieces.append_set_bits.Given as goal
 
 abbrev pub invariant-octets : goal.invariant-octets
-invariant-octets l = Grows l.initial.draft (flat_map (octet_bits l.letters l.names) (take l.place (enumerate_from 0 l.octets))) l.draft
+invariant-octets l = Grows l.initial.draft (flat_map (octet_bits l.letters l.names) (take l.index (enumerate_from 0 l.octets))) l.draft

@@ -1,4 +1,4 @@
-use Rattle.smi_value.proofs.Growing.{adds_from}
+use Rattle.smi_value.proofs.Drafts.{adds_from}
 use Rattle.smi_value.proofs.pieces.append_ticks_and_time.Goals as goal
 
 pub returns : goal.returns

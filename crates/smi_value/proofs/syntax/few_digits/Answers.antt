@@ -1,5 +1,5 @@
 use Rattle.std.proofs.{lemmas.Grind.common_steps, Common.arith}
-use Rattle.smi_value.proofs.FewDigits.{one_stated, two_stated, three_stated}
+use Rattle.smi_value.proofs.SyntaxDigits.{one_stated, two_stated, three_stated}
 use Rattle.smi_value.proofs.syntax.few_digits.Goals as goal
 
 pub returns-in-48-to-57 : goal.returns-in-48-to-57

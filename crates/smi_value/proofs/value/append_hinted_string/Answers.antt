@@ -1,5 +1,5 @@
 use Rattle.std.proofs.{Common.arith, Common.refl, Common.inl, lemmas.Grind.common_steps}
-use Rattle.smi_value.proofs.Growing.{adds_from}
+use Rattle.smi_value.proofs.Drafts.{adds_from}
 use Rattle.smi_value.proofs.value.append_hinted_string.Goals as goal
 use Rattle.smi_value.proofs.value.append_hinted_string.Goals.{in_default-via-in-Some+else-not-is_number, in_default-via-in_default}
 

@@ -3,7 +3,7 @@ use Rattle.std.specs.{Int.w128, Fmt.signed_decimal, Option.option_copied}
 use Rattle.std.proofs.lemmas.Int.{to_z-of_z}
 use Rattle.smi_value.specs.declared.base.ValueBase.TheVariants as base
 use Rattle.smi_value.specs.{Syntax.syntax_at, Syntax.name_of_number, Pieces.type_word, Pieces.named_text, Value.IsIntegerText}
-use Rattle.smi_value.proofs.Growing.{adds_from}
+use Rattle.smi_value.proofs.Drafts.{adds_from}
 use Rattle.smi_value.proofs.value.append_integer.Goals as goal
 
 pub returns-in-Some : goal.returns-in-Some

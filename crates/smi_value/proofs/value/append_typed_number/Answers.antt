@@ -1,5 +1,5 @@
 use Rattle.std.proofs.{Common.refl, Common.w64, lemmas.Int.to_z-of_z}
-use Rattle.smi_value.proofs.Growing.{adds_from}
+use Rattle.smi_value.proofs.Drafts.{adds_from}
 use Rattle.smi_value.proofs.value.append_typed_number.Goals as goal
 
 pub returns : goal.returns

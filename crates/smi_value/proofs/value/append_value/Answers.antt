@@ -1,5 +1,5 @@
 use Rattle.std.proofs.Common.{refl}
-use Rattle.smi_value.proofs.Growing.{adds_from}
+use Rattle.smi_value.proofs.Drafts.{adds_from}
 use Rattle.smi_value.proofs.value.append_value.Goals as goal
 
 pub returns-in-IpAddress : goal.returns-in-IpAddress

@@ -1,6 +1,6 @@
 use Rattle.std.proofs.Common.{◌≡◌, length, take, ap, refl, sym, subst, ◌∙◌, arith}
-use Rattle.snmp_agent.specs.{declared.config.Why.Why, Reply.agent_of, Reply.IsDropped}
-use Rattle.snmp_agent.specs.declared.config.Why.TheVariants as why
+use Rattle.snmp_agent.specs.{declared.config.DropReason.DropReason, Reply.agent_of, Reply.IsDropped}
+use Rattle.snmp_agent.specs.declared.config.DropReason.TheVariants as why
 use Rattle.snmp_agent.proofs.{Encodings.read_message, OneReply.is_replied, OneReply.refused_is_dropped}
 use Rattle.snmp_agent.proofs.agent.answer_by.Goals as goal
 
@@ -24,7 +24,7 @@ pub returns-in-None-clause-dropped : goal.returns-in-None-clause-dropped
 returns-in-None-clause-dropped c = λ reason e.
     let same : why.TooLong ≡ reason = cc in
     let none = rw c.in-None.is at c.reply.ensures in
-    subst (λ (w : Why). IsDropped (agent_of c.args.table.now c.args.config.now) c.args.request.now w) same
+    subst (λ (w : DropReason). IsDropped (agent_of c.args.table.now c.args.config.now) c.args.request.now w) same
     (c.in-Ok.message, none.0, c.in-Ok.ensures.found, none.1, λ fits. absurd (omega (arith, fits, none.2)))
 
 pub returns-in-Some-clause-replied : goal.returns-in-Some-clause-replied

@@ -1,6 +1,6 @@
 use Rattle.std.proofs.{Common.arith, Common.◌≡◌, Common.refl, Common.sym, Common.subst, Common.◌∙◌, lemmas.Grind.common_steps}
 use Rattle.snmp_agent.specs.private.Answering.{AreWritable, answers_to, fill, held}
-use Rattle.snmp_agent.proofs.{Fronts.fill_full, answers.append_answers.Goals.After-append_answer-reply}
+use Rattle.snmp_agent.proofs.{ReplyBindings.fill_full, answers.append_answers.Goals.After-append_answer-reply}
 use Rattle.snmp_agent.proofs.answers.append_answers.Goals as goal
 
 pub bindings-init : goal.bindings-init

@@ -1,9 +1,9 @@
 use mir.Syntax.{w32}
 use mir.Val.{of_z, to_z, SFits}
 use Rattle.std.proofs.{lemmas.Int.to_z-of_z, Common.rules, Common.◌≡◌, Common.ℤ, Common.drop, Common.take, Common.sym, Common.ap, Common.◌∙◌}
-use Rattle.snmp_agent.specs.{Reply.joined, Reply.or_zero, private.Standing.given_in}
+use Rattle.snmp_agent.specs.{Reply.joined, Reply.or_zero, private.Cursor.bindings_in_round}
 use Rattle.snmp_agent.specs.private.Answering.{Held, fill, held, rounds_from}
-use Rattle.snmp_agent.proofs.{Fronts.fill_both, Fronts.fill_full, bulk.append_bulk.Goals.After-append_singles-reply}
+use Rattle.snmp_agent.proofs.{ReplyBindings.fill_both, ReplyBindings.fill_full, bulk.append_bulk.Goals.After-append_singles-reply}
 use Rattle.snmp_agent.proofs.bulk.append_bulk.Goals as goal
 
 -- the representation of a number in the code is the number
@@ -14,7 +14,7 @@ count : (c : After-append_singles-reply) → c.or_zero-count.result ≡ or_zero 
 count c = c.or_zero-count.ensures ∙ ap or_zero (number c.a.result (search rules) c.a.ensures)
 
 singles : (c : After-append_singles-reply) → held c.append_singles-reply.result c.append_singles-reply.new.out
-    ≡ fill (held c.args.reply c.args.out.now) (given_in c.args.table.now 0 (take (or_zero c.args.request.now.a) c.args.request.now.bindings))
+    ≡ fill (held c.args.reply c.args.out.now) (bindings_in_round c.args.table.now 0 (take (or_zero c.args.request.now.a) c.args.request.now.bindings))
 singles c = rw (count c, c.bindings-bindings.ensures) at c.append_singles-reply.ensures.filled
 
 pub returns-then-is_full : goal.returns-then-is_full
@@ -22,7 +22,7 @@ returns-then-is_full c =
     let view = c.args.table.now in
     let q = c.args.request.now in
     let now : Held = held c.append_singles-reply.result c.append_singles-reply.new.out in
-    let first = given_in view 0 (take (or_zero q.a) q.bindings) in
+    let first = bindings_in_round view 0 (take (or_zero q.a) q.bindings) in
     let rest = joined (rounds_from view (drop (or_zero q.a) q.bindings) 0 (or_zero q.b)) in
     sym (fill_both (held c.args.reply c.args.out.now) first rest
     ∙ ap (λ (h : Held). fill h rest) (sym (singles (goal.at.returns-then-is_full c).After-append_singles-reply))
@@ -33,7 +33,7 @@ returns c =
     let view = c.args.table.now in
     let q = c.args.request.now in
     let k = (goal.at.returns c).After-append_singles-reply in
-    let first = given_in view 0 (take (or_zero q.a) q.bindings) in
+    let first = bindings_in_round view 0 (take (or_zero q.a) q.bindings) in
     let rest = joined (rounds_from view (drop (or_zero q.a) q.bindings) 0 (or_zero q.b)) in
     let repetitions : c.or_zero-repetitions.result ≡ or_zero q.b = c.or_zero-repetitions.ensures ∙ ap or_zero (number c.b.result (search rules) c.b.ensures) in
     let left : c.append_singles-reply.new.bindings ≡ drop c.or_zero-count.result c.bindings-bindings.result = c.append_singles-reply.ensures.left (λ full.

@@ -3,25 +3,25 @@ use mathlib.Core.Bool.{and-true}
 use Rattle.std.proofs.Common.{◌∙◌, ◌≡◌, ◌⊎◌, inl, inr, true, [], ◌∷◌, ap, sym, arith}
 use Rattle.std.specs.List.{list_all}
 use Rattle.snmp_agent.specs.{Reply.joined, private.Answering.add, private.Answering.fill, private.Answering.held, private.Answering.rounds_from}
-use Rattle.snmp_agent.specs.private.Standing.{Standing, given_in, is_over, next_at, passed, places_of}
+use Rattle.snmp_agent.specs.private.Cursor.{CursorView, bindings_in_round, is_over, next_at, passed, cursors_of}
 use Rattle.snmp_agent.proofs.Rounds.{rounds_done, rounds_first, rounds_next, rounds_over}
-use Rattle.snmp_agent.proofs.{Standing.place_passed, bulk.append_column.Goals.After-append_next-reply}
+use Rattle.snmp_agent.proofs.{Cursors.cursor_passed, bulk.append_column.Goals.After-append_next-reply}
 use Rattle.snmp_agent.proofs.bulk.append_column.Goals as goal
 
 pub rounds-init : goal.rounds-init
 rounds-init c = grind (arith, common_steps, rounds_first)
 
--- what the round appends
+-- the reply after the round is the one before it with the bindings of the round added
 added : (c : After-append_next-reply) → held c.append_next-reply.result c.append_next-reply.new.out
-    ≡ fill (held c.rounds.reply c.rounds.out) (given_in c.args.table.now c.rounds.counter (c.args.asked ∷ []))
-added c = c.append_next-reply.ensures.added ∙ ap (λ (place : Standing). add (held c.rounds.reply c.rounds.out) (next_at place)) c.rounds.invariant.place
+    ≡ fill (held c.rounds.reply c.rounds.out) (bindings_in_round c.args.table.now c.rounds.counter (c.args.asked ∷ []))
+added c = c.append_next-reply.ensures.added ∙ ap (λ (cursor : CursorView). add (held c.rounds.reply c.rounds.out) (next_at cursor)) c.rounds.invariant.cursor
 
 -- whether the round is the last one
-last : (c : After-append_next-reply) → list_all is_over (places_of c.args.table.now c.rounds.counter (c.args.asked ∷ [])) ≡ c.is_at_end-is_last.result
-last c = and-true _ ∙ ap is_over (sym c.rounds.invariant.place) ∙ sym c.is_at_end-is_last.ensures
+last : (c : After-append_next-reply) → list_all is_over (cursors_of c.args.table.now c.rounds.counter (c.args.asked ∷ [])) ≡ c.is_at_end-is_last.result
+last c = and-true _ ∙ ap is_over (sym c.rounds.invariant.cursor) ∙ sym c.is_at_end-is_last.ensures
 
 over : (c : After-append_next-reply)
-    → (c.append_next-reply.result.left ≡ 0) ⊎ (list_all is_over (places_of c.args.table.now c.rounds.counter (c.args.asked ∷ [])) ≡ true)
+    → (c.append_next-reply.result.left ≡ 0) ⊎ (list_all is_over (cursors_of c.args.table.now c.rounds.counter (c.args.asked ∷ [])) ≡ true)
     → held c.append_next-reply.result c.append_next-reply.new.out
     ≡ fill (held c.args.reply c.args.out.now) (joined (rounds_from c.args.table.now (c.args.asked ∷ []) 0 c.args.repetitions))
 over c =
@@ -43,7 +43,7 @@ rounds-preserved c =
       rounds = rounds_next c.args.table.now (c.args.asked ∷ []) c.args.repetitions (held c.args.reply c.args.out.now) c.rounds.counter
           (held c.rounds.reply c.rounds.out) (held c.append_next-reply.result c.append_next-reply.new.out) c.rounds.invariant.rounds (added k)
           (last k ∙ c.if-is_last.false);
-      place = c.append_next-reply.ensures.moved ∙ ap passed c.rounds.invariant.place ∙ place_passed c.args.table.now c.rounds.counter c.args.asked.name;
+      cursor = c.append_next-reply.ensures.moved ∙ ap passed c.rounds.invariant.cursor ∙ cursor_passed c.args.table.now c.rounds.counter c.args.asked.name;
     }
 
 pub returns : goal.returns

@@ -1,5 +1,5 @@
 use Rattle.std.proofs.Common.{◌≡◌, [], ◌∷◌}
-use Rattle.snmp_agent.specs.{private.Answering.held, private.Standing.place_of}
+use Rattle.snmp_agent.specs.{private.Answering.held, private.Cursor.cursor_of}
 use Rattle.snmp_agent.proofs.Rounds.{AreLeft}
 use Rattle.snmp_agent.proofs.bulk.append_column.Given as goal
 
@@ -8,5 +8,5 @@ use Rattle.snmp_agent.proofs.bulk.append_column.Given as goal
 abbrev pub invariant-rounds : goal.invariant-rounds
 invariant-rounds l = record {
   rounds : AreLeft l.table (l.fn.asked ∷ []) l.repetitions (held l.fn.reply l.fn.out) l.counter (held l.reply l.out);
-  place : l.place ≡ place_of l.table l.counter l.fn.asked.name;
+  cursor : l.cursor ≡ cursor_of l.table l.counter l.fn.asked.name;
 }

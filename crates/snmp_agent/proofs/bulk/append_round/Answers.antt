@@ -5,43 +5,43 @@ use Rattle.std.specs.List.{list_all}
 use Rattle.std.proofs.lemmas.List.{append-nil, drop_all, map-append, take_all}
 use Rattle.snmp_wire.specs.Message.{VarBind}
 use Rattle.snmp_agent.specs.private.Answering.{Held, fill, held}
-use Rattle.snmp_agent.specs.private.Standing.{Standing, given_in, is_over, next_at, passed, place_of, places_of}
-use Rattle.snmp_agent.proofs.{Fronts.fill_both, Fronts.fill_full, Lists.still_there}
+use Rattle.snmp_agent.specs.private.Cursor.{CursorView, bindings_in_round, is_over, next_at, passed, cursor_of, cursors_of}
+use Rattle.snmp_agent.proofs.{ReplyBindings.fill_both, ReplyBindings.fill_full, Lists.still_there}
 use Rattle.snmp_agent.proofs.bulk.append_round.Goals as goal
 use Rattle.snmp_agent.proofs.bulk.append_round.Goals.{After-append_next-reply, After-append_next-reply-in-Some, In_default, then-are_over}
 use Rattle.snmp_agent.proofs.bulk.append_round.Goals.{else-are_over}
 
 -- ---- the positions
 
-pub places-init : goal.places-init
-places-init c = record { moved = refl; rest = refl }
+pub cursors-init : goal.cursors-init
+cursors-init c = record { moved = refl; rest = refl }
 
--- the reply after one more position
-next : (c : After-append_next-reply) → fill (held c.args.reply c.args.out.now) (map next_at c.args.places.now)
-    ≡ fill (held c.append_next-reply.result c.append_next-reply.new.out) (map next_at (drop (c.places.place-index + 1) c.args.places.now))
+-- appending the results at all positions is appending those after this position to the reply that has the result at this one
+next : (c : After-append_next-reply) → fill (held c.args.reply c.args.out.now) (map next_at c.args.cursors.now)
+    ≡ fill (held c.append_next-reply.result c.append_next-reply.new.out) (map next_at (drop (c.cursors.cursor-index + 1) c.args.cursors.now))
 next c = grind (arith, common_steps, still_there)
 
-pub places-preserved : goal.places-preserved
-places-preserved c =
-    let i = c.places.place-index in
-    let low : i < length c.args.places.now = omega (arith, c.places-test.true, c.places.auto.places) in
+pub cursors-preserved : goal.cursors-preserved
+cursors-preserved c =
+    let i = c.cursors.cursor-index in
+    let low : i < length c.args.cursors.now = omega (arith, c.cursors-test.true, c.cursors.auto.cursors) in
     record {
-      moved = ap (slice_set c.places.places i) (c.append_next-reply.ensures.moved ∙ ap passed (sym c.place-item.is))
-          ∙ map_over_more passed c.args.places.now c.places.places i c.place-item.result low c.places.invariant.moved c.place-item.is;
-      rest = next (goal.at.places-preserved c).After-append_next-reply;
+      moved = ap (slice_set c.cursors.cursors i) (c.append_next-reply.ensures.moved ∙ ap passed (sym c.cursor-item.is))
+          ∙ map_over_more passed c.args.cursors.now c.cursors.cursors i c.cursor-item.result low c.cursors.invariant.moved c.cursor-item.is;
+      rest = next (goal.at.cursors-preserved c).After-append_next-reply;
     }
 
-parts : (old : Held) (front back : List Standing) → fill old (map next_at (front ++ back)) ≡ fill (fill old (map next_at front)) (map next_at back)
-parts old front back = ap (fill old) (map-append next_at front back) ∙ fill_both old (map next_at front) (map next_at back)
+parts : (old : Held) (prefix back : List CursorView) → fill old (map next_at (prefix ++ back)) ≡ fill (fill old (map next_at prefix)) (map next_at back)
+parts old prefix back = ap (fill old) (map-append next_at prefix back) ∙ fill_both old (map next_at prefix) (map next_at back)
 
 pub returns-then-is_full-clause-filled : goal.returns-then-is_full-clause-filled
 returns-then-is_full-clause-filled c =
     let now : Held = held c.append_next-reply.result c.append_next-reply.new.out in
-    let others = map next_at (places_of c.args.table.now c.args.round c.args.others) in
+    let others = map next_at (cursors_of c.args.table.now c.args.round c.args.others) in
     let full = c.is_full.ensures.0 c.if-is_full.true in
-    sym (parts (held c.args.reply c.args.out.now) c.args.places.now (places_of c.args.table.now c.args.round c.args.others)
+    sym (parts (held c.args.reply c.args.out.now) c.args.cursors.now (cursors_of c.args.table.now c.args.round c.args.others)
     ∙ ap (λ (h : Held). fill h others) (next (goal.at.returns-then-is_full-clause-filled c).After-append_next-reply
-    ∙ fill_full now (map next_at (drop (c.places.place-index + 1) c.args.places.now)) full)
+    ∙ fill_full now (map next_at (drop (c.cursors.cursor-index + 1) c.args.cursors.now)) full)
     ∙ fill_full now others full)
 
 pub returns-then-is_full-clause-last : goal.returns-then-is_full-clause-last
@@ -51,27 +51,27 @@ returns-then-is_full-clause-last c = λ _. inl (c.is_full.ensures.0 c.if-is_full
 
 pub others-init : goal.others-init
 others-init c =
-    let places = c.args.places.now in
-    let others = places_of c.args.table.now c.args.round c.args.others in
-    let all : length places ≤ c.places.place-index = omega (arith, c.places-test.false, c.places.auto.places) in
+    let cursors = c.args.cursors.now in
+    let others = cursors_of c.args.table.now c.args.round c.args.others in
+    let all : length cursors ≤ c.cursors.cursor-index = omega (arith, c.cursors-test.false, c.cursors.auto.cursors) in
     record {
-      rest = parts (held c.args.reply c.args.out.now) places others
+      rest = parts (held c.args.reply c.args.out.now) cursors others
           ∙ ap (λ (h : Held). fill h (map next_at others))
-          (c.places.invariant.rest
-          ∙ ap (λ (ps : List Standing). fill (held c.places.reply c.places.out) (map next_at ps)) (drop_all c.places.place-index places all));
-      over = list_all-append is_over places others ∙ ap (λ b. b && list_all is_over others) (sym c.are_at_end-are_over.ensures);
+          (c.cursors.invariant.rest
+          ∙ ap (λ (ps : List CursorView). fill (held c.cursors.reply c.cursors.out) (map next_at ps)) (drop_all c.cursors.cursor-index cursors all));
+      over = list_all-append is_over cursors others ∙ ap (λ b. b && list_all is_over others) (sym c.are_at_end-are_over.ensures);
     }
 
--- the reply after one more name
+-- appending the bindings of the whole round is appending those of the names that are left to the reply so far
 more : (c : After-append_next-reply-in-Some) → fill (held c.args.reply c.args.out.now)
-    (map next_at (c.args.places.now ++ places_of c.args.table.now c.args.round c.args.others))
-    ≡ fill (held c.append_next-reply-in-Some.result c.append_next-reply-in-Some.new.out) (given_in c.args.table.now c.args.round c.next_ref.new.self)
+    (map next_at (c.args.cursors.now ++ cursors_of c.args.table.now c.args.round c.args.others))
+    ≡ fill (held c.append_next-reply-in-Some.result c.append_next-reply-in-Some.new.out) (bindings_in_round c.args.table.now c.args.round c.next_ref.new.self)
 more c = grind (arith, common_steps)
 
 pub others-preserved : goal.others-preserved
 others-preserved c =
-    let at = c.after_rounds-place.ensures ∙ ap (place_of c.args.table.now c.args.round) c.name.ensures in
-    let rest = list_all is_over (places_of c.args.table.now c.args.round c.next_ref.new.self) in
+    let at = c.after_rounds-cursor.ensures ∙ ap (cursor_of c.args.table.now c.args.round) c.name.ensures in
+    let rest = list_all is_over (cursors_of c.args.table.now c.args.round c.next_ref.new.self) in
     let last = c.is_at_end-is_last.ensures ∙ ap is_over at in
     let now : c.if-are_over.are_over ≡ (c.others.are_over && c.is_at_end-is_last.result) = elim c.if-are_over.branch [
       | then-are_over w ↦ w.are_over-is ∙ sym (ap (λ b. b && c.is_at_end-is_last.result) w.if-are_over.true)
@@ -80,14 +80,15 @@ others-preserved c =
     record {
       rest = more (goal.at.others-preserved c).After-append_next-reply-in-Some;
       over = c.others.invariant.over
-          ∙ ap (λ (bs : List VarBind). c.others.are_over && list_all is_over (places_of c.args.table.now c.args.round bs)) c.in-Some.ensures.some
+          ∙ ap (λ (bs : List VarBind). c.others.are_over && list_all is_over (cursors_of c.args.table.now c.args.round bs)) c.in-Some.ensures.some
           ∙ sym (ap (λ b. b && rest) (now ∙ ap (λ b. c.others.are_over && b) last) ∙ and_assoc c.others.are_over _ rest);
     }
 
 pub returns-then-is_full-2-clause-filled : goal.returns-then-is_full-2-clause-filled
 returns-then-is_full-2-clause-filled c =
     sym (more (goal.at.returns-then-is_full-2-clause-filled c).After-append_next-reply-in-Some
-    ∙ fill_full (held c.append_next-reply-in-Some.result c.append_next-reply-in-Some.new.out) (given_in c.args.table.now c.args.round c.next_ref.new.self)
+    ∙ fill_full (held c.append_next-reply-in-Some.result c.append_next-reply-in-Some.new.out)
+    (bindings_in_round c.args.table.now c.args.round c.next_ref.new.self)
     (c.is_full-in-Some.ensures.0 c.if-is_full-2.true))
 
 pub returns-then-is_full-2-clause-last : goal.returns-then-is_full-2-clause-last
@@ -98,10 +99,10 @@ returns-then-is_full-2-clause-last c = λ _. inl (c.is_full-in-Some.ensures.0 c.
 pub returns-clause-filled : goal.returns-clause-filled
 returns-clause-filled c = grind (arith, common_steps)
 
-over : (c : In_default) → list_all is_over (c.args.places.now ++ places_of c.args.table.now c.args.round c.args.others) ≡ c.others.are_over
+over : (c : In_default) → list_all is_over (c.args.cursors.now ++ cursors_of c.args.table.now c.args.round c.args.others) ≡ c.others.are_over
 over c =
     c.others.invariant.over
-    ∙ ap (λ (bs : List VarBind). c.others.are_over && list_all is_over (places_of c.args.table.now c.args.round bs)) c.in_default.ensures.none.0
+    ∙ ap (λ (bs : List VarBind). c.others.are_over && list_all is_over (cursors_of c.args.table.now c.args.round bs)) c.in_default.ensures.none.0
     ∙ and-true c.others.are_over
 
 pub returns-clause-last : goal.returns-clause-last

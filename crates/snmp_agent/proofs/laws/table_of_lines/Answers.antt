@@ -1,4 +1,4 @@
-use Rattle.snmp_agent.proofs.Made.{table_of_lines}
+use Rattle.snmp_agent.proofs.GoodLines.{table_of_lines}
 use Rattle.snmp_agent.proofs.laws.table_of_lines.Goals as goal
 
 pub returns : goal.returns

@@ -1,7 +1,7 @@
 use Rattle.std.proofs.Common.{◌≡◌, ◌<◌, ◌+◌, ℕ, true, false, take, drop, map, sym, ◌∙◌, arith, below_more, refl, length}
 use Rattle.std.specs.{List.list_any, Ordering.nat_cmp, Ordering.eq_by_cmp, Cmp.Lexicographic.slice_cmp}
 use Rattle.std.proofs.lemmas.List.{take-append-drop}
-use Rattle.snmp_agent.proofs.Finding.{list_any-items, no_beginning}
+use Rattle.snmp_agent.proofs.RowSearch.{list_any-items, no_beginning}
 use Rattle.snmp_agent.proofs.table.has_beginning.Goals as goal
 
 pub returns-then-contains : goal.returns-then-contains

@@ -1,5 +1,5 @@
 use Rattle.std.proofs.Common.{◌≡◌, ◌++◌, IfSome, arith, option_map, subst, take}
-use Rattle.snmp_io.proofs.ReadLemmas.{all_is_left}
+use Rattle.snmp_io.proofs.ReadTexts.{all_is_left}
 use Rattle.snmp_io.proofs.machine.read_whole.Goals as goal
 
 pub returns-in-Ok-clause-whole : goal.returns-in-Ok-clause-whole

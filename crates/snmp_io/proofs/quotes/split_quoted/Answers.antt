@@ -2,7 +2,7 @@ use Rattle.std.proofs.Common.{◌≡◌, ◌+◌, ℕ, Bool, true, false, not, L
 use Rattle.std.specs.Option.{is_some}
 use Rattle.std.proofs.lemmas.List.{at_drop_more, take_all, take-append-drop}
 use Rattle.snmp_io.specs.QuoteLaws.{HasNoneAfter, is_closed, none_outside}
-use Rattle.snmp_io.proofs.{OutputLemmas.rest_whole, QuoteLemmas.IsSoFar, QuoteLemmas.read_more, QuoteLemmas.read_nothing}
+use Rattle.snmp_io.proofs.{OutputPieces.rest_whole, QuotedTexts.IsSoFar, QuotedTexts.read_more, QuotedTexts.read_nothing}
 use Rattle.snmp_io.proofs.quotes.split_quoted.Goals as goal
 use Rattle.snmp_io.proofs.quotes.split_quoted.Goals.{else-is_none-via-then-is_none+else-octet-stop, else-is_none-via-else-is_none}
 

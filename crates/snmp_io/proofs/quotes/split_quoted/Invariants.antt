@@ -1,4 +1,4 @@
-use Rattle.snmp_io.proofs.QuoteLemmas.{IsSoFar}
+use Rattle.snmp_io.proofs.QuotedTexts.{IsSoFar}
 use Rattle.snmp_io.proofs.quotes.split_quoted.Given as goal
 
 abbrev pub invariant-octets : goal.invariant-octets

@@ -1,7 +1,7 @@
 use Rattle.std.proofs.Common.{◌≡◌, ◌+◌, ℕ, List, ◌∷◌, ◌++◌, Option, None, false, ap, sym, ◌∙◌, refl, take, drop, get_or, subst}
 use Rattle.std.proofs.lemmas.List.{at_drop_more, take_all, take-append-drop}
 use Rattle.snmp_io.specs.{Quotes.is_quote, Quotes.open_after, QuoteLaws.HasNoneAfter, QuoteLaws.is_closed, QuoteLaws.none_outside}
-use Rattle.snmp_io.proofs.{OutputLemmas.rest_whole, QuoteLemmas.IsSoFar, QuoteLemmas.read_more, QuoteLemmas.read_nothing}
+use Rattle.snmp_io.proofs.{OutputPieces.rest_whole, QuotedTexts.IsSoFar, QuotedTexts.read_more, QuotedTexts.read_nothing}
 use Rattle.snmp_io.proofs.quotes.split_unquoted.Goals as goal
 
 opens_none : (octet : ℕ) → is_quote octet ≡ false → open_after None octet ≡ None

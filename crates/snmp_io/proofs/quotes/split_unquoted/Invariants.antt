@@ -1,5 +1,5 @@
 use Rattle.std.proofs.Common.{None}
-use Rattle.snmp_io.proofs.QuoteLemmas.{IsSoFar}
+use Rattle.snmp_io.proofs.QuotedTexts.{IsSoFar}
 use Rattle.snmp_io.proofs.quotes.split_unquoted.Given as goal
 
 abbrev pub invariant-octets : goal.invariant-octets

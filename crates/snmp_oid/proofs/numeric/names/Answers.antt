@@ -1,4 +1,4 @@
-use Rattle.snmp_oid.proofs.{Parsing.one_name, Written.written_is_name}
+use Rattle.snmp_oid.proofs.{ParseState.one_name, Written.written_is_name}
 use Rattle.snmp_oid.proofs.numeric.names.Goals as goal
 
 pub returns : goal.returns

@@ -1,6 +1,6 @@
 use Rattle.std.proofs.Common.{◌≡◌, ◌+◌, ◌-◌, ◌*◌, [], ◌∷◌, drop, get_or, true, Some, None, sym, ◌∙◌, ap, arith, drop_of_length-le}
 use Rattle.std.specs.Char.{is_ascii_digit}
-use Rattle.snmp_oid.proofs.{Numeral.front_more, Parsing.part_is_read}
+use Rattle.snmp_oid.proofs.{Numeral.prefix_more, ParseState.part_is_read}
 use Rattle.snmp_oid.proofs.numeric.read_digits.Goals as goal
 
 pub digits-preserved : goal.digits-preserved
@@ -8,7 +8,7 @@ digits-preserved c =
     let next : c.digits.number * 10 + c.from.result ≡ c.digits.number * 10 + (get_or c.args.text.now c.digits.count 0 - 48) =
     omega (arith, c.from.ensures) in
     let is_digit : is_ascii_digit (get_or c.args.text.now c.digits.count 0) ≡ true = cc (c.is_ascii_digit.ensures.value, c.if-is_ascii_digit.true) in
-    rw next (front_more c.args.text.now c.digits.count c.digits.number (omega arith) is_digit
+    rw next (prefix_more c.args.text.now c.digits.count c.digits.number (omega arith) is_digit
     (omega (arith, c.type_inv.text c.digits.count)) c.digits.invariant)
 
 pub returns-in-None : goal.returns-in-None

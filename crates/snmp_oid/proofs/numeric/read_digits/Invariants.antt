@@ -1,9 +1,9 @@
 use Rattle.std.proofs.Common.{length, ◌-◌}
-use Rattle.snmp_oid.proofs.Numeral.{IsFrontRead}
+use Rattle.snmp_oid.proofs.Numeral.{IsLeadingNumber}
 use Rattle.snmp_oid.proofs.numeric.read_digits.Given as goal
 
 abbrev pub invariant-digits : goal.invariant-digits
-invariant-digits l = IsFrontRead l.text l.count l.number
+invariant-digits l = IsLeadingNumber l.text l.count l.number
 
 abbrev pub decreases-digits : goal.decreases-digits
 decreases-digits l = length l.text - l.count

@@ -3,8 +3,8 @@ use Rattle.std.proofs.Common.{◌≡◌, ℕ, ◌-◌, ◌<◌, inl, ◌∙◌, 
 use Rattle.std.proofs.Common.{OnErr, ◌↔◌, refl, sym, ap, arith}
 use Rattle.std.specs.Result.{is_err}
 use Rattle.snmp_oid.specs.{declared.oid.OidError.OidError, Numeric.IsNumericName, Numeric.IsFirstBadPart}
-use Rattle.snmp_oid.proofs.Parsing.{IsParsedTo, Keeps, dot_alone, parse_begins, parse_more, bad_part_here, bad_part_no_name, one_bad_part}
-use Rattle.snmp_oid.proofs.Parsing.{parsed_name, parsed_only, parsed_short, parse_digits}
+use Rattle.snmp_oid.proofs.ParseState.{IsParsedTo, Keeps, dot_alone, parse_begins, parse_more, bad_part_here, bad_part_no_name, one_bad_part}
+use Rattle.snmp_oid.proofs.ParseState.{parsed_name, parsed_only, parsed_short, parse_digits}
 use Rattle.snmp_oid.proofs.numeric.read_numeric.Goals as goal
 
 pub returns-then-is_dot-clause-only : goal.returns-then-is_dot-clause-only
@@ -70,7 +70,7 @@ parts-preserved c =
 pub parts-preserved-in-Some-read_three : goal.parts-preserved-in-Some-read_three
 parts-preserved-in-Some-read_three c = parse_digits (rw c.in-Some.is at c.parts.invariant) c.in-Some-read_three.ensures.three
 
--- at the end
+-- at its end, the whole text is read, and it has too many numbers
 ended_long : (c : goal.Then-too_long) → IsParsedTo c.args.text.now None c.parts.oid true
 ended_long c = rw (c.in_default.is, c.if-too_long.true) at c.parts.invariant
 

@@ -1,5 +1,5 @@
 use Rattle.std.proofs.Common.{◌+◌, length, List, ℕ, Option, Some, None, option_map}
-use Rattle.snmp_oid.proofs.Parsing.{IsParsedTo}
+use Rattle.snmp_oid.proofs.ParseState.{IsParsedTo}
 use Rattle.snmp_oid.proofs.numeric.read_numeric.Given as goal
 
 abbrev pub invariant-parts : goal.invariant-parts

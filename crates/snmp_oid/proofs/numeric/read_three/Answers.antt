@@ -5,16 +5,16 @@ use Rattle.std.specs.Char.{is_ascii_digit}
 use Rattle.snmp_oid.specs.Numeric.{dot, AreDigitsRead}
 use Rattle.snmp_oid.proofs.numeric.read_three.Goals as goal
 
--- the first six octets of a text
-front_six : (text : List ℕ) → 6 ≤ length text
+-- a text of at least six octets is its first six, followed by the others
+prefix_six : (text : List ℕ) → 6 ≤ length text
     → text ≡ get_or text 0 0 ∷ get_or text 1 0 ∷ get_or text 2 0 ∷ get_or text 3 0 ∷ get_or text 4 0 ∷ get_or text 5 0 ∷ drop 6 text
-front_six [] long = absurd (omega arith)
-front_six (a ∷ []) long = absurd (omega arith)
-front_six (a ∷ b ∷ []) long = absurd (omega arith)
-front_six (a ∷ b ∷ c ∷ []) long = absurd (omega arith)
-front_six (a ∷ b ∷ c ∷ d ∷ []) long = absurd (omega arith)
-front_six (a ∷ b ∷ c ∷ d ∷ e ∷ []) long = absurd (omega arith)
-front_six (a ∷ b ∷ c ∷ d ∷ e ∷ f ∷ rest) long = refl
+prefix_six [] long = absurd (omega arith)
+prefix_six (a ∷ []) long = absurd (omega arith)
+prefix_six (a ∷ b ∷ []) long = absurd (omega arith)
+prefix_six (a ∷ b ∷ c ∷ []) long = absurd (omega arith)
+prefix_six (a ∷ b ∷ c ∷ d ∷ []) long = absurd (omega arith)
+prefix_six (a ∷ b ∷ c ∷ d ∷ e ∷ []) long = absurd (omega arith)
+prefix_six (a ∷ b ∷ c ∷ d ∷ e ∷ f ∷ rest) long = refl
 
 pushed : (before one two after : List ℕ) (a b c : ℕ) → one ≡ before ++ a ∷ [] → two ≡ one ++ b ∷ [] → after ≡ two ++ c ∷ []
     → after ≡ before ++ a ∷ b ∷ c ∷ []
@@ -36,4 +36,4 @@ three_read text rest before after a p b q c r first second third is dot_a dot_b 
 }
 
 pub returns-in-46-clause-three : goal.returns-in-46-clause-three
-returns-in-46-clause-three c = grind (arith, common_steps, take_all, length-drop, three_read, front_six, pushed)
+returns-in-46-clause-three c = grind (arith, common_steps, take_all, length-drop, three_read, prefix_six, pushed)

@@ -1,5 +1,5 @@
 use Rattle.std.proofs.{Common.◌≡◌, Common.◌∙◌, Common.arith}
-use Rattle.snmp_oid.proofs.Comparing.{longer_after}
+use Rattle.snmp_oid.proofs.Comparisons.{longer_after}
 use Rattle.snmp_oid.proofs.oid.compare_numbers.Goals as goal
 use Rattle.snmp_oid.proofs.oid.compare_numbers.Goals.{then-begin_alike, else-begin_alike}
 

@@ -1,4 +1,4 @@
-use Rattle.snmp_oid.proofs.IdentifierLemmas.{precedes_asymmetric, precedes_transitive, precedes_total}
+use Rattle.snmp_oid.proofs.Identifiers.{precedes_asymmetric, precedes_transitive, precedes_total}
 use Rattle.snmp_oid.proofs.oid.strict_order.Goals as goal
 
 pub returns : goal.returns

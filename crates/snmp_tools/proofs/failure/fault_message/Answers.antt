@@ -1,7 +1,7 @@
 use Rattle.std.proofs.Common.{◌≡◌, ◌++◌, ℕ, List, codes, subst, rules}
 use Rattle.snmp_io.specs.Draft.{Adds}
 use Rattle.std.specs.Fmt.{signed_decimal}
-use Rattle.snmp_tools.specs.Message.{status_name}
+use Rattle.snmp_tools.specs.FaultText.{status_name}
 use Rattle.snmp_tools.proofs.Texts.{adds_after}
 use Rattle.snmp_tools.proofs.failure.fault_message.Goals as goal
 

@@ -9,9 +9,9 @@ returns-in_default-clause-err c = grind (arith, common_steps, first_unsent)
 
 pub names-preserved : goal.names-preserved
 names-preserved c =
-    All-more (λ o. IsWire (wire o)) c.args.names.now c.names.place c.index-names-place.result c.names-test.true c.names.invariant
-    (subst (λ o. IsWire (wire o)) c.index-names-place.is (c.in-Ok.ensures.variant.0 refl))
+    All-more (λ o. IsWire (wire o)) c.args.names.now c.names.index c.index-names-index.result c.names-test.true c.names.invariant
+    (subst (λ o. IsWire (wire o)) c.index-names-index.is (c.in-Ok.ensures.variant.0 refl))
 
 pub returns-clause-sendable : goal.returns-clause-sendable
 returns-clause-sendable c =
-    All-same (λ o. IsWire (wire o)) c.args.names.now _ (sym (take_all c.names.place c.args.names.now c.names-test.false)) c.names.invariant
+    All-same (λ o. IsWire (wire o)) c.args.names.now _ (sym (take_all c.names.index c.args.names.now c.names-test.false)) c.names.invariant

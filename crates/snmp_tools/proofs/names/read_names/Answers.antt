@@ -1,7 +1,7 @@
 use Rattle.std.proofs.Common.{arith, ◌≡◌, ◌⊎◌, inr}
 use Rattle.std.proofs.lemmas.Grind.{common_steps}
 use Rattle.snmp_words.specs.Words.{texts_at}
-use Rattle.snmp_tools.specs.{Asking.NameFails, Message.fault_of, Message.out_of_memory, Question.HasMeaning}
+use Rattle.snmp_tools.specs.{Asking.NameFails, FaultText.fault_of, FaultText.out_of_memory, Question.HasMeaning}
 use Rattle.snmp_io.specs.Steps.{IsFirstToFail}
 use Rattle.snmp_tools.proofs.{Steps.first_unnamed, Steps.more_names, Wholes.if_err}
 use Rattle.snmp_tools.proofs.names.read_names.Goals as goal

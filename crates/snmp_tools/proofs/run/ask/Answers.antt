@@ -1,6 +1,6 @@
 use Rattle.std.proofs.{Common.arith, Common.ap, Common.refl, lemmas.Grind.common_steps}
-use Rattle.snmp_tools.specs.{load.Message.refusal_of, Outcome.loaded, Outcome.not_loaded, private.Planned.ask_words, Seen.seen}
-use Rattle.snmp_tools.specs.Message.{fault_of, modules_fault}
+use Rattle.snmp_tools.specs.{load.FaultText.refusal_of, AskResult.loaded, AskResult.not_loaded, private.Planned.ask_words, Seen.seen}
+use Rattle.snmp_tools.specs.FaultText.{fault_of, modules_fault}
 use Rattle.snmp_tools.proofs.Steps.{at_mibs}
 use Rattle.snmp_tools.proofs.Wholes.{loads_from, loads_of, mibs_fail, outcome_as, outcome_err}
 use Rattle.snmp_tools.proofs.run.ask.Goals as goal
@@ -28,4 +28,4 @@ returns g c =
     let files = g.F.Files.text_at c.args.files.now in
     let is = loads_from files _ _ _ _ _ c.deref.ensures.value c.in_ok-tree.ensures.loaded in
     loaded _ is.warnings is.loaded
-    (loads_of (g.F.ModuleLoader.loads c.args.files.now) _ _ _ _ c.deref.ensures.value c.in_ok-tree.ensures.loads) is.told (c.ask_by.ensures _)
+    (loads_of (g.F.ModuleLoader.loads c.args.files.now) _ _ _ _ c.deref.ensures.value c.in_ok-tree.ensures.loads) is.was_reported (c.ask_by.ensures _)

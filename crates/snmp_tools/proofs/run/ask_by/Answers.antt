@@ -2,8 +2,8 @@ use Rattle.std.proofs.Common.{◌+◌, ◌∙◌, ap, arith, inl, inr, refl, sub
 use Rattle.snmp_io.specs.Output.{Stream}
 use Rattle.snmp_net.specs.Address.{address_of, table, udp}
 use Rattle.snmp_walk.specs.{Traffic.Traffic, declared.end.WalkEnd.WalkEnd}
-use Rattle.snmp_tools.specs.{Answer.end_in_memory, Message.fault_of, Message.outcome_of, Question.counts_in, Seen.seen, private.Planned.plan_of}
-use Rattle.snmp_tools.specs.Outcome.{IsFinished, asked, asked_over, not_begun, not_linked, refused}
+use Rattle.snmp_tools.specs.{Answer.end_in_memory, FaultText.fault_of, FaultText.outcome_of, Question.counts_in, Seen.seen, private.Planned.plan_of}
+use Rattle.snmp_tools.specs.AskResult.{IsFinished, asked, asked_over, not_begun, not_linked, refused}
 use Rattle.snmp_tools.proofs.{Asked.is_asked, Asked.printed_in, Steps.names_refused, Steps.unreached, Steps.unsent, Wholes.outcome_err}
 use Rattle.snmp_tools.proofs.run.ask_by.Goals as goal
 

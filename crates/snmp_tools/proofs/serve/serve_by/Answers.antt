@@ -1,5 +1,5 @@
 use Rattle.std.proofs.Common.{◌∙◌, refl}
-use Rattle.snmp_tools.specs.{serve.Outcome.bound, serve.Outcome.not_bound, serve.Outcome.refused, Message.fault_of}
+use Rattle.snmp_tools.specs.{serve.ServeResult.bound, serve.ServeResult.not_bound, serve.ServeResult.refused, FaultText.fault_of}
 use Rattle.snmp_tools.proofs.Wholes.{outcome_err}
 use Rattle.snmp_tools.proofs.serve.serve_by.Goals as goal
 

@@ -1,16 +1,16 @@
 use Rattle.std.proofs.Common.{◌≡◌, ◌+◌, ◌∙◌, [], List, ℕ, Some, ap, refl, subst, sym, take}
 use Rattle.std.proofs.{Common.arith, lemmas.Grind.common_steps, lemmas.List.take_all}
-use Rattle.snmp_io.specs.{Output.extended, Streams.extended-nil}
+use Rattle.snmp_io.specs.{Output.stream_after, Streams.stream_after-nil}
 use Rattle.snmp_words.specs.Words.{texts_at}
 use Rattle.smi_tree.specs.Tree.{Contents}
-use Rattle.snmp_tools.specs.translate.Outcome.{IsPrinting}
-use Rattle.snmp_tools.proofs.Printing.{IsTakenOrWaits, all_written, fails_within, more_waits, stops_at, waiting_taken}
+use Rattle.snmp_tools.specs.translate.TranslateResult.{IsPrinting}
+use Rattle.snmp_tools.proofs.PrintedNames.{IsTakenOrWaits, all_written, fails_within, more_waits, stops_at, waiting_taken}
 use Rattle.snmp_tools.proofs.Wholes.{outcome_err}
 use Rattle.snmp_tools.proofs.translate.print_names.Goals as goal
 use Rattle.snmp_tools.proofs.translate.print_names.Goals.{then-len-ge-ENOUGH_WAITING+in_ok-write_waiting-2, else-len-ge-ENOUGH_WAITING}
 
 pub names-init : goal.names-init
-names-init g c = ([], c.new-lines.ensures.items, sym (extended-nil (g.O.Output.stream c.args.out.now)))
+names-init g c = ([], c.new-lines.ensures.items, sym (stream_after-nil (g.O.Output.stream c.args.out.now)))
 
 pub names-preserved : goal.names-preserved
 names-preserved g c =
@@ -46,7 +46,7 @@ returns-in-Err g c =
     let before = g.O.Output.stream c.args.out.now in
     let now = g.O.Output.stream c.names.out in
     let waits = waiting_taken mib c.args.style before now (texts_at (take c.names.name-index c.args.names.now)) _ c.names.lines.items c.names.invariant
-    (c.in_ok-write_waiting.ensures.written.0 ∙ ap (extended now) c.in-Err.ensures.unchanged_on_error) in
+    (c.in_ok-write_waiting.ensures.written.0 ∙ ap (stream_after now) c.in-Err.ensures.unchanged_on_error) in
     stops_at mib c.args.style before (g.O.Output.stream c.write_waiting.new.out) c.args.names.now c.names.name-index _ _ c.names-test.true waits
     c.in-Err.ensures.refused
 

@@ -1,6 +1,6 @@
 use Rattle.std.proofs.Common.{take}
 use Rattle.snmp_words.specs.Words.{texts_at}
-use Rattle.snmp_tools.proofs.Printing.{IsTakenOrWaits}
+use Rattle.snmp_tools.proofs.PrintedNames.{IsTakenOrWaits}
 use Rattle.snmp_tools.proofs.translate.print_names.Given as goal
 
 abbrev pub invariant-names : goal.invariant-names

@@ -1,7 +1,7 @@
 use Rattle.std.proofs.Common.{◌≡◌, ℕ, List, Bor, inr, refl, subst}
-use Rattle.snmp_tools.specs.{load.Message.refusal_of, Message.fault_of, Message.modules_fault, Message.outcome_of}
+use Rattle.snmp_tools.specs.{load.FaultText.refusal_of, FaultText.fault_of, FaultText.modules_fault, FaultText.outcome_of}
 use Rattle.snmp_words.specs.Words.{texts_at, translate_words}
-use Rattle.snmp_tools.specs.translate.Outcome.{IsPrinting, ran, refused}
+use Rattle.snmp_tools.specs.translate.TranslateResult.{IsPrinting, ran, refused}
 use Rattle.snmp_tools.proofs.{Refusals.modules_fail, Wholes.loads_from, Wholes.loads_of, Wholes.mibs_fail, Wholes.outcome_as, Wholes.outcome_err}
 use Rattle.snmp_tools.proofs.translate.translate.Goals as goal
 

@@ -1,5 +1,5 @@
 use Rattle.std.proofs.Common.{◌+◌, arith}
-use Rattle.snmp_walk.proofs.{GetEndLemmas.no_names, GetEndLemmas.some_names, GetFactLemmas.got_none, GetFactLemmas.got_too_long}
+use Rattle.snmp_walk.proofs.{GetEnds.no_names, GetEnds.some_names, Gets.got_none, Gets.got_too_long}
 use Rattle.snmp_walk.proofs.get.run_get.Goals as goal
 
 pub returns-then-is_empty : goal.returns-then-is_empty

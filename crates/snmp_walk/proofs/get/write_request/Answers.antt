@@ -1,5 +1,5 @@
 use Rattle.std.proofs.{lemmas.Grind.common_steps, Common.arith, Common.to_z, Common.⊎_elim, lemmas.Int.to_z_pos, lemmas.Bool.cases_lt}
-use Rattle.snmp_walk.proofs.GetLemmas.{pieces_of, size_of}
+use Rattle.snmp_walk.proofs.GetNames.{pieces_of, size_of}
 use Rattle.snmp_walk.proofs.get.write_request.Goals as goal
 
 pub returns-clause-none : goal.returns-clause-none

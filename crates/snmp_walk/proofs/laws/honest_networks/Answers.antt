@@ -1,4 +1,4 @@
-use Rattle.snmp_walk.proofs.NetworkLemmas.{replies_over}
+use Rattle.snmp_walk.proofs.Networks.{replies_over}
 use Rattle.snmp_walk.proofs.laws.honest_networks.Goals as goal
 
 pub returns : goal.returns

@@ -1,5 +1,5 @@
-use Rattle.snmp_walk.proofs.LawLemmas.{is_row_below, has_row_below, is_row_left, has_row_left, below_ordered, left_ordered}
-use Rattle.snmp_walk.proofs.{JoinLemmas.variables_are, TableLemmas.rest_from_wire}
+use Rattle.snmp_walk.proofs.Ordered.{is_row_below, has_row_below, is_row_left, has_row_left, below_ordered, left_ordered}
+use Rattle.snmp_walk.proofs.{Variables.variables_are, OneTable.rest_from_wire}
 use Rattle.snmp_agent.specs.table.Listing.{variables}
 use Rattle.snmp_walk.proofs.laws.instances_below.Goals as goal
 

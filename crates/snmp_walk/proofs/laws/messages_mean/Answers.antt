@@ -1,6 +1,6 @@
 use Rattle.std.proofs.Common.{sym, ◌∙◌}
-use Rattle.snmp_walk.specs.private.Taken.{take_of}
-use Rattle.snmp_walk.proofs.JudgedLemmas.{found, only}
+use Rattle.snmp_walk.specs.private.ComputedStep.{take_of}
+use Rattle.snmp_walk.proofs.StepRules.{found, only}
 use Rattle.snmp_walk.proofs.laws.messages_mean.Goals as goal
 
 pub returns-clause-found : goal.returns-clause-found

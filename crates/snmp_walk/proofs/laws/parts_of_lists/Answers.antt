@@ -2,7 +2,7 @@ use Rattle.std.proofs.Common.{List, [], ◌∷◌, ◌++◌, inl, inr, sym, subs
 use Rattle.snmp_oid.specs.Identifier.{Precedes}
 use Rattle.snmp_wire.specs.Message.{VarBind}
 use Rattle.snmp_walk.specs.{Link.OneOf, Ordered.AreOrdered}
-use Rattle.snmp_walk.proofs.MemberLemmas.{one_append, one_left, one_right}
+use Rattle.snmp_walk.proofs.Members.{one_append, one_left, one_right}
 use Rattle.snmp_walk.proofs.laws.parts_of_lists.Goals as goal
 
 parts_ordered : (xs ys : List VarBind) → AreOrdered (xs ++ ys) → AreOrdered xs × AreOrdered ys

@@ -1,6 +1,6 @@
 use Rattle.snmp_wire.specs.Canon.{canon}
 use Rattle.snmp_walk.specs.Request.{request_of}
-use Rattle.snmp_walk.proofs.{HonestLemmas.request_in_range, RequestLemmas.request_short}
+use Rattle.snmp_walk.proofs.{OwnReply.request_in_range, RequestParts.request_short}
 use Rattle.snmp_walk.proofs.laws.requests_are_short.Goals as goal
 
 pub returns-clause-short : goal.returns-clause-short

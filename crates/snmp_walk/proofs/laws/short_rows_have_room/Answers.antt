@@ -1,4 +1,4 @@
-use Rattle.snmp_walk.proofs.ShortLemmas.{rows_have_room}
+use Rattle.snmp_walk.proofs.ShortRows.{rows_have_room}
 use Rattle.snmp_walk.proofs.laws.short_rows_have_room.Goals as goal
 
 pub returns : goal.returns

@@ -1,6 +1,6 @@
 use Rattle.std.proofs.Common.{rules, List, ℕ, arith, sym, subst}
 use Rattle.snmp_wire.specs.{ber.Length.IsElement, Spelling.sequence_tag}
-use Rattle.snmp_walk.proofs.LooseLemmas.{long_content}
+use Rattle.snmp_walk.proofs.LooseLinks.{long_content}
 use Rattle.snmp_walk.proofs.loose.content_of.Goals as goal
 
 pub returns-in-128-to-255-clause-content : goal.returns-in-128-to-255-clause-content

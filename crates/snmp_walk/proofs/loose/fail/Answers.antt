@@ -6,7 +6,7 @@ use Rattle.snmp_agent.specs.Reply.{Fits}
 use Rattle.snmp_walk.specs.Loose.{failed}
 use Rattle.snmp_walk.proofs.loose.fail.Goals as goal
 
--- what was written to the start of the output, which has room for `max` octets
+-- if a message was written to the start of the output, then it fits, and the output begins with its encoding
 wrote : (r : Option ℕ) (new post old : List ℕ) (max : ℕ) (m other : Message) → m ≡ other
     → IfSome r (λ n. (n ≡ length (canon m)) × (new ≡ canon m ++ drop n old)) → (IsSome r ↔ (length (canon m) ≤ length old)) → length old ≤ max
     → IfSome r (λ n. Fits max other × (take n (new ++ post) ≡ canon other))

@@ -1,7 +1,7 @@
 use Rattle.std.proofs.Common.{◌≡◌, ◌∙◌, ◌+◌, ◌-◌, ◌/◌, ◌%◌, ℕ, List, [], ◌∷◌, ◌++◌, length, take, arith, ap, sym}
 use Rattle.std.proofs.lemmas.List.{length-take}
 use Rattle.snmp_wire.specs.Spelling.{sequence_tag}
-use Rattle.snmp_walk.proofs.LooseLemmas.{framed, lengthened}
+use Rattle.snmp_walk.proofs.LooseLinks.{framed, lengthened}
 use Rattle.snmp_walk.proofs.loose.lengthen.Goals as goal
 
 pub returns-clause-some : goal.returns-clause-some

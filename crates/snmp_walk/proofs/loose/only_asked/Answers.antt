@@ -1,7 +1,7 @@
 use Rattle.std.proofs.Common.{◌≡◌, ◌≤◌, ◌∷◌, [], length, arith}
 use Rattle.std.proofs.lemmas.Grind.{common_steps}
 use Rattle.snmp_wire.specs.Message.{null_value}
-use Rattle.snmp_walk.proofs.LooseLemmas.{asked_short}
+use Rattle.snmp_walk.proofs.LooseLinks.{asked_short}
 use Rattle.snmp_walk.proofs.loose.only_asked.Goals as goal
 
 pub returns-clause-short : goal.returns-clause-short

@@ -1,7 +1,7 @@
 use Rattle.std.proofs.Common.{ℕ, List, inl, refl, subst}
 use Rattle.snmp_agent.specs.Reply.{agent_of}
 use Rattle.snmp_walk.specs.{Link.AreLawful, Link.OneOf, Network.AreReplies, Served.agents_at}
-use Rattle.snmp_walk.proofs.{NetworkLemmas.replies_over, NetworkLemmas.all_of}
+use Rattle.snmp_walk.proofs.{Networks.replies_over, Networks.all_of}
 use Rattle.snmp_walk.proofs.network.walk_served.Goals as goal
 
 pub returns : goal.returns

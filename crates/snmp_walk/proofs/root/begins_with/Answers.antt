@@ -1,5 +1,5 @@
 use Rattle.std.proofs.{Common.arith, lemmas.Grind.common_steps}
-use Rattle.snmp_walk.proofs.NameLemmas.{below_decided}
+use Rattle.snmp_walk.proofs.Names.{below_decided}
 use Rattle.snmp_walk.proofs.root.begins_with.Goals as goal
 
 pub returns : goal.returns

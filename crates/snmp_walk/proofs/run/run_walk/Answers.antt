@@ -1,10 +1,10 @@
 use Rattle.std.proofs.Common.{◌≡◌, ◌+◌, ◌∙◌, ap, arith, Ok, Some, Option}
 use Rattle.std.specs.Prelude.{Result}
 use Rattle.snmp_walk.specs.{declared.end.LinkFault.LinkFault, declared.tries.Course.Course}
-use Rattle.snmp_walk.proofs.{RunLemmas.IsTurn, RunLemmas.runs_first, RunLemmas.turn_of, run.run_walk.Given.Over, run.run_walk.Goals.After-exchange}
+use Rattle.snmp_walk.proofs.{RunResult.IsTurn, RunResult.runs_first, RunResult.turn_of, run.run_walk.Given.Over, run.run_walk.Goals.After-exchange}
 use Rattle.snmp_walk.proofs.run.run_walk.Goals as goal
 
--- what the request comes to, by what `exchange` returned
+-- what `exchange` returned and did for a request of the walk is a turn (`IsTurn`)
 turn : (g : Over) (c : After-exchange g) (came : Result (Option Course) LinkFault) → c.exchange.result ≡ came
     → IsTurn g.L.Link g.S.Sink.takes (c.args.retries + 1) c.args.core c.args.link.now c.args.sink.now c.turns.core c.exchange.new.link
     c.exchange.new.waiter c.exchange.new.sink c.exchange.new.end came
@@ -12,7 +12,7 @@ turn g c came is =
     let request = c.request_in-length.ensures in
     let x = c.exchange.new in
     let h = c.exchange.ensures in
-    turn_of c.codec.ensures g.met.L.Link.keeping g.met.L.Link.lawful (omega arith) c.turns.invariant request.walker x.link c.requires
+    turn_of c.codec.ensures g.met.L.Link.recording g.met.L.Link.lawful (omega arith) c.turns.invariant request.walker x.link c.requires
     x.waiter x.sink x.end (λ on. (request.waiting on).1) h.0 h.1 c.exchange.result came h.2 is
 
 pub turns-init : goal.turns-init

@@ -1,6 +1,6 @@
 use Rattle.std.proofs.Common.{◌≡◌, ◌∙◌, sym, ap}
-use Rattle.snmp_walk.specs.{private.Taken.awaits, private.Course.step_of}
-use Rattle.snmp_walk.proofs.JudgedLemmas.{not_response}
+use Rattle.snmp_walk.specs.{private.ComputedStep.awaits, private.Course.step_of}
+use Rattle.snmp_walk.proofs.StepRules.{not_response}
 use Rattle.snmp_walk.proofs.tries.read_reply.Goals as goal
 
 pub returns-in_default-clause-none : goal.returns-in_default-clause-none

@@ -1,5 +1,5 @@
 use Rattle.std.proofs.{lemmas.Grind.common_steps, Common.arith}
-use Rattle.snmp_wire.proofs.BindingWriting.{encoded}
+use Rattle.snmp_wire.proofs.WrittenBindings.{encoded}
 use Rattle.snmp_wire.proofs.asking.encode_asking.Goals as goal
 
 pub returns-then-out-size-clause-variant : goal.returns-then-out-size-clause-variant

@@ -1,7 +1,7 @@
 use Rattle.std.proofs.Common.{length, refl, sym, ap, arith}
 use Rattle.snmp_wire.specs.{Name.asking, ber.Value.object_id}
 use Rattle.snmp_wire.proofs.{ElementLaws.value_content_fits, ElementLaws.value_header_fits, ElementLaws.writes_value, WritingLaws.writes_same}
-use Rattle.snmp_wire.proofs.BindingWriting.{binding_header_fits, binding_name_fits, binding_value_fits, null_octets, writes_binding}
+use Rattle.snmp_wire.proofs.WrittenBindings.{binding_header_fits, binding_name_fits, binding_value_fits, null_octets, writes_binding}
 use Rattle.snmp_wire.proofs.asking.put_asking.Goals as goal
 
 pub put_text-value-requires-clause-room : goal.put_text-value-requires-clause-room

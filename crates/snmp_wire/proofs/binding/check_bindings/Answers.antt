@@ -1,5 +1,5 @@
 use Rattle.std.proofs.{Common.arith, lemmas.Grind.common_steps, lemmas.Result.err_from_is_err_and}
-use Rattle.snmp_wire.specs.Reading.{fields}
+use Rattle.snmp_wire.specs.Decode.{fields}
 use Rattle.snmp_wire.proofs.ReadingLaws.{some_left}
 use Rattle.snmp_wire.proofs.MessageLaws.{fields_shrink, check_fails_in, check_goes_on}
 use Rattle.snmp_wire.proofs.binding.check_bindings.Goals as goal

@@ -1,5 +1,5 @@
 use Rattle.std.proofs.Common.{◌≡◌, length}
-use Rattle.snmp_wire.specs.{ber.Reading.checked, Reading.bindings_of}
+use Rattle.snmp_wire.specs.{ber.Decode.checked, Decode.bindings_of}
 use Rattle.snmp_wire.proofs.binding.check_bindings.Given as goal
 
 abbrev pub invariant-bindings : goal.invariant-bindings

@@ -1,5 +1,5 @@
 use Rattle.snmp_wire.specs.Message.{datum}
-use Rattle.snmp_wire.proofs.BindingWriting.{sizes_long, sizes_short}
+use Rattle.snmp_wire.proofs.WrittenBindings.{sizes_long, sizes_short}
 use Rattle.snmp_wire.proofs.binding.pair_size.Goals as goal
 
 pub returns-then-name-value-lt124-clause-value : goal.returns-then-name-value-lt124-clause-value

@@ -1,5 +1,5 @@
 use Rattle.std.proofs.{lemmas.Grind.common_steps, Common.arith, Common.refl}
-use Rattle.snmp_wire.proofs.BindingWriting.{binding_header_fits, binding_name_fits, binding_value_fits, writes_binding}
+use Rattle.snmp_wire.proofs.WrittenBindings.{binding_header_fits, binding_name_fits, binding_value_fits, writes_binding}
 use Rattle.snmp_wire.proofs.ElementLaws.{header_short, length-canon_header, value_content_fits, value_header_fits, writes_value}
 use Rattle.snmp_wire.proofs.binding.put_pair.Goals as goal
 

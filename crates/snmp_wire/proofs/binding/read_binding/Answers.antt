@@ -1,4 +1,4 @@
-use Rattle.snmp_wire.specs.{ber.Value.datum, Reading.fields}
+use Rattle.snmp_wire.specs.{ber.Value.datum, Decode.fields}
 use Rattle.snmp_wire.proofs.MessageLaws.{parts_of, binding_made}
 use Rattle.snmp_wire.proofs.binding.read_binding.Goals as goal
 

@@ -1,4 +1,4 @@
-use Rattle.snmp_wire.proofs.{ReadingLaws.failing, ReadingLaws.given, Kept.name_gives}
+use Rattle.snmp_wire.proofs.{ReadingLaws.failing, ReadingLaws.returned, Kept.name_gives}
 use Rattle.snmp_wire.proofs.encoded.name_in_long.Goals as goal
 
 pub unreachable-requires : goal.unreachable-requires
@@ -6,7 +6,7 @@ unreachable-requires c = failing _ (name_gives _ c.requires.range _ c.requires.e
 
 pub unreachable-requires-in_default-inner_at : goal.unreachable-requires-in_default-inner_at
 unreachable-requires-in_default-inner_at c =
-    failing _ (given _ (name_gives _ c.requires.range _ c.requires.encoding) c.in-Ok.ensures) c.in_default-inner_at.ensures
+    failing _ (returned _ (name_gives _ c.requires.range _ c.requires.encoding) c.in-Ok.ensures) c.in_default-inner_at.ensures
 
 pub returns : goal.returns
-returns c = given _ (given _ (name_gives _ c.requires.range _ c.requires.encoding) c.in-Ok.ensures) c.in-Ok-inner_at.ensures
+returns c = returned _ (returned _ (name_gives _ c.requires.range _ c.requires.encoding) c.in-Ok.ensures) c.in-Ok-inner_at.ensures

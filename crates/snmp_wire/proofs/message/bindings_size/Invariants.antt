@@ -1,7 +1,7 @@
 use Rattle.std.proofs.Common.{◌≡◌, ◌+◌, length, drop, take}
 use Rattle.std.specs.List.{flat_map, AllByRecursion}
 use Rattle.snmp_wire.specs.{Message.var_binds, Range.IsBindingInRange}
-use Rattle.snmp_wire.proofs.BindingWriting.{binding_octets}
+use Rattle.snmp_wire.proofs.WrittenBindings.{binding_octets}
 use Rattle.snmp_wire.proofs.message.bindings_size.Given as goal
 
 -- `total` and the lengths of the remaining bindings add up to the length of all, and the bindings

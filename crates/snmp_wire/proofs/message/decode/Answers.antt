@@ -1,7 +1,7 @@
 use Rattle.std.proofs.Common.{◌≡◌, ℕ, ◌<◌, List, get_or, Result, Ok, Err, IfOk, IfErr, sym, subst, ◌∙◌, arith}
 use Rattle.std.proofs.lemmas.List.{get_or_default}
 use Rattle.snmp_wire.specs.declared.ber.error.BerError.{BerError}
-use Rattle.snmp_wire.specs.{Message.Message, ber.Number.AreOctets, Fault.IsFault, Spelling.Spells, ber.Reading.AgreesBy, Reading.message_of}
+use Rattle.snmp_wire.specs.{Message.Message, ber.Number.AreOctets, Fault.IsFault, Spelling.Spells, ber.Decode.AgreesBy, Decode.message_of}
 use Rattle.snmp_wire.proofs.{MessageLaws.message_again, Faults.message_faults, Faults.message_takes}
 use Rattle.snmp_wire.proofs.message.decode.Goals as goal
 

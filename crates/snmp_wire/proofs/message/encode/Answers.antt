@@ -1,6 +1,6 @@
 use Rattle.std.proofs.Common.{arith, refl}
 use Rattle.snmp_wire.specs.{Message.var_binds, Parts.parts_message}
-use Rattle.snmp_wire.proofs.{BindingWriting.encoded, MessageWriting.sizes_message, MessageWriting.writes_message, MessageElements.front_is_shortest}
+use Rattle.snmp_wire.proofs.{WrittenBindings.encoded, WrittenMessages.sizes_message, WrittenMessages.writes_message, MessageElements.prefix_is_shortest}
 use Rattle.snmp_wire.proofs.MessageElements.{strict_is_read}
 use Rattle.snmp_wire.proofs.message.encode.Goals as goal
 
@@ -17,7 +17,7 @@ returns c =
     let written =
     encoded (writes_message m c.bindings_size-total.result c.bindings_size-total.ensures.value c.put_bindings-head.ensures c.put_head.ensures) size in
     let range = c.head_size.ensures.range (var_binds c.args.parts.now.bindings.now) c.bindings_size-total.ensures.range c.requires.total in
-    let shortest = front_is_shortest c.one_shortest_encoding.ensures m _ _ _ size written range in
+    let shortest = prefix_is_shortest c.one_shortest_encoding.ensures m _ _ _ size written range in
     record {
       some = (size, written);
       shortest = shortest;

@@ -1,5 +1,5 @@
 use Rattle.std.proofs.{Common.arith, Common.length, Common.List, Common.ℕ, Common.◌≤◌, Common.subst, Common.sym, lemmas.Grind.common_steps}
-use Rattle.snmp_wire.proofs.BindingWriting.{binding_octets, bindings_are}
+use Rattle.snmp_wire.proofs.WrittenBindings.{binding_octets, bindings_are}
 use Rattle.snmp_wire.proofs.WritingLaws.{piece_fits, writes_piece, writes_pieces, writes_same}
 use Rattle.snmp_wire.proofs.message.put_bindings.Goals as goal
 

@@ -1,7 +1,7 @@
 use Rattle.std.proofs.Common.{drop}
 use Rattle.std.specs.List.{flat_map}
 use Rattle.snmp_wire.specs.ber.Writing.{Writes}
-use Rattle.snmp_wire.proofs.BindingWriting.{binding_octets}
+use Rattle.snmp_wire.proofs.WrittenBindings.{binding_octets}
 use Rattle.snmp_wire.proofs.message.put_bindings.Given as goal
 
 -- the bindings from index `i` on are written

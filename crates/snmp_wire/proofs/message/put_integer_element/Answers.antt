@@ -6,7 +6,7 @@ use mir.Syntax.{w32}
 use mir.Val.{SFits, of_z, to_z}
 use Rattle.snmp_wire.specs.{ber.Canon.canon_content, ber.Canon.canon_number, ber.Value.integer_value}
 use Rattle.snmp_wire.proofs.ElementLaws.{content_number, value_content_fits, value_header_fits, writes_value}
-use Rattle.snmp_wire.proofs.{WritingLaws.writes_same, CanonLemmas.short_number}
+use Rattle.snmp_wire.proofs.{WritingLaws.writes_same, NumberSizes.short_number}
 use Rattle.snmp_wire.proofs.message.put_integer_element.Goals as goal
 
 -- the content of a number from 0 to 127 is the number itself

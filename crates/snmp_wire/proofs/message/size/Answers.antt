@@ -1,5 +1,5 @@
 use Rattle.snmp_wire.specs.{Message.var_binds, Parts.parts_message}
-use Rattle.snmp_wire.proofs.{MessageWriting.sizes_message, MessageElements.shortest_size}
+use Rattle.snmp_wire.proofs.{WrittenMessages.sizes_message, MessageElements.shortest_size}
 use Rattle.snmp_wire.proofs.message.size.Goals as goal
 
 pub returns-clause-value : goal.returns-clause-value

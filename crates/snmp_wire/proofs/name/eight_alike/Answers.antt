@@ -1,5 +1,5 @@
 use Rattle.std.proofs.Common.{arith}
-use Rattle.snmp_wire.proofs.Differing.{words_alike}
+use Rattle.snmp_wire.proofs.FirstDifference.{words_alike}
 use Rattle.snmp_wire.proofs.name.eight_alike.Goals as goal
 
 pub returns : goal.returns

@@ -1,5 +1,5 @@
 use Rattle.std.proofs.lemmas.Result.{IfOk-weaker}
-use Rattle.snmp_words.proofs.CommandLemmas.{arg_added}
+use Rattle.snmp_words.proofs.Commands.{arg_added}
 use Rattle.snmp_words.proofs.command.walk_command.Goals as goal
 
 pub returns : goal.returns

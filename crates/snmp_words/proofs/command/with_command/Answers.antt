@@ -1,5 +1,5 @@
 use Rattle.std.proofs.lemmas.Result.{IfOk-weaker}
-use Rattle.snmp_words.proofs.CommandLemmas.{made, subcommand_added}
+use Rattle.snmp_words.proofs.Commands.{made, subcommand_added}
 use Rattle.snmp_words.proofs.command.with_command.Goals as goal
 
 pub returns : goal.returns

@@ -1,10 +1,10 @@
 use Rattle.std.proofs.Common.{◌≡◌, ◌∷◌, [], refl}
 use Rattle.std.proofs.lemmas.Result.{IfOk-weaker}
 use Rattle.snmp_agent.specs.table.Table.{MibView}
-use Rattle.snmp_walk.specs.{Link.Agents, Link.AreLawful, Memory.agents_over, Ran.HasHappened, declared.end.WalkEnd.WalkEnd}
+use Rattle.snmp_walk.specs.{Link.Agents, Link.AreLawful, Memory.agents_over, RunResult.HasHappened, declared.end.WalkEnd.WalkEnd}
 use Rattle.uses.specs.Polled.{IsPolled}
 use Rattle.uses.specs.contracts.direct.DirectLink.TheImpl.{ghosts}
-use Rattle.uses.proofs.DirectLemmas.{are_replies}
+use Rattle.uses.proofs.DirectLinks.{are_replies}
 use Rattle.uses.proofs.direct.poll_again.Goals as goal
 
 pub returns-clause-table : goal.returns-clause-table

@@ -2,11 +2,11 @@ use Rattle.std.proofs.Common.{◌≡◌, ◌∙◌, ◌+◌, ◌<◌, ◌^◌, �
 use Rattle.std.proofs.lemmas.List.{take_more}
 use Rattle.std.specs.Option.{unwrap_or}
 use Rattle.snmp_agent.specs.table.Table.{MibView}
-use Rattle.snmp_walk.specs.{Link.Agents, Ran.HasHappened, declared.end.WalkEnd.WalkEnd, declared.link.Link.Ghosts as LinkFacts}
+use Rattle.snmp_walk.specs.{Link.Agents, RunResult.HasHappened, declared.end.WalkEnd.WalkEnd, declared.link.Link.Ghosts as LinkFacts}
 use Rattle.uses.specs.{Polled.ArePolledInTurn, Polled.IsPolled, Polled.IsPolledOver, declared.subtrees.Subtree.Subtree}
 use Rattle.uses.proofs.subtrees.poll_each.Goals as goal
 
--- one more subtree
+-- if subtrees were polled in turn, and then one more, then all of them were polled in turn
 one_more : {W : Type 0} (facts : LinkFacts W) (roots : List (List ℕ)) (subtrees : List Subtree) (root : List ℕ) (subtree : Subtree) (old at new : W)
     → ArePolledInTurn facts old roots subtrees at → IsPolledOver facts at root subtree new
     → ArePolledInTurn facts old (roots ++ root ∷ []) (subtrees ++ subtree ∷ []) new

@@ -1,10 +1,10 @@
 use Rattle.std.proofs.Common.{◌≡◌, ℕ, List, take}
 use Rattle.indexmap.specs.IndexMap.{hasher_of}
-use Rattle.smi_names.specs.{meaning.Scopes.place_in, meaning.Names.module_place}
+use Rattle.smi_names.specs.{meaning.Scopes.index_in, meaning.Names.module_index}
 use Rattle.smi_names.proofs.meaning.directory.homes.Given as goal
 
 abbrev pub invariant-modules : goal.invariant-modules
 invariant-modules l = record {
-  placed : (x : List ℕ) → place_in l.homes x ≡ module_place (take l.i l.modules) x;
+  placed : (x : List ℕ) → index_in l.homes x ≡ module_index (take l.i l.modules) x;
   hashed : hasher_of l.homes ≡ l.fn.hash;
 }

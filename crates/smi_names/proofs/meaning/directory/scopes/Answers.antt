@@ -1,8 +1,8 @@
--- One module more.
+-- The invariant of the loop holds after one module more.
 use Rattle.std.proofs.Common.{rules, ◌≡◌, ◌+◌, ◌<◌, [], ◌∷◌, ◌++◌, length, take, sym, refl, ◌∙◌, arith}
 use Rattle.std.proofs.{lemmas.List.take_more, lemmas.List.length-take-le, lemmas.List.Elements.All-push}
 use Rattle.indexmap.specs.IndexMap.{hasher_of}
-use Rattle.smi_names.proofs.Placing.{AreEach-more}
+use Rattle.smi_names.proofs.FirstPosition.{AreEach-more}
 use Rattle.smi_names.proofs.meaning.directory.scopes.Goals as goal
 
 pub modules-preserved : goal.modules-preserved

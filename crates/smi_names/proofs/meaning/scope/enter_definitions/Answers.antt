@@ -1,11 +1,11 @@
--- One definition more.
+-- The invariant of the loop holds after one definition more, and implies what the function ensures.
 use Rattle.std.proofs.{lemmas.Grind.common_steps, lemmas.Option.slice_get_read, lemmas.List.Folds.find-append}
 use Rattle.std.proofs.Common.{arith, ◌≡◌, ℕ, ◌+◌, ◌<◌, cond, length, List, Some, None, get_or, take}
 use Rattle.std.proofs.lemmas.List.{take_more, take_all}
 use Rattle.std.specs.Option.{option_map}
 use Rattle.smi_text.specs.{trees.Mark.same_text, trees.Lookup.first_definition, declared.trees.tree.Def.Def}
 use Rattle.smi_names.specs.meaning.Meaning.{defined, or_else}
-use Rattle.smi_names.proofs.Knowing.{KnowsMore-then}
+use Rattle.smi_names.proofs.Scopes.{KnowsMore-then}
 use Rattle.smi_names.proofs.meaning.scope.enter_definitions.Goals as goal
 
 more : (ds : List Def) (k : ℕ) (d : Def) (x : List ℕ) → k < length ds → d ≡ get_or ds k d

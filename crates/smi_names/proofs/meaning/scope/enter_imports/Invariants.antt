@@ -6,5 +6,5 @@ use Rattle.smi_names.proofs.meaning.scope.enter_imports.Given as goal
 
 abbrev pub invariant-imports : goal.invariant-imports
 invariant-imports l =
-    KnowsMore l.initial.entries.items l.initial.scope l.entries.items l.scope l.module l.place
+    KnowsMore l.initial.entries.items l.initial.scope l.entries.items l.scope l.module l.index
     (λ x. option_map imported (first_import x (take l.import-index l.imports)))

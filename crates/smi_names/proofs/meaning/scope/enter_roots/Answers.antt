@@ -1,6 +1,6 @@
--- The three roots.
+-- The three roots are entered, one after the other.
 use Rattle.std.proofs.{Common.arith, Common.refl, lemmas.Grind.common_steps}
-use Rattle.smi_names.proofs.Knowing.{KnowsMore-then}
+use Rattle.smi_names.proofs.Scopes.{KnowsMore-then}
 use Rattle.smi_names.proofs.meaning.scope.enter_roots.Goals as goal
 
 pub returns : goal.returns

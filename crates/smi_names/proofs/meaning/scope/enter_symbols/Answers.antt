@@ -1,11 +1,11 @@
--- One symbol more.
+-- The invariant of the loop holds after one symbol more, and implies what the function ensures.
 use Rattle.std.proofs.{lemmas.Grind.common_steps, lemmas.List.take_more, lemmas.List.take_all, lemmas.List.Folds.list_any-append}
 use Rattle.std.proofs.Common.{arith, ◌≡◌, ℕ, ◌+◌, ◌<◌, cond, length, List, [], ◌∷◌, Some, None, get_or, take}
 use Rattle.std.specs.{List.list_any, Option.option_map}
 use Rattle.smi_text.specs.{trees.Mark.same_text, declared.trees.tree.Import.Import, declared.trees.tree.TokenText.TokenText}
 use Rattle.smi_text.specs.trees.Lookup.{first_import, is_imported_by}
 use Rattle.smi_names.specs.meaning.Meaning.{Decision, imported, or_else}
-use Rattle.smi_names.proofs.Knowing.{KnowsMore-then}
+use Rattle.smi_names.proofs.Scopes.{KnowsMore-then}
 use Rattle.smi_names.proofs.meaning.scope.enter_symbols.Goals as goal
 
 more : (ts : List TokenText) (k : ℕ) (t : TokenText) (x : List ℕ) (d : Decision) → k < length ts → t ≡ get_or ts k t

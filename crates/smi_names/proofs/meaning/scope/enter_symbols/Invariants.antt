@@ -6,5 +6,5 @@ use Rattle.smi_names.proofs.meaning.scope.enter_symbols.Given as goal
 
 abbrev pub invariant-symbols : goal.invariant-symbols
 invariant-symbols l =
-    KnowsMore l.initial.entries.items l.initial.scope l.entries.items l.scope l.module l.place
+    KnowsMore l.initial.entries.items l.initial.scope l.entries.items l.scope l.module l.index
     (λ x. cond (list_any (λ s. same_text s.text x) (take l.symbol-index l.symbols)) (Some (imported l.import)) None)

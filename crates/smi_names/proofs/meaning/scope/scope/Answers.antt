@@ -1,12 +1,12 @@
 -- Definitions decide before imports, and these before roots.
 use Rattle.std.proofs.Common.{◌≡◌, None, refl, ◌∙◌}
-use Rattle.smi_names.specs.meaning.Scopes.{place_in}
-use Rattle.smi_names.proofs.{Knowing.KnowsMore-then, Deciding.decided_all}
+use Rattle.smi_names.specs.meaning.Scopes.{index_in}
+use Rattle.smi_names.proofs.{Scopes.KnowsMore-then, Decisions.decided_all}
 use Rattle.smi_names.proofs.meaning.scope.scope.Goals as goal
 
 pub returns-clause-decided : goal.returns-clause-decided
 returns-clause-decided c = λ x.
-    let empty : place_in c.in_ok-scope.scope x ≡ None = rw c.in_ok-scope.ensures.empty refl in
+    let empty : index_in c.in_ok-scope.scope x ≡ None = rw c.in_ok-scope.ensures.empty refl in
     let first = c.in_ok-enter_definitions.ensures.entered in
     let clauses = c.import_clauses.ensures in
     let second = rw clauses at c.in_ok-enter_imports.ensures.entered in

@@ -1,7 +1,7 @@
--- One module more.
+-- The invariant of the loop holds after one module more.
 use Rattle.std.proofs.Common.{rules, ◌≡◌, ◌+◌, ◌<◌, [], ◌∷◌, ◌++◌, length, take, refl, sym, ◌∙◌}
 use Rattle.std.proofs.lemmas.List.{take_more}
-use Rattle.smi_names.proofs.Gathering.{AreGathered-more}
+use Rattle.smi_names.proofs.NewNodes.{AreGathered-more}
 use Rattle.smi_names.proofs.nodes.gather.gather_nodes.Goals as goal
 
 pub modules-preserved : goal.modules-preserved

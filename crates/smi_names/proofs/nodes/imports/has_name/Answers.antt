@@ -1,7 +1,7 @@
--- What decides a name shows whether the module has it.
+-- What decides a name, if anything does, says whether the module has it.
 use Rattle.std.proofs.Common.{Some, ◌∙◌}
 use Rattle.smi_names.specs.{meaning.Meaning.module_named, meaning.Scopes.decision_of}
-use Rattle.smi_names.proofs.Importing.{defines_or_imports_by}
+use Rattle.smi_names.proofs.Imports.{defines_or_imports_by}
 use Rattle.smi_names.proofs.nodes.imports.has_name.Goals as goal
 
 pub returns-in-Some : goal.returns-in-Some

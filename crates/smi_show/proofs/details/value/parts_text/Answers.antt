@@ -10,12 +10,12 @@ last_at n [] = refl
 last_at n (next ∷ more) = last_at next more
 
 -- the last number is at the last index
-by_places : (tree : Contents) (numbers : List ℕ) → 1 ≤ length numbers
+by_offsets : (tree : Contents) (numbers : List ℕ) → 1 ≤ length numbers
     → labelled_parts tree (take (length numbers - 1) numbers) ++ decimal (get_or numbers (length numbers - 1) 0) ++ codes " " ≡ parts_text tree numbers
-by_places tree [] some = absurd (omega arith)
-by_places tree (n ∷ more) some =
-    let place : length (n ∷ more) - 1 ≡ length more = omega arith in
-    rw (place, last_at n more) refl
+by_offsets tree [] some = absurd (omega arith)
+by_offsets tree (n ∷ more) some =
+    let offset : length (n ∷ more) - 1 ≡ length more = omega arith in
+    rw (offset, last_at n more) refl
 
 pub returns-in-len1-up : goal.returns-in-len1-up
-returns-in-len1-up c = grind (arith, common_steps, adds_both, by_places)
+returns-in-len1-up c = grind (arith, common_steps, adds_both, by_offsets)

@@ -1,5 +1,5 @@
-use Rattle.smi_show.proofs.ReadingLemmas.{one_front}
+use Rattle.smi_show.proofs.IndexValues.{one_prefix}
 use Rattle.smi_show.proofs.index.part.one_part_reading.Goals as goal
 
 pub returns : goal.returns
-returns c = one_front
+returns c = one_prefix

@@ -1,5 +1,5 @@
 use Rattle.std.proofs.{Common.arith, lemmas.Grind.common_steps, lemmas.Bool.OnTrue_at, lemmas.Bool.OnFalse_at}
-use Rattle.smi_show.proofs.ReadingLemmas.{all_only, if_read}
+use Rattle.smi_show.proofs.IndexValues.{all_only, if_read}
 use Rattle.smi_show.proofs.index.shown.index_text.Goals as goal
 
 pub returns-then-is_shown_by_values : goal.returns-then-is_shown_by_values

@@ -1,7 +1,7 @@
 use Rattle.std.proofs.Common.{◌++◌, get_or, codes, decimal, take, sym, ap, ◌∙◌, append_assoc, arith}
 use Rattle.std.proofs.lemmas.List.{take_more}
 use Rattle.smi_show.specs.index.Pieces.{as_numbers, shown_pieces}
-use Rattle.smi_show.proofs.FrontNumbers.{shown_more}
+use Rattle.smi_show.proofs.LeadingNumbers.{shown_more}
 use Rattle.smi_show.proofs.index.shown.numbers_text.Goals as goal
 
 pub numbers-preserved : goal.numbers-preserved

@@ -1,5 +1,5 @@
 use Rattle.std.proofs.{Common.arith, lemmas.Fmt.decimal_digit, lemmas.Grind.common_steps}
-use Rattle.smi_show.proofs.DigitLemmas.{two_digits, digits_of_three}
+use Rattle.smi_show.proofs.Digits.{two_digits, digits_of_three}
 use Rattle.smi_show.proofs.index.shown.put_short.Goals as goal
 
 pub returns-then-number-lt10-clause-text : goal.returns-then-number-lt10-clause-text

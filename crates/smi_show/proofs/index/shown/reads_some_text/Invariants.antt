@@ -1,5 +1,5 @@
 use Rattle.std.proofs.Common.{◌≡◌, drop, is_some}
-use Rattle.smi_show.specs.private.index.Reading.{has_text, values_of}
+use Rattle.smi_show.specs.private.index.IndexValues.{has_text, values_of}
 use Rattle.smi_show.proofs.index.shown.reads_some_text.Given as goal
 
 -- the parts left read the numbers left if and only if all read all, and have a text if and only if all have one

@@ -2,7 +2,7 @@ use Rattle.std.proofs.Common.{[], get_or, ◌++◌, refl, sym, ◌∙◌, ap, ap
 use Rattle.std.proofs.lemmas.List.{append-nil}
 use Rattle.smi_tree.specs.declared.columns.index_part.IndexPart.TheVariants.{Number}
 use Rattle.smi_show.specs.{index.Pieces.shown_pieces, index.Pieces.value_pieces}
-use Rattle.smi_show.proofs.PieceLemmas.{next_value}
+use Rattle.smi_show.proofs.Pieces.{next_value}
 use Rattle.smi_show.proofs.index.shown.values_text.Goals as goal
 
 pub parts-init : goal.parts-init

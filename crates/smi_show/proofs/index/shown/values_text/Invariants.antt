@@ -1,6 +1,6 @@
 use Rattle.std.proofs.Common.{◌≡◌, ℕ, List, ◌++◌, drop, Some}
 use Rattle.snmp_io.specs.Draft.{Grows}
-use Rattle.smi_show.specs.{private.index.Reading.values_of, index.Pieces.index_pieces, index.Pieces.shown_pieces}
+use Rattle.smi_show.specs.{private.index.IndexValues.values_of, index.Pieces.index_pieces, index.Pieces.shown_pieces}
 use Rattle.smi_show.proofs.index.shown.values_text.Given as goal
 
 -- the text so far, with that of the values left, is the whole text

@@ -1,4 +1,4 @@
-use Rattle.smi_show.proofs.CutLemmas.{IsModuleAt}
+use Rattle.smi_show.proofs.ModuleCut.{IsModuleAt}
 use Rattle.smi_show.proofs.name.cut.cut_later_module.Given as goal
 
 abbrev pub invariant-octets : goal.invariant-octets

@@ -1,7 +1,7 @@
 use Rattle.std.proofs.Common.{subst}
 use Rattle.snmp_oid.specs.Numeric.{numeric_text}
 use Rattle.smi_show.specs.name.Meant.{TextMeans}
-use Rattle.smi_show.proofs.{MeantTexts.means, NumericMeaning.numeric_meaning}
+use Rattle.smi_show.proofs.{MeantTexts.means, NumericNames.numeric_meaning}
 use Rattle.smi_show.proofs.name.laws.numbers_are_read.Goals as goal
 
 pub returns : goal.returns

@@ -1,6 +1,6 @@
 use Rattle.std.proofs.Common.{List, ℕ, Result, option_map, sym, ◌∙◌, ap}
 use Rattle.smi_show.specs.{declared.name.error.NameError.NameError, private.name.Left.parts_left, name.Meaning.and_then, name.Meaning.further_meaning}
-use Rattle.smi_show.proofs.FrontLemmas.{number_further}
+use Rattle.smi_show.proofs.NumberParts.{number_further}
 use Rattle.smi_show.proofs.name.meaning.next_meaning.Goals as goal
 
 -- a number was read and appended

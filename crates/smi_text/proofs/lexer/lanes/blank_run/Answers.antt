@@ -1,5 +1,5 @@
 use Rattle.std.proofs.{Common.ℕ, Common.bit_and, Common.refl, lemmas.Simd.zip2_splat, lemmas.Simd.zip2_of_maps, lemmas.Simd.length-chunk}
-use Rattle.smi_text.specs.lexer.Reading.{is_space_or_tab}
+use Rattle.smi_text.specs.lexer.LongestMatch.{is_space_or_tab}
 use Rattle.smi_text.proofs.Lanes.{run_in}
 use lib.Lanes.{chunk}
 use Rattle.smi_text.proofs.lexer.lanes.blank_run.Goals as goal

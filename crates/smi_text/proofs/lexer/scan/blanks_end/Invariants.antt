@@ -1,5 +1,5 @@
 use Rattle.std.proofs.Common.{◌-◌, length}
-use Rattle.smi_text.specs.lexer.Reading.{ArePassedBetween, is_space_or_tab}
+use Rattle.smi_text.specs.lexer.LongestMatch.{ArePassedBetween, is_space_or_tab}
 use Rattle.smi_text.proofs.lexer.scan.blanks_end.Given as goal
 
 abbrev pub invariant-loads : goal.invariant-loads

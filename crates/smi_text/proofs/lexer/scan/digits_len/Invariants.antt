@@ -1,6 +1,6 @@
 use Rattle.std.proofs.Common.{◌-◌, length}
 use Rattle.std.specs.{List.list_all, Char.is_ascii_digit}
-use Rattle.smi_text.specs.lexer.Reading.{GoesOn}
+use Rattle.smi_text.specs.lexer.LongestMatch.{GoesOn}
 use Rattle.smi_text.proofs.lexer.scan.digits_len.Given as goal
 
 -- the octets before n make no difference

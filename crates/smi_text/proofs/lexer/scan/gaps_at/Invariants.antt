@@ -1,5 +1,5 @@
 use Rattle.std.proofs.Common.{◌≤◌, ◌-◌, length}
-use Rattle.smi_text.specs.lexer.Reading.{Skips}
+use Rattle.smi_text.specs.lexer.LongestMatch.{Skips}
 use Rattle.smi_text.proofs.lexer.scan.gaps_at.Given as goal
 
 abbrev pub invariant-gaps : goal.invariant-gaps

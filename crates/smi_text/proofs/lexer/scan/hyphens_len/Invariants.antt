@@ -1,6 +1,6 @@
 use Rattle.std.proofs.Common.{◌-◌, length}
 use Rattle.std.specs.List.{list_all}
-use Rattle.smi_text.specs.{lexer.Lexeme.is_hyphen, lexer.Reading.GoesOn}
+use Rattle.smi_text.specs.{lexer.Lexeme.is_hyphen, lexer.LongestMatch.GoesOn}
 use Rattle.smi_text.proofs.lexer.scan.hyphens_len.Given as goal
 
 -- the octets before n make no difference

@@ -1,5 +1,5 @@
 use Rattle.std.proofs.{lemmas.Grind.common_steps, Common.◌≡◌, Common.ℕ, Common.List, Common.[], Common.length, Common.arith}
-use Rattle.smi_text.proofs.Parts.{none_behind_first, front_behind_first, no_lexeme_of_nothing}
+use Rattle.smi_text.proofs.Parts.{none_after_first, prefix_after_first, no_lexeme_of_nothing}
 use Rattle.smi_text.proofs.lexer.scan.lexeme_at.Goals as goal
 
 empty_list : (s : List ℕ) → length s ≡ 0 → [] ≡ s
@@ -11,9 +11,9 @@ returns-in_err-first c = grind (arith, common_steps, empty_list, no_lexeme_of_no
 pub returns-in_err-kind : goal.returns-in_err-kind
 returns-in_err-kind c =
     rw (c.from_residual-in_err-kind.ensures, c.in_ok-first.ensures.cases.0)
-    (none_behind_first c.in_ok-first.first.now c.in_ok-first.rest.now _ c.class_of_octet.ensures c.in_err-kind.ensures)
+    (none_after_first c.in_ok-first.first.now c.in_ok-first.rest.now _ c.class_of_octet.ensures c.in_err-kind.ensures)
 
 pub returns : goal.returns
 returns c =
     rw (c.in_ok-first.ensures.cases.0)
-    (front_behind_first c.in_ok-first.first.now c.in_ok-first.rest.now _ c.class_of_octet.ensures _ c.in_ok-kind.len c.in_ok-kind.ensures)
+    (prefix_after_first c.in_ok-first.first.now c.in_ok-first.rest.now _ c.class_of_octet.ensures _ c.in_ok-kind.len c.in_ok-kind.ensures)

@@ -1,5 +1,5 @@
 use Rattle.std.proofs.Common.{◌≡◌, ◌-◌, ◌<◌, length, get_or, false}
-use Rattle.smi_text.specs.{lexer.Lexeme.is_word_octet, lexer.Lexeme.is_word_rest, lexer.Reading.GoesOn}
+use Rattle.smi_text.specs.{lexer.Lexeme.is_word_octet, lexer.Lexeme.is_word_rest, lexer.LongestMatch.GoesOn}
 use Rattle.smi_text.proofs.lexer.scan.word_rest_len.Given as goal
 
 -- the octets before n make no difference, and of the octets of a word only a hyphen may be at n

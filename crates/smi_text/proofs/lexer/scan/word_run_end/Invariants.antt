@@ -1,5 +1,5 @@
 use Rattle.std.proofs.Common.{◌-◌, length}
-use Rattle.smi_text.specs.{lexer.Lexeme.is_word_octet, lexer.Reading.ArePassedBetween}
+use Rattle.smi_text.specs.{lexer.Lexeme.is_word_octet, lexer.LongestMatch.ArePassedBetween}
 use Rattle.smi_text.proofs.lexer.scan.word_run_end.Given as goal
 
 abbrev pub invariant-loads : goal.invariant-loads

@@ -1,15 +1,15 @@
--- One number more is followed, or none can be.
+-- One number more is followed. If none can be, the longest prefix so far is the longest of all.
 use Rattle.std.proofs.lemmas.Grind.{common_steps}
 use Rattle.std.proofs.Common.{rules, ◌≡◌, ℕ, ◌+◌, ◌<◌, Option, List, Some, None, get_or, take, length, sym, arith}
-use Rattle.smi_tree.specs.branches.Branches.{follower, branch_of, standing_at, deeper_of, AreBranchesOf, SoFar}
+use Rattle.smi_tree.specs.branches.Branches.{follower, branch_of, id_at, deeper_of, AreBranchesOf, SoFar}
 use Rattle.smi_tree.specs.{declared.branches.branch.Branch.Branch, declared.branches.identifiers.Deepest.Deepest}
-use Rattle.smi_tree.proofs.Branching.{SoFar-whole, branch_more, none_beyond}
+use Rattle.smi_tree.proofs.BranchLists.{SoFar-whole, branch_more, none_beyond}
 use Rattle.smi_tree.proofs.branches.identifiers.deepest_from.Goals as goal
 
 preserved : (oids : List (List ℕ)) (bs : List Branch) → AreBranchesOf oids bs → (o : List ℕ) (i at b : ℕ) (r new : Option Deepest) → i < length o
-    → branch_of bs (take i o) ≡ Some at → SoFar oids o i r → follower bs at (get_or o i 0) ≡ Some b → new ≡ deeper_of (standing_at bs b) b (i + 1) r
+    → branch_of bs (take i o) ≡ Some at → SoFar oids o i r → follower bs at (get_or o i 0) ≡ Some b → new ≡ deeper_of (id_at bs b) b (i + 1) r
     → (branch_of bs (take (i + 1) o) ≡ Some b) × SoFar oids o (i + 1) new
-preserved oids bs are o i at b r new l here far leads is = grind (arith, common_steps, branch_more)
+preserved oids bs are o i at b r new l here far refers_to is = grind (arith, common_steps, branch_more)
 
 ended : (oids : List (List ℕ)) (bs : List Branch) → AreBranchesOf oids bs → (o : List ℕ) (i at : ℕ) (r : Option Deepest) → i < length o
     → branch_of bs (take i o) ≡ Some at → SoFar oids o i r → follower bs at (get_or o i 0) ≡ None → SoFar oids o (length o) r

@@ -4,33 +4,33 @@ use Rattle.std.proofs.{lemmas.Grind.common_steps, lemmas.Option.slice_get_within
 use Rattle.std.specs.List.{slice_get, position_from}
 use Rattle.smi_text.specs.declared.trees.tree.Module.{Module}
 use Rattle.smi_names.specs.{nodes.Nodes.Node, nodes.Gathered.nodes_of, declared.nodes.gather.Source.Source}
-use Rattle.smi_tree.specs.{Nodes.is_named, Nodes.place_anywhere, Places.has_label, Places.home_from}
+use Rattle.smi_tree.specs.{Nodes.is_named, Nodes.index_anywhere, Indices.has_label, Indices.home_from}
 use Rattle.smi_tree.specs.Nodes as nodes
-use Rattle.smi_tree.proofs.Bridging.{anywhere_sources, in_module-sources}
-use Rattle.smi_tree.proofs.{First.IsFirst, First.first, First.both_none, First.both_first, Scoping.no_module}
+use Rattle.smi_tree.proofs.Sources.{anywhere_sources, in_module-sources}
+use Rattle.smi_tree.proofs.{First.IsFirst, First.first, First.both_none, First.both_first, SharedLabels.no_module}
 use Rattle.smi_tree.proofs.tree.Tree.find.Goals as goal
 
 module _ (ms : List Module) (ss : List Source) (os : List (List ℕ)) (x : List ℕ) (f : ℕ) (long : length ss ≡ length os)
-    (e : Some f ≡ place_anywhere (nodes_of ms ss os) x) where
+    (e : Some f ≡ index_anywhere (nodes_of ms ss os) x) where
   labelled : position_from (has_label ms x) 0 ss ≡ Some f
   labelled = sym (e ∙ anywhere_sources ms ss os x long)
 
-  place : IsFirst (has_label ms x) ss f
-  place = rw labelled at (first (has_label ms x) ss)
+  id : IsFirst (has_label ms x) ss f
+  id = rw labelled at (first (has_label ms x) ss)
 
   there : (s : Source) → s ≡ get_or ss f s → slice_get ss f ≡ Some s
-  there s is = slice_get_read ss (length ss) f s refl (slice_get_within ss f place.x place.at) is
+  there s is = slice_get_read ss (length ss) f s refl (slice_get_within ss f id.x id.at) is
 
 pub returns-in_err-first : goal.returns-in_err-first
 returns-in_err-first c =
-    let none : place_anywhere c.args.self.now.nodes c.args.label.now ≡ None = search rules in
+    let none : index_anywhere c.args.self.now.nodes c.args.label.now ≡ None = search rules in
     let out : c.from_residual.result ≡ None = search rules in
     rw out (sym (both_none (λ (n : Node). is_named c.args.home.now n.home) (nodes.has_label c.args.label.now) c.args.self.now.nodes none))
 
 pub index-requires : goal.index-requires
 index-requires c =
     let i = c.self.inside in
-    let f = place i.modules.items i.sources.items i.identifiers c.args.label.now c.in_ok-first.first c.self.invariant.long
+    let f = id i.modules.items i.sources.items i.identifiers c.args.label.now c.in_ok-first.first c.self.invariant.long
     (rw (sym c.self.view_is) at c.in_ok-first.ensures) in
     rw i.sources.ok.0 (slice_get_within i.sources.items c.in_ok-first.first f.x f.at)
 

@@ -1,8 +1,8 @@
 -- The node is read from the source at the index.
 use Rattle.std.proofs.{lemmas.Grind.common_steps, lemmas.Option.slice_get_read}
 use Rattle.std.proofs.Common.{◌<◌, length, sym, refl, arith, ◌∙◌}
-use Rattle.smi_tree.specs.branches.Standing.{oid_at}
-use Rattle.smi_tree.proofs.Bridging.{length_nodes, node-at, parts}
+use Rattle.smi_tree.specs.branches.FirstIndex.{oid_at}
+use Rattle.smi_tree.proofs.Sources.{length_nodes, node-at, parts}
 use Rattle.smi_tree.proofs.tree.Tree.node.Goals as goal
 
 pub index-source-requires : goal.index-source-requires

@@ -1,4 +1,4 @@
--- What is gathered is a tree.
+-- The nodes that were gathered, their syntaxes and their indexes are the tree of the modules.
 use Rattle.std.proofs.Common.{◌≡◌, length, sym, ap, ◌∙◌}
 use Rattle.smi_tree.proofs.Syntaxes.{is_tree, syntaxes_right}
 use Rattle.smi_tree.proofs.tree.loaded.resolve_by.Goals as goal

@@ -1,5 +1,5 @@
 use Rattle.std.proofs.{Common.arith, lemmas.Grind.common_steps}
-use Rattle.smi_value.proofs.Specs.{number_kept, octets_kept}
+use Rattle.smi_value.proofs.HintSpec.{number_kept, octets_kept}
 use Rattle.smi_value.proofs.hint.Hint.append.Goals as goal
 
 pub unreachable-requires : goal.unreachable-requires

@@ -1,5 +1,5 @@
 use Rattle.std.proofs.{Common.arith, lemmas.Grind.common_steps}
-use Rattle.smi_value.proofs.Specs.{number_kept}
+use Rattle.smi_value.proofs.HintSpec.{number_kept}
 use Rattle.smi_value.proofs.hint.Hint.is_number.Goals as goal
 
 pub returns-in-Number-clause-true_of_numbers : goal.returns-in-Number-clause-true_of_numbers

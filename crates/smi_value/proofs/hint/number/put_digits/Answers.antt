@@ -1,5 +1,5 @@
 use Rattle.std.proofs.{lemmas.Grind.common_steps, Common.arith, Common.drop_of_length-le}
-use Rattle.smi_value.proofs.Digits.{all_left, written_before, written_last}
+use Rattle.smi_value.proofs.HintNumber.{all_left, written_before, written_last}
 use Rattle.smi_value.proofs.hint.number.put_digits.Goals as goal
 
 pub digits-init : goal.digits-init

@@ -1,5 +1,5 @@
 use Rattle.std.proofs.Common.{◌≤◌, drop}
-use Rattle.smi_value.proofs.Digits.{AreLeft}
+use Rattle.smi_value.proofs.HintNumber.{AreLeft}
 use Rattle.smi_value.proofs.hint.number.put_digits.Given as goal
 
 abbrev pub invariant-digits : goal.invariant-digits

@@ -1,5 +1,5 @@
 use Rattle.std.proofs.{lemmas.Grind.common_steps, Common.◌≡◌, Common.◌⊎◌, Common.[], Common.inl, Common.inr, Common.arith}
-use Rattle.smi_value.proofs.{Growing.adds_from, Growing.none_left, Groups.one_piece, Groups.no_pieces}
+use Rattle.smi_value.proofs.{Drafts.adds_from, Drafts.none_left, HintPieces.one_piece, HintPieces.no_pieces}
 use Rattle.smi_value.proofs.hint.octets.append_cut.Goals as goal
 
 pub pieces-preserved : goal.pieces-preserved

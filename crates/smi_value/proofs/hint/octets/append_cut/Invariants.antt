@@ -1,4 +1,4 @@
-use Rattle.smi_value.proofs.Groups.{PiecesAhead}
+use Rattle.smi_value.proofs.HintPieces.{PiecesAhead}
 use Rattle.smi_value.proofs.hint.octets.append_cut.Given as goal
 
 abbrev pub invariant-pieces : goal.invariant-pieces

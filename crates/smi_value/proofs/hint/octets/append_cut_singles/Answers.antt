@@ -1,6 +1,6 @@
 use Rattle.std.proofs.{Common.arith, Common.◌≢◌, Common.List, Common.ℕ, Common.[], Common.sym, Common.subst, Common.rules, lemmas.Grind.common_steps}
 use Rattle.smi_value.specs.hint.Pieces.{pieces_text}
-use Rattle.smi_value.proofs.{Growing.adds_from, Growing.none_left, Groups.AppendsPieces, Groups.cut_none, Groups.cut_singles}
+use Rattle.smi_value.proofs.{Drafts.adds_from, Drafts.none_left, HintPieces.AppendsPieces, HintPieces.cut_none, HintPieces.cut_singles}
 use Rattle.smi_value.proofs.hint.octets.append_cut_singles.Goals as goal
 
 pub returns-then-is_empty : goal.returns-then-is_empty

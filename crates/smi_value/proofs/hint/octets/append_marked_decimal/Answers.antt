@@ -1,5 +1,5 @@
 use Rattle.std.proofs.{Common.arith, lemmas.Fmt.decimal_digit}
-use Rattle.smi_value.proofs.Digits.{decimal_two, decimal_three}
+use Rattle.smi_value.proofs.HintNumber.{decimal_two, decimal_three}
 use Rattle.smi_value.proofs.hint.octets.append_marked_decimal.Goals as goal
 
 pub returns-then-octet-lt10 : goal.returns-then-octet-lt10

@@ -1,7 +1,7 @@
 use Rattle.std.proofs.{lemmas.Grind.common_steps, Common.rules, Common.arith}
-use Rattle.smi_value.proofs.Groups.{groups_begin, groups_end, groups_alone, group_then_next, group_then_again, group_no_longer, group_shorter}
-use Rattle.smi_value.proofs.Groups.{last_takes}
-use Rattle.smi_value.proofs.Growing.{none_left}
+use Rattle.smi_value.proofs.HintPieces.{groups_begin, groups_end, groups_alone, group_then_next, group_then_again, group_no_longer, group_shorter}
+use Rattle.smi_value.proofs.HintPieces.{last_takes}
+use Rattle.smi_value.proofs.Drafts.{none_left}
 use Rattle.smi_value.proofs.hint.octets.append_octets.Goals as goal
 
 pub groups-init : goal.groups-init

@@ -1,5 +1,5 @@
 use Rattle.std.proofs.Common.{◌+◌, length}
-use Rattle.smi_value.proofs.Groups.{GroupsAhead}
+use Rattle.smi_value.proofs.HintPieces.{GroupsAhead}
 use Rattle.smi_value.proofs.hint.octets.append_octets.Given as goal
 
 abbrev pub invariant-groups : goal.invariant-groups

@@ -1,5 +1,5 @@
 use Rattle.std.proofs.Common.{◌≡◌, None, rules, arith}
-use Rattle.smi_value.proofs.{Growing.adds_from, Groups.one_for_all}
+use Rattle.smi_value.proofs.{Drafts.adds_from, HintPieces.one_for_all}
 use Rattle.smi_value.proofs.hint.octets.append_pieces.Goals as goal
 
 pub returns-then-times-gt1 : goal.returns-then-times-gt1

@@ -1,5 +1,5 @@
 use Rattle.std.proofs.Common.{ℕ, ◌+◌, ◌*◌, ◌<◌, ◌^◌, length, get_or, subst, sym, arith}
-use Rattle.smi_value.proofs.Digits.{below_56_bits, below_more, number_more}
+use Rattle.smi_value.proofs.HintNumber.{below_56_bits, below_more, number_more}
 use Rattle.smi_value.proofs.hint.octets.number_of.Goals as goal
 
 pub overflow_mul-number : goal.overflow_mul-number

@@ -1,5 +1,5 @@
 use Rattle.std.proofs.{Common.arith, Common.◌≡◌, Common.false, Common.[], Common.refl, lemmas.Grind.common_steps}
-use Rattle.smi_value.proofs.{Growing.none_left, Specs.goes_on_first, Specs.goes_on_next, Specs.no_hint, Specs.at_end, Specs.first_some}
+use Rattle.smi_value.proofs.{Drafts.none_left, HintSpec.goes_on_first, HintSpec.goes_on_next, HintSpec.no_hint, HintSpec.at_end, HintSpec.first_some}
 use Rattle.smi_value.proofs.hint.spec.ends_hint.Goals as goal
 
 pub specs-init : goal.specs-init

@@ -1,5 +1,5 @@
 use Rattle.std.proofs.Common.{length}
-use Rattle.smi_value.proofs.Specs.{GoesOn}
+use Rattle.smi_value.proofs.HintSpec.{GoesOn}
 use Rattle.smi_value.proofs.hint.spec.ends_hint.Given as goal
 
 abbrev pub invariant-specs : goal.invariant-specs

@@ -1,4 +1,4 @@
-use Rattle.smi_value.proofs.Specs.{no_length}
+use Rattle.smi_value.proofs.HintSpec.{no_length}
 use Rattle.smi_value.proofs.hint.spec.first_spec.Goals as goal
 
 pub returns-in_default-clause-none : goal.returns-in_default-clause-none

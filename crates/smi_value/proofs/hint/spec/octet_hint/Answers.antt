@@ -1,4 +1,4 @@
-use Rattle.smi_value.proofs.Groups.{hint_begins}
+use Rattle.smi_value.proofs.HintPieces.{hint_begins}
 use Rattle.smi_value.proofs.hint.spec.octet_hint.Goals as goal
 
 pub returns-in_default-clause-none : goal.returns-in_default-clause-none

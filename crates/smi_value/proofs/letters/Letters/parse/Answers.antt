@@ -1,5 +1,5 @@
 use Rattle.std.proofs.{lemmas.Grind.common_steps, Common.arith}
-use Rattle.smi_value.proofs.Reading.{letters_at, no_other_more, other_at}
+use Rattle.smi_value.proofs.LettersRead.{letters_at, no_other_more, other_at}
 use Rattle.smi_value.proofs.letters.Letters.parse.Goals as goal
 
 pub returns-in-None-clause-ok_where_all_are_letters : goal.returns-in-None-clause-ok_where_all_are_letters

@@ -1,7 +1,7 @@
 use Rattle.std.proofs.{Common.arith, lemmas.Grind.common_steps, lemmas.Slice.take-put_mid_below}
 use Rattle.snmp_wire.specs.Message.{var_bind}
 use Rattle.snmp_agent.specs.private.Answering.{held}
-use Rattle.snmp_agent.proofs.{Encodings.long_binding, Fronts.held_more, Fronts.held_full}
+use Rattle.snmp_agent.proofs.{Encodings.long_binding, ReplyBindings.held_more, ReplyBindings.held_full}
 use Rattle.snmp_agent.proofs.room.ReplyBindings.append.Goals as goal
 
 pub returns-then-not-is_short : goal.returns-then-not-is_short

@@ -1,7 +1,7 @@
 use Rattle.std.proofs.Common.{Some, sym, ◌∙◌, ap, refl}
 use Rattle.snmp_wire.specs.Message.{Datum, datum}
 use Rattle.snmp_agent.specs.table.Table.{variable}
-use Rattle.snmp_agent.proofs.Answering.{get_value}
+use Rattle.snmp_agent.proofs.AnswerValues.{get_value}
 use Rattle.snmp_agent.proofs.table.Table.get.Goals as goal
 
 pub returns-in-Some-clause-answer : goal.returns-in-Some-clause-answer

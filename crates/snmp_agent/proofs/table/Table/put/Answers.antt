@@ -1,7 +1,7 @@
 use Rattle.std.proofs.Common.{map}
 use Rattle.snmp_wire.specs.Message.{VarBind, datum}
 use Rattle.snmp_agent.specs.table.Table.{IsInstanceName, IsInstanceValue}
-use Rattle.snmp_agent.proofs.{Changing.put_either, Keeping.name_in_range, Keeping.value_in_range}
+use Rattle.snmp_agent.proofs.{ChangedEntries.put_either, ValidRows.name_in_range, ValidRows.value_in_range}
 use Rattle.snmp_agent.proofs.table.Table.put.Goals as goal
 
 pub new-requires-clause-name : goal.new-requires-clause-name

@@ -1,7 +1,7 @@
 use Rattle.std.proofs.{Common.arith, lemmas.Grind.common_steps}
 use Rattle.std.specs.{FinMap.entries, Str.Lines.lines}
-use Rattle.snmp_agent.specs.{private.table.Draft.HoldsTable, private.table.Draft.draft_objects, table.Places.view_of, table.Table.IsMibView}
-use Rattle.snmp_agent.proofs.{Keeping.is_view, Keeping.table_of, Keeping.of_entries, table.Table.read_in.Given.Over}
+use Rattle.snmp_agent.specs.{private.table.TableBuilder.HoldsTable, private.table.TableBuilder.draft_objects, table.Entries.view_of, table.Table.IsMibView}
+use Rattle.snmp_agent.proofs.{ValidRows.is_view, ValidRows.table_of, ValidRows.of_entries, table.Table.read_in.Given.Over}
 use Rattle.snmp_agent.proofs.table.Table.read_in.Goals as goal
 use Rattle.snmp_agent.proofs.table.Table.read_in.Goals.{In-Ok, in-Err-Again, in_default, in_default-2}
 

@@ -1,7 +1,7 @@
 use Rattle.std.proofs.{Common.arith, Common.◌≡◌, Common.None, Common.ap, Common.is_some, lemmas.Grind.common_steps}
 use Rattle.std.specs.{Ordering.nat_cmp, Cmp.Lexicographic.slice_cmp, FinMap.FinMap, FinMap.get}
 use Rattle.snmp_wire.specs.Message.{Datum}
-use Rattle.snmp_agent.proofs.{Changing.nothing_removed, Changing.removed_good, Changing.unnamed, table.Table.remove.Goals.Then-not-is_wire}
+use Rattle.snmp_agent.proofs.{ChangedEntries.nothing_removed, ChangedEntries.removed_good, ChangedEntries.unnamed, table.Table.remove.Goals.Then-not-is_wire}
 use Rattle.snmp_agent.proofs.table.Table.remove.Goals as goal
 
 none : (c : Then-not-is_wire) → None ≡ get c.args.self.now.rows c.args.name.now

@@ -3,7 +3,7 @@ use Rattle.std.specs.Option.{option_map}
 use Rattle.snmp_wire.specs.Message.{Datum, VarBind, datum}
 use Rattle.snmp_agent.specs.{table.Exact.IsOnly, table.Exact.IsOnlyThere, table.Form.IsInstanceText, table.Format.IsNameIn, table.Text.IsValueText}
 use Rattle.snmp_agent.specs.private.table.Row.{datum_of, tag_text}
-use Rattle.snmp_agent.proofs.{Keeping.instance_value, Keeping.value_in_range, table.line.instance.Given.Over}
+use Rattle.snmp_agent.proofs.{ValidRows.instance_value, ValidRows.value_in_range, table.line.instance.Given.Over}
 use Rattle.snmp_agent.proofs.table.line.instance.Goals as goal
 use Rattle.snmp_agent.proofs.table.line.instance.Goals.{In-Some, In-Some-true}
 
@@ -26,13 +26,15 @@ pub new-requires-clause-value : goal.new-requires-clause-value
 new-requires-clause-value g c =
     let format = g.F.LineFormat.format c.args.format.now in
     let value = datum c.read_plain.new.into in
-    value_in_range value (instance_value format (tag_text c.args.tag) c.args.value_text.now value (number g (goal.at.new-requires-clause-value g c).In-Some-true))
+    value_in_range value (instance_value format (tag_text c.args.tag) c.args.value_text.now value (number g
+    (goal.at.new-requires-clause-value g c).In-Some-true))
 
 pub encoded_text-requires-clause-value : goal.encoded_text-requires-clause-value
 encoded_text-requires-clause-value g c =
     let format = g.F.LineFormat.format c.args.format.now in
     let value = datum_of c.in-Some.stated in
-    value_in_range value (instance_value format (tag_text c.args.tag) c.args.value_text.now value (text g (goal.at.encoded_text-requires-clause-value g c).In-Some))
+    value_in_range value (instance_value format (tag_text c.args.tag) c.args.value_text.now value (text g
+    (goal.at.encoded_text-requires-clause-value g c).In-Some))
 
 pub returns-in_ok-row-in-Some-true : goal.returns-in_ok-row-in-Some-true
 returns-in_ok-row-in-Some-true g c =

@@ -11,11 +11,11 @@ pub returns-in_err-tag : goal.returns-in_err-tag
 returns-in_err-tag g c =
     let format = g.F.LineFormat.format c.args.format.now in
     let cut = c.in_ok-name.ensures in
-    let none : HasNoBar c.in_ok-name.behind.now = c.in_err-tag.ensures in
+    let none : HasNoBar c.in_ok-name.after.now = c.in_err-tag.ensures in
     rw c.from_residual-in_err-tag.ensures record {
       not_blank = c.requires.not_blank;
       no_object = c.requires.no_object;
-      no_row = λ name tag text row. no_row_with_one_bar format c.args.line.now c.in_ok-name.name.now c.in_ok-name.behind.now name tag text cut.0 cut.1 none row;
+      no_row = λ name tag text row. no_row_with_one_bar format c.args.line.now c.in_ok-name.name.now c.in_ok-name.after.now name tag text cut.0 cut.1 none row;
     }
 
 pub returns-in_err-from_text : goal.returns-in_err-from_text
@@ -28,7 +28,7 @@ returns-in_err-from_text g c =
       not_blank = c.requires.not_blank;
       no_object = c.requires.no_object;
       no_row = λ name tag text row.
-          let same = same_parts format c.args.line.now c.in_ok-name.name.now c.in_ok-name.behind.now c.in_ok-tag.tag.now c.in_ok-tag.text.now name tag text cut.0
+          let same = same_parts format c.args.line.now c.in_ok-name.name.now c.in_ok-name.after.now c.in_ok-tag.tag.now c.in_ok-tag.text.now name tag text cut.0
           cut.1 second.0 second.1 row in
           unknown (subst IsTag same.1 row.known);
     }
@@ -42,7 +42,7 @@ returns g c =
     record {
       not_blank = c.requires.not_blank;
       no_object = c.requires.no_object;
-      parts = row_parts c.args.line.now c.in_ok-name.name.now c.in_ok-name.behind.now c.in_ok-tag.tag.now c.in_ok-tag.text.now
+      parts = row_parts c.args.line.now c.in_ok-name.name.now c.in_ok-name.after.now c.in_ok-tag.tag.now c.in_ok-tag.text.now
           (tag_text c.in_ok-from_text.field-0) cut.0 second.0 tag;
       name_ends = cut.1;
       tag_ends = subst HasNoBar tag second.1;

@@ -12,6 +12,6 @@ count_between-requires-clause-parted c = pages_partitioned c.args.name.now c.arg
 pub returns : goal.returns
 returns c =
     let count = c.count_between.result in
-    let place : count - 1 ≡ c.saturating_sub.result = omega (arith, c.saturating_sub.ensures) in
-    subst (IsPageOf c.args.name.now c.args.pages.now) place
+    let index : count - 1 ≡ c.saturating_sub.result = omega (arith, c.saturating_sub.ensures) in
+    subst (IsPageOf c.args.name.now c.args.pages.now) index
     (page_before c.args.name.now c.args.pages.now count c.requires c.count_between.ensures)

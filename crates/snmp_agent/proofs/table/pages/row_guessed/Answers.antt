@@ -1,7 +1,7 @@
 use Rattle.std.proofs.{Common.◌≡◌, Common.List, Common.ℕ, Common.Some, Common.length, Common.subst, Common.refl, lemmas.Option.slice_get_read}
 use Rattle.std.specs.{List.slice_get, Ordering.nat_cmp, Cmp.Lexicographic.slice_cmp, FinMap.find}
 use Rattle.snmp_agent.specs.table.Pages.{entries_in}
-use Rattle.snmp_agent.proofs.{Changing.same_named, Paging.found_in_page}
+use Rattle.snmp_agent.proofs.{ChangedEntries.same_named, Pages.found_in_page}
 use Rattle.snmp_agent.proofs.table.pages.row_guessed.Goals as goal
 
 pub returns-clause-name : goal.returns-clause-name

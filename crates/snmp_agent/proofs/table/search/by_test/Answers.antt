@@ -1,5 +1,5 @@
 use Rattle.std.proofs.Common.{sym, ◌∙◌}
-use Rattle.snmp_agent.proofs.Halving.{passes, fails}
+use Rattle.snmp_agent.proofs.BinarySearch.{passes, fails}
 use Rattle.snmp_agent.proofs.table.search.by_test.Goals as goal
 
 pub returns-then-is_up_to : goal.returns-then-is_up_to

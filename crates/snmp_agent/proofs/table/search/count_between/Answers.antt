@@ -1,5 +1,5 @@
 use Rattle.std.proofs.{lemmas.Grind.common_steps, Common.ℕ, Common.◌+◌, Common.◌-◌, Common.◌/◌, Common.arith, Common.sym, Common.◌∙◌}
-use Rattle.snmp_agent.proofs.Halving.{fails, met, passes}
+use Rattle.snmp_agent.proofs.BinarySearch.{fails, met, passes}
 use Rattle.snmp_agent.proofs.table.search.count_between.Goals as goal
 
 pub halves-preserved-then-is_up_to : goal.halves-preserved-then-is_up_to

@@ -1,5 +1,5 @@
 use Rattle.std.proofs.Common.{◌-◌}
-use Rattle.snmp_agent.specs.private.table.Halving.{IsHalvedTo}
+use Rattle.snmp_agent.specs.private.table.BinarySearch.{IsHalvedTo}
 use Rattle.snmp_agent.proofs.table.search.count_between.Given as goal
 
 abbrev pub invariant-halves : goal.invariant-halves

@@ -1,5 +1,5 @@
 use Rattle.std.proofs.{Common.arith, lemmas.Grind.common_steps}
-use Rattle.snmp_agent.proofs.Splitting.{lines_first, lines_last}
+use Rattle.snmp_agent.proofs.Splits.{lines_first, lines_last}
 use Rattle.snmp_agent.proofs.table.split.split_line.Goals as goal
 
 pub returns-in-Some-clause-lines : goal.returns-in-Some-clause-lines

@@ -1,6 +1,6 @@
 use Rattle.std.proofs.Common.{◌≡◌, ◌+◌, ◌-◌, ℕ, length, drop, take, get_or, add-one, arith, eq-eqb, length-drop}
 use Rattle.std.proofs.{lemmas.Bool.eqb-true, lemmas.List.take_all}
-use Rattle.snmp_agent.proofs.Splitting.{Cut, cut, others}
+use Rattle.snmp_agent.proofs.Splits.{Cut, cut, others}
 use Rattle.snmp_agent.proofs.table.split.split_once.Goals as goal
 
 pub returns-in_err-end : goal.returns-in_err-end
@@ -18,4 +18,4 @@ returns c =
     (λ k low same. found.0.before k (omega arith) low (eq-eqb (get_or text k 0) c.args.separator same)) in
     let n : ℕ = c.in_ok-end.end + 1 in
     let rest : take (length text - n) (drop n text) ≡ drop n text = take_all (length text - n) (drop n text) (omega (arith, length-drop n text)) in
-    (rw (rest, add-one c.in_ok-end.end) parts.parts, parts.front)
+    (rw (rest, add-one c.in_ok-end.end) parts.parts, parts.prefix)

@@ -1,6 +1,6 @@
 use Rattle.std.proofs.Common.{◌≡◌, sym, subst}
 use Rattle.snmp_io.specs.Draft.{Adds, Written}
-use Rattle.snmp_tools.specs.{Message.fault_of, Message.fault_message, declared.failure.Failure.Failure}
+use Rattle.snmp_tools.specs.{FaultText.fault_of, FaultText.fault_message, declared.failure.Failure.Failure}
 use Rattle.snmp_tools.proofs.failure.Failure.append_message.Goals as goal
 
 -- the message of a failure is the message of its case

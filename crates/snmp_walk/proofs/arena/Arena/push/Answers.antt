@@ -1,5 +1,5 @@
 use Rattle.std.proofs.{Common.arith, lemmas.Grind.common_steps}
-use Rattle.snmp_walk.proofs.ArenaLemmas.{cut-push}
+use Rattle.snmp_walk.proofs.Arenas.{cut-push}
 use Rattle.snmp_walk.proofs.arena.Arena.push.Goals as goal
 
 pub returns-clause-added : goal.returns-clause-added

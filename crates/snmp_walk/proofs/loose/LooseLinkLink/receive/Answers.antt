@@ -1,9 +1,9 @@
 use Rattle.std.proofs.Common.{◌≡◌, ◌∙◌, ◌∷◌, [], List, ℕ, length, take, arith, ap, refl, subst}
 use Rattle.std.specs.Prelude.{IfSome}
 use Rattle.snmp_agent.specs.Reply.{Agent, IsDropped}
-use Rattle.snmp_agent.specs.declared.config.Why.{Why}
+use Rattle.snmp_agent.specs.declared.config.DropReason.{DropReason}
 use Rattle.snmp_walk.specs.Loose.{IsDroppedBy, IsSentIn, UsesWay, agent_at, last_sent}
-use Rattle.snmp_walk.proofs.{LooseLemmas.if_none, LooseLemmas.sent_back, MemoryLemmas.within_more, MoveLemmas.ok_fine}
+use Rattle.snmp_walk.proofs.{LooseLinks.if_none, LooseLinks.sent_back, MemoryLinks.within_more, Moves.ok_fine}
 use Rattle.snmp_walk.proofs.loose.LooseLinkLink.receive.Goals.{After-answer}
 use Rattle.snmp_walk.proofs.loose.LooseLinkLink.receive.Goals as goal
 
@@ -18,9 +18,9 @@ asked c = c.as_slice.ensures.value ∙ c.next_way-way.ensures.last
 pub returns-clause-length : goal.returns-clause-length
 returns-clause-length c = within_more c.answer.result (length c.args.buffer.now) c.answer.ensures.length (c.in-Some.ensures.variant.0 refl)
 
-pub returns-clause-brings : goal.returns-clause-brings
-returns-clause-brings c =
-    let at = (goal.at.returns-clause-brings c).After-answer in
+pub returns-clause-delivers : goal.returns-clause-delivers
+returns-clause-delivers c =
+    let at = (goal.at.returns-clause-delivers c).After-answer in
     let self = c.args.self.now in
     let out = c.answer.new.out in
     let how = c.next_way-way.result in
@@ -33,7 +33,7 @@ pub returns-clause-silent : goal.returns-clause-silent
 returns-clause-silent c =
     let at = (goal.at.returns-clause-silent c).After-answer in
     let self = c.args.self.now in
-    if_none c.answer.result ((why : Why) × IsDropped (agent_at c.next_way-way.new.self) c.as_slice.result.now why)
+    if_none c.answer.result ((why : DropReason) × IsDropped (agent_at c.next_way-way.new.self) c.as_slice.result.now why)
     (IsDroppedBy self c.next_way-way.new.self)
     (λ h. (
       c.next_way-way.result,

@@ -1,8 +1,8 @@
 use Rattle.std.proofs.Common.{◌≡◌, ◌∙◌, List, ℕ, length, take, arith, ap, inl, inr, refl}
 use Rattle.snmp_agent.specs.Reply.{IsReply, agent_of}
 use Rattle.snmp_wire.specs.Message.{Message}
-use Rattle.snmp_agent.specs.declared.config.Why.TheVariants as why
-use Rattle.snmp_walk.proofs.HonestLemmas.{one_spelt}
+use Rattle.snmp_agent.specs.declared.config.DropReason.TheVariants as why
+use Rattle.snmp_walk.proofs.OwnReply.{one_spelt}
 use Rattle.snmp_walk.proofs.loose.Way.answer.Goals.{In-Reply}
 use Rattle.snmp_walk.proofs.loose.Way.answer.Goals as goal
 

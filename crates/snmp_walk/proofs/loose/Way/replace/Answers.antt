@@ -2,7 +2,7 @@ use Rattle.std.proofs.Common.{◌<ℤ◌, pos, ℕ, sym, subst, take}
 use Rattle.snmp_agent.specs.Reply.{IsReply, agent_of}
 use Rattle.snmp_wire.specs.Canon.{canon}
 use Rattle.snmp_walk.specs.{declared.loose.Way.Way, Loose.Replaces, Loose.with_repetitions}
-use Rattle.snmp_walk.proofs.LooseLemmas.{if_none}
+use Rattle.snmp_walk.proofs.LooseLinks.{if_none}
 use Rattle.snmp_walk.proofs.loose.Way.replace.Goals as goal
 
 pub returns-in-Fewer-clause-none : goal.returns-in-Fewer-clause-none

@@ -1,5 +1,5 @@
 use Rattle.std.proofs.{Common.arith, lemmas.Grind.common_steps}
-use Rattle.snmp_walk.proofs.MemoryLemmas.{views_more}
+use Rattle.snmp_walk.proofs.MemoryLinks.{views_more}
 use Rattle.snmp_walk.proofs.memory.MemoryLink.changing.Goals as goal
 
 pub tables-preserved : goal.tables-preserved

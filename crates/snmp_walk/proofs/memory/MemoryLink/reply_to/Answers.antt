@@ -1,5 +1,5 @@
 use Rattle.std.proofs.Common.{inr}
-use Rattle.snmp_walk.proofs.MemoryLemmas.{counted}
+use Rattle.snmp_walk.proofs.MemoryLinks.{counted}
 use Rattle.snmp_walk.proofs.memory.MemoryLink.reply_to.Goals as goal
 
 pub returns-in-Reply-clause-reply : goal.returns-in-Reply-clause-reply
@@ -19,7 +19,7 @@ returns-in-Reply-clause-table c = record {
   datagram = c.in_ok-datagram.datagram.now;
   found = c.in_ok-datagram.ensures.some;
   view = c.table_for-table.result.now;
-  serves = c.table_for-table.ensures.place (counted _ _ _ c.in_ok-datagram.ensures.some);
+  serves = c.table_for-table.ensures.index (counted _ _ _ c.in_ok-datagram.ensures.some);
   reply = c.answer_near.ensures.reply c.in-Reply.length c.in-Reply.is;
 }
 
@@ -29,6 +29,6 @@ returns-in-Dropped-clause-none c = inr (
   c.table_for-table.result.now,
   _,
   c.in_ok-datagram.ensures.some,
-  c.table_for-table.ensures.place (counted _ _ _ c.in_ok-datagram.ensures.some),
+  c.table_for-table.ensures.index (counted _ _ _ c.in_ok-datagram.ensures.some),
   c.answer_near.ensures.dropped _ c.in-Dropped.is,
 )

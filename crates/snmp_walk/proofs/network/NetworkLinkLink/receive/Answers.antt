@@ -2,7 +2,7 @@ use Rattle.std.proofs.Common.{◌≡◌, ◌∙◌, [], ℕ, List, inl, refl, sy
 use Rattle.snmp_agent.specs.Reply.{agent_of}
 use Rattle.snmp_walk.specs.{Link.AreLawful, Moves.AreSent, Traffic.latest}
 use Rattle.snmp_walk.specs.{Network.RepliesTo, Network.event_of_got, Served.IsServedBy, Served.agents_at}
-use Rattle.snmp_walk.proofs.NetworkLemmas.{by_none, by_some, chain_of, gives_of, got_none, same_sent, still_so}
+use Rattle.snmp_walk.proofs.Networks.{by_none, by_some, chain_of, gives_of, got_none, same_sent, still_so}
 use Rattle.snmp_walk.proofs.network.NetworkLinkLink.receive.Given.{Over}
 use Rattle.snmp_walk.proofs.network.NetworkLinkLink.receive.Goals as goal
 use Rattle.snmp_walk.proofs.network.NetworkLinkLink.receive.Goals.{After-receive_reply}
@@ -20,11 +20,11 @@ came_so g c =
           c.serve_at.new.endpoint c.receive_reply.new.self t.2 c.receive_reply.ensures.carries,
     )
 
-pub returns-in-Ok-clause-brings : goal.returns-in-Ok-clause-brings
-returns-in-Ok-clause-brings g c =
+pub returns-in-Ok-clause-delivers : goal.returns-in-Ok-clause-delivers
+returns-in-Ok-clause-delivers g c =
     by_some c.in-Ok.got c.receive_reply.new.buffer
     (λ e. IsServedBy g.N.Network.carries g.N.Network.turn_count c.args.self.now e (record c.args.self.now { network = c.receive_reply.new.self }))
-    (rw c.in-Ok.is at (came_so g (goal.at.returns-in-Ok-clause-brings g c).After-receive_reply))
+    (rw c.in-Ok.is at (came_so g (goal.at.returns-in-Ok-clause-delivers g c).After-receive_reply))
 
 pub returns-in-Ok-clause-silent : goal.returns-in-Ok-clause-silent
 returns-in-Ok-clause-silent g c =
@@ -62,7 +62,7 @@ module _ (g : Over) (c : After-receive_reply g) where
 
   none_sent : (failed : Type 0) → AreSent [] failed (g.N.Network.sent c.args.self.now.network) (g.N.Network.sent c.receive_reply.new.self)
   none_sent failed = record {
-    front = [];
+    prefix = [];
     left = [];
     parts = refl;
     sent = same_traffic ∙ sym (append-nil (g.N.Network.sent c.args.self.now.network));

@@ -1,7 +1,7 @@
 use Rattle.std.proofs.Common.{◌≡◌, ◌≤◌, List, ℕ, [], ◌∷◌, length, refl, subst, ◌∙◌, arith}
 use Rattle.std.specs.Bool.{Decides, one_answer}
 use Rattle.snmp_oid.specs.Identifier.{IsBelow, wire}
-use Rattle.snmp_walk.proofs.NameLemmas.{below_decided}
+use Rattle.snmp_walk.proofs.Names.{below_decided}
 use Rattle.snmp_walk.proofs.root.Root.is_above.Goals as goal
 
 -- a root of at least two numbers is its own wire form

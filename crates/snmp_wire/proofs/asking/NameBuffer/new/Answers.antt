@@ -8,5 +8,5 @@ invariant_of-result c = grind (arith, common_steps, content_octets)
 pub returns : goal.returns
 returns c =
     let e = c.content-content.ensures.encodes in
-    let is = content_octets _ _ c.args.name.now c.copy_to_front.ensures c.content-content.ensures.octets e in
+    let is = content_octets _ _ c.args.name.now c.copy_to_start.ensures c.content-content.ensures.octets e in
     record { value = is.1; wire = e.wire; identifier = e.identifier }

@@ -1,5 +1,5 @@
 use Rattle.std.proofs.lemmas.Bool.{ltb-true}
-use Rattle.snmp_wire.proofs.IdentifierWriting.{eight_low}
+use Rattle.snmp_wire.proofs.WrittenIdentifiers.{eight_low}
 use Rattle.snmp_wire.proofs.ber.identifier.are_short.Goals as goal
 
 pub returns : goal.returns

@@ -1,6 +1,6 @@
 use Rattle.std.proofs.{lemmas.Result.err_from_is_err_and}
 use Rattle.snmp_wire.proofs.ReadingLaws.{some_left}
-use Rattle.snmp_wire.proofs.IdentifierReading.{counted_fails}
+use Rattle.snmp_wire.proofs.ReadIdentifiers.{counted_fails}
 use Rattle.snmp_wire.proofs.ber.identifier.check_numbers.Goals as goal
 
 pub returns-in_err-some : goal.returns-in_err-some

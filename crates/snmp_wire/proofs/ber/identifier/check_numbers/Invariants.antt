@@ -1,6 +1,6 @@
 use Rattle.std.proofs.Common.{◌≡◌, ◌+◌, ◌≤◌, length}
-use Rattle.snmp_wire.specs.ber.Reading.{checked, numbers_of}
-use Rattle.snmp_wire.proofs.IdentifierReading.{counted}
+use Rattle.snmp_wire.specs.ber.Decode.{checked, numbers_of}
+use Rattle.snmp_wire.proofs.ReadIdentifiers.{counted}
 use Rattle.snmp_wire.proofs.ber.identifier.check_numbers.Given as goal
 
 abbrev pub invariant-numbers : goal.invariant-numbers

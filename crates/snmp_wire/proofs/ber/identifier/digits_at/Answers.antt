@@ -1,5 +1,5 @@
 use Rattle.std.proofs.{Common.sym, Common.◌∙◌, Common.arith}
-use Rattle.snmp_wire.proofs.IdentifierReading.{digits_end}
+use Rattle.snmp_wire.proofs.ReadIdentifiers.{digits_end}
 use Rattle.snmp_wire.proofs.ber.identifier.digits_at.Goals as goal
 
 pub returns : goal.returns

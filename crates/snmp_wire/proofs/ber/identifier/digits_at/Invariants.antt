@@ -1,5 +1,5 @@
 use Rattle.std.proofs.Common.{◌≡◌, ◌≤◌, drop}
-use Rattle.snmp_wire.specs.ber.Reading.{largest_subidentifier, subidentifier_from}
+use Rattle.snmp_wire.specs.ber.Decode.{largest_subidentifier, subidentifier_from}
 use Rattle.snmp_wire.proofs.ber.identifier.digits_at.Given as goal
 
 abbrev pub invariant-octets : goal.invariant-octets

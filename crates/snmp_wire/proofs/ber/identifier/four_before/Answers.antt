@@ -1,5 +1,5 @@
 use Rattle.std.proofs.{lemmas.Grind.common_steps, Common.arith}
-use Rattle.snmp_wire.proofs.IdentifierWriting.{below_128, plain_before}
+use Rattle.snmp_wire.proofs.WrittenIdentifiers.{below_128, plain_before}
 use Rattle.snmp_wire.proofs.ber.identifier.four_before.Goals as goal
 
 pub overflow_cast-result : goal.overflow_cast-result

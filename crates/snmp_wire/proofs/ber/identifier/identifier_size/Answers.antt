@@ -1,5 +1,5 @@
 use Rattle.std.proofs.Common.{arith}
-use Rattle.snmp_wire.proofs.IdentifierWriting.{length-content}
+use Rattle.snmp_wire.proofs.WrittenIdentifiers.{length-content}
 use Rattle.snmp_wire.proofs.ber.identifier.identifier_size.Goals as goal
 
 pub returns-clause-value : goal.returns-clause-value

@@ -1,5 +1,5 @@
 use Rattle.std.proofs.Common.{arith}
-use Rattle.snmp_wire.proofs.IdentifierReading.{number_subidentifier, number_is}
+use Rattle.snmp_wire.proofs.ReadIdentifiers.{number_subidentifier, number_is}
 use Rattle.snmp_wire.proofs.ber.identifier.number_in.Goals as goal
 
 pub subidentifier_in-number-requires : goal.subidentifier_in-number-requires

@@ -6,7 +6,7 @@ use Rattle.snmp_wire.proofs.ber.identifier.other_numbers_size.Given as goal
 -- the octets of the numbers from index `left` on are counted
 abbrev pub invariant-numbers : goal.invariant-numbers
 invariant-numbers l = record {
-  told : l.size ≡ length (flat_map canon_subidentifier (drop l.left l.numbers));
+  reported : l.size ≡ length (flat_map canon_subidentifier (drop l.left l.numbers));
   small : l.size + 5 * l.left ≤ 5 * length l.numbers;
   within : l.left ≤ length l.numbers;
 }

@@ -1,6 +1,6 @@
 use Rattle.std.proofs.{Common.arith, lemmas.List.length-append}
 use Rattle.snmp_wire.proofs.ReadingLaws.{some_left}
-use Rattle.snmp_wire.proofs.IdentifierReading.{start, plain_fits, push_plain}
+use Rattle.snmp_wire.proofs.ReadIdentifiers.{start, plain_fits, push_plain}
 use Rattle.snmp_wire.proofs.ber.identifier.push_numbers.Goals as goal
 
 pub numbers-init : goal.numbers-init

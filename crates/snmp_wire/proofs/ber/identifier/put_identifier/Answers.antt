@@ -1,5 +1,5 @@
 use Rattle.std.proofs.{lemmas.Grind.common_steps, Common.arith, Common.sym}
-use Rattle.snmp_wire.proofs.IdentifierWriting.{content_is, length-canon_subidentifier, length-content}
+use Rattle.snmp_wire.proofs.WrittenIdentifiers.{content_is, length-canon_subidentifier, length-content}
 use Rattle.snmp_wire.proofs.WritingLaws.{writes_same, writes_then}
 use Rattle.snmp_wire.proofs.ber.identifier.put_identifier.Goals as goal
 

@@ -1,7 +1,7 @@
 use Rattle.std.proofs.{Common.◌-◌, Common.◌++◌, Common.length, Common.sym, Common.ap, Common.◌∙◌, Common.arith}
 use Rattle.snmp_wire.specs.ber.Canon.{canon_subidentifier, eight_from}
 use Rattle.snmp_wire.proofs.WritingLaws.{writes_same, writes_then}
-use Rattle.snmp_wire.proofs.IdentifierWriting.{length-canon_subidentifier, nine, nine_counted, none_before}
+use Rattle.snmp_wire.proofs.WrittenIdentifiers.{length-canon_subidentifier, nine, nine_counted, none_before}
 use Rattle.snmp_wire.proofs.ber.identifier.put_numbers.Goals as goal
 
 pub returns-then-count-eq9 : goal.returns-then-count-eq9
@@ -9,7 +9,7 @@ returns-then-count-eq9 c =
     let numbers = c.args.numbers.now in
     let last = eight_from numbers (length numbers - 9) ++ canon_subidentifier c.from.result in
     writes_same (writes_then c.put_subidentifier-last.ensures c.put_eight-start.ensures)
-    (sym (ap (λ front. front ++ last) (none_before numbers c.if-count-eq9.true))
+    (sym (ap (λ prefix. prefix ++ last) (none_before numbers c.if-count-eq9.true))
     ∙ nine numbers c.from.result c.if-count-lt9.false (c.are_short.ensures c.if-not-are_short.false) c.from.ensures)
 
 pub returns : goal.returns

@@ -1,7 +1,7 @@
 use Rattle.std.proofs.{lemmas.Grind.common_steps, Common.◌+◌, Common.◌-◌, Common.◌%◌, Common.◌∷◌, Common.sym, Common.ap, Common.◌∙◌, Common.arith}
 use Rattle.snmp_wire.specs.ber.Canon.{digits, septets}
-use Rattle.snmp_wire.proofs.IdentifierWriting.{septets-suc}
-use Rattle.snmp_wire.proofs.WritingLemmas.{all_digits, rest_digits, rest_none, writes_digit, writes_no_digit}
+use Rattle.snmp_wire.proofs.WrittenIdentifiers.{septets-suc}
+use Rattle.snmp_wire.proofs.WrittenOctets.{all_digits, rest_digits, rest_none, writes_digit, writes_no_digit}
 use Rattle.snmp_wire.proofs.ber.identifier.put_septets.Goals as goal
 
 pub septets-init : goal.septets-init

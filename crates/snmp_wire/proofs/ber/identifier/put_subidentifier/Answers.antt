@@ -1,6 +1,6 @@
 use Rattle.std.proofs.{Common.◌/◌, Common.sym, Common.arith}
-use Rattle.snmp_wire.proofs.IdentifierWriting.{one_septet, subidentifier_short, subidentifier_three}
-use Rattle.snmp_wire.proofs.IdentifierWriting.{subidentifier_two, two_septets, writes_subidentifier}
+use Rattle.snmp_wire.proofs.WrittenIdentifiers.{one_septet, subidentifier_short, subidentifier_three}
+use Rattle.snmp_wire.proofs.WrittenIdentifiers.{subidentifier_two, two_septets, writes_subidentifier}
 use Rattle.snmp_wire.proofs.WritingLaws.{writes_same, writes_then}
 use Rattle.snmp_wire.proofs.ber.identifier.put_subidentifier.Goals as goal
 

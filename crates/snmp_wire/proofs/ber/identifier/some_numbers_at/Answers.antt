@@ -1,5 +1,5 @@
 use Rattle.std.proofs.{Common.arith}
-use Rattle.snmp_wire.proofs.IdentifierReading.{number_shrinks}
+use Rattle.snmp_wire.proofs.ReadIdentifiers.{number_shrinks}
 use Rattle.snmp_wire.proofs.ber.identifier.some_numbers_at.Goals as goal
 
 pub returns-clause-some : goal.returns-clause-some

@@ -1,5 +1,5 @@
 use Rattle.std.proofs.{Common.arith, lemmas.Grind.common_steps}
-use Rattle.snmp_wire.specs.ber.Reading.{subidentifier_at, subidentifier_from}
+use Rattle.snmp_wire.specs.ber.Decode.{subidentifier_at, subidentifier_from}
 use Rattle.snmp_wire.proofs.ber.identifier.subidentifier_at.Goals as goal
 
 pub returns-in-len1-up : goal.returns-in-len1-up

@@ -1,5 +1,5 @@
 use Rattle.std.proofs.Common.{arith}
-use Rattle.snmp_wire.proofs.{ElementLaws.length-canon_header, ElementLemmas.writes_tag}
+use Rattle.snmp_wire.proofs.{ElementLaws.length-canon_header, ElementRoom.writes_tag}
 use Rattle.snmp_wire.proofs.ber.length.put_header.Goals as goal
 
 pub put_length-start-requires-clause-room : goal.put_length-start-requires-clause-room

@@ -1,6 +1,6 @@
 use Rattle.std.proofs.Common.{ap, sym, ◌∙◌, ◌∷◌, ◌+◌}
 use Rattle.snmp_wire.specs.ber.Canon.{octets}
-use Rattle.snmp_wire.proofs.{CanonLemmas.canon_length_long, WritingLaws.writes_same, WritingLaws.writes_then}
+use Rattle.snmp_wire.proofs.{NumberSizes.canon_length_long, WritingLaws.writes_same, WritingLaws.writes_then}
 use Rattle.snmp_wire.proofs.ber.length.put_length.Goals as goal
 
 pub returns-else-size-lt128 : goal.returns-else-size-lt128

@@ -1,6 +1,6 @@
 use Rattle.std.proofs.{lemmas.Grind.common_steps, Common.arith, Common.sym}
 use Rattle.snmp_wire.proofs.ElementLaws.{canon_length_short, header_short, length-canon_header}
-use Rattle.snmp_wire.proofs.{ElementLemmas.writes_tag, WritingLaws.writes_same}
+use Rattle.snmp_wire.proofs.{ElementRoom.writes_tag, WritingLaws.writes_same}
 use Rattle.snmp_wire.proofs.ber.length.put_short_header.Goals as goal
 
 pub put_octet-start-requires-clause-room : goal.put_octet-start-requires-clause-room

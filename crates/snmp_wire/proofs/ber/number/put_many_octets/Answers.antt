@@ -1,7 +1,7 @@
 use Rattle.std.proofs.{lemmas.Grind.common_steps, Common.◌-◌, Common.◌%◌, Common.◌∷◌, Common.sym, Common.ap, Common.◌∙◌, Common.arith}
 use Rattle.snmp_wire.specs.ber.Canon.{digits, octets}
 use Rattle.snmp_wire.proofs.Digits.{digits-suc}
-use Rattle.snmp_wire.proofs.WritingLemmas.{all_digits, rest_digits, rest_none, writes_digit, writes_no_digit}
+use Rattle.snmp_wire.proofs.WrittenOctets.{all_digits, rest_digits, rest_none, writes_digit, writes_no_digit}
 use Rattle.snmp_wire.proofs.ber.number.put_many_octets.Goals as goal
 
 pub octets-init : goal.octets-init

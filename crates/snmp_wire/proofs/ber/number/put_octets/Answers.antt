@@ -1,6 +1,6 @@
 use Rattle.std.proofs.Common.{ap, sym, ◌∙◌}
 use Rattle.snmp_wire.specs.ber.Canon.{octets}
-use Rattle.snmp_wire.proofs.{CanonLemmas.one_octet, CanonLemmas.two_octets, WritingLaws.writes_same, WritingLaws.writes_then}
+use Rattle.snmp_wire.proofs.{NumberSizes.one_octet, NumberSizes.two_octets, WritingLaws.writes_same, WritingLaws.writes_then}
 use Rattle.snmp_wire.proofs.ber.number.put_octets.Goals as goal
 
 pub returns-in-1 : goal.returns-in-1

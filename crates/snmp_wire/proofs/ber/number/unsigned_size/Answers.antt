@@ -1,5 +1,5 @@
 use Rattle.std.proofs.{lemmas.Grind.common_steps, Common.arith}
-use Rattle.snmp_wire.proofs.CanonLemmas.{size_of_bits, size_one}
+use Rattle.snmp_wire.proofs.NumberSizes.{size_of_bits, size_one}
 use Rattle.snmp_wire.proofs.ber.number.unsigned_size.Goals as goal
 
 pub returns-then-number-lt128-clause-value : goal.returns-then-number-lt128-clause-value

@@ -1,4 +1,4 @@
-use Rattle.snmp_wire.proofs.ElementLemmas.{empty_fits, writes_empty}
+use Rattle.snmp_wire.proofs.ElementRoom.{empty_fits, writes_empty}
 use Rattle.snmp_wire.proofs.ber.value.put_empty.Goals as goal
 
 pub put_short_header-requires-clause-room : goal.put_short_header-requires-clause-room

@@ -1,5 +1,5 @@
 use Rattle.std.proofs.Common.{arith}
-use Rattle.snmp_wire.proofs.{CanonLemmas.length-from_zero}
+use Rattle.snmp_wire.proofs.{NumberSizes.length-from_zero}
 use Rattle.snmp_wire.proofs.ElementLaws.{content_fits, writes_element}
 use Rattle.snmp_wire.proofs.ber.value.put_long_number.Goals as goal
 

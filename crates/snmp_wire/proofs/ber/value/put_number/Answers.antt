@@ -1,8 +1,8 @@
 use Rattle.std.proofs.{lemmas.Grind.common_steps, Common.length, Common.pos, Common.ap, Common.arith, Common.sym, Common.◌∙◌}
 use Rattle.snmp_wire.specs.ber.Canon.{canon_number}
-use Rattle.snmp_wire.proofs.CanonLemmas.{length-from_zero, number_large, size_five, size_four, writes_five_octets, writes_four_octets}
+use Rattle.snmp_wire.proofs.NumberSizes.{length-from_zero, number_large, size_five, size_four, writes_five_octets, writes_four_octets}
 use Rattle.snmp_wire.proofs.{Digits.length-digits, ElementLaws.content_fits, ElementLaws.header_fits, ElementLaws.writes_element}
-use Rattle.snmp_wire.proofs.{ElementLemmas.number_short, ElementLemmas.sized_header_fits, ElementLemmas.writes_sized, WritingLaws.writes_same}
+use Rattle.snmp_wire.proofs.{ElementRoom.number_short, ElementRoom.sized_header_fits, ElementRoom.writes_sized, WritingLaws.writes_same}
 use Rattle.snmp_wire.proofs.ber.value.put_number.Goals as goal
 
 pub put_unsigned-start-requires-clause-room : goal.put_unsigned-start-requires-clause-room

@@ -1,5 +1,5 @@
 use Rattle.std.proofs.{Common.arith, lemmas.Grind.common_steps}
-use Rattle.snmp_wire.specs.Reading.{fields}
+use Rattle.snmp_wire.specs.Decode.{fields}
 use Rattle.snmp_wire.proofs.MessageLaws.{name_of, parts_of, with_fields}
 use Rattle.snmp_wire.proofs.binding.BindingRef.name.Goals as goal
 

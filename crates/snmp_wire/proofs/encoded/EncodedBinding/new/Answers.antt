@@ -3,8 +3,8 @@ use Rattle.snmp_wire.specs.{Encoded.octets_of, Message.datum}
 use Rattle.snmp_wire.proofs.Kept.{encodable, is_kept, read_again}
 use Rattle.snmp_wire.proofs.encoded.EncodedBinding.new.Goals as goal
 
-pub encoded-requires : goal.encoded-requires
-encoded-requires c = encodable (record { name = c.args.name.now; value = datum c.args.value.now }) c.requires.name c.requires.value
+pub encode_pair-requires : goal.encode_pair-requires
+encode_pair-requires c = encodable (record { name = c.args.name.now; value = datum c.args.value.now }) c.requires.name c.requires.value
 
 pub invariant_of-result : goal.invariant_of-result
 invariant_of-result c =

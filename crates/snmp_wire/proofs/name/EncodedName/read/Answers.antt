@@ -1,6 +1,6 @@
 use Rattle.std.proofs.{Common.arith, Common.refl, lemmas.Grind.common_steps}
 use Rattle.snmp_wire.proofs.ReadingLaws.{err_checked, never_err, is_ok_at}
-use Rattle.snmp_wire.proofs.IdentifierReading.{identifier_again, identifier_takes}
+use Rattle.snmp_wire.proofs.ReadIdentifiers.{identifier_again, identifier_takes}
 use Rattle.snmp_wire.proofs.name.EncodedName.read.Goals as goal
 
 pub returns-in-Ok-clause-some : goal.returns-in-Ok-clause-some

@@ -1,8 +1,8 @@
 use Rattle.std.proofs.Common.{arith, ◌≡◌, ◌-◌, length, take, drop, Ok, sym, ◌∙◌}
 use Rattle.std.proofs.lemmas.Grind.{common_steps}
-use Rattle.snmp_wire.specs.ber.Reading.{identifier_of}
-use Rattle.snmp_wire.proofs.{ReadingLaws.is_ok_at, ReadingLaws.ok_is, IdentifierReading.identifier_again, NameOrder.content_short}
-use Rattle.snmp_wire.proofs.{IdentifierWriting.is_object_id, WritingLemmas.written_to_end, name.EncodedName.write.Goals.After-put_identifier-start}
+use Rattle.snmp_wire.specs.ber.Decode.{identifier_of}
+use Rattle.snmp_wire.proofs.{ReadingLaws.is_ok_at, ReadingLaws.ok_is, ReadIdentifiers.identifier_again, NameOrder.content_short}
+use Rattle.snmp_wire.proofs.{WrittenIdentifiers.is_object_id, WrittenOctets.written_to_end, name.EncodedName.write.Goals.After-put_identifier-start}
 use Rattle.snmp_wire.proofs.name.EncodedName.write.Goals as goal
 
 pub put_identifier-start-requires-clause-room : goal.put_identifier-start-requires-clause-room

@@ -9,8 +9,8 @@ first_of n xs ys short long =
     let h : n ≤ length xs = omega arith in
     let e : take n (xs ++ ys) ≡ take n xs = rw take-append-le in sym e
 
-pub returns-in-Some-reply_into-clause-brings : goal.returns-in-Some-reply_into-clause-brings
-returns-in-Some-reply_into-clause-brings c = record {
+pub returns-in-Some-reply_into-clause-delivers : goal.returns-in-Some-reply_into-clause-delivers
+returns-in-Some-reply_into-clause-delivers c = record {
   agent = refl;
   now = refl;
   datagram = c.args.self.now.last.items;

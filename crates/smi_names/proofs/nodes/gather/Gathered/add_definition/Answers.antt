@@ -1,4 +1,4 @@
--- By whether the definition has an identifier, and by what its name resolves to.
+-- A definition without an identifier value adds nothing. Otherwise what its name resolves to decides what is added.
 use Rattle.std.proofs.Common.{arith, rules, ◌≡◌, true, false, List, Option, Some, None, is_some, refl, sym}
 use Rattle.std.proofs.lemmas.Grind.{common_steps}
 use Rattle.smi_names.specs.{chains.Chain.here, chains.Resolution.ComesTo, meaning.Meaning.origin}
@@ -6,7 +6,7 @@ use Rattle.smi_names.specs.declared.chains.shared.Resolution.TheVariants as R
 use Rattle.smi_text.specs.{declared.trees.tree.Part.Part, trees.Lookup.identifier_value_of}
 use Rattle.smi_names.specs.declared.nodes.gather.Source.TheVariants as S
 use Rattle.smi_names.specs.nodes.Nodes.{GivesNodes}
-use Rattle.smi_names.proofs.Gathering.{GivesNodes-added, Adds-none}
+use Rattle.smi_names.proofs.NewNodes.{GivesNodes-added, Adds-none}
 use Rattle.smi_names.proofs.nodes.gather.Gathered.add_definition.Goals as goal
 
 none_of : (r : Option (List Part)) → is_some r ≡ false → r ≡ None

@@ -1,8 +1,8 @@
--- One definition more.
+-- The invariant of the loop holds at its start and after one definition more.
 use Rattle.std.proofs.Common.{arith, rules, ◌≡◌, ◌+◌, ◌<◌, [], ◌∷◌, ◌++◌, length, take, refl, sym, ◌∙◌}
 use Rattle.std.proofs.{lemmas.Grind.common_steps, lemmas.List.take_more, lemmas.Option.slice_get_read}
 use Rattle.smi_names.specs.nodes.Nodes.{Gathers, none}
-use Rattle.smi_names.proofs.Gathering.{Adds-none, Gathers-more}
+use Rattle.smi_names.proofs.NewNodes.{Adds-none, Gathers-more}
 use Rattle.smi_names.proofs.nodes.gather.Gathered.add_definitions.Goals as goal
 
 pub defs-init : goal.defs-init

@@ -1,7 +1,7 @@
--- Only warnings about imports are added, and then what the definitions have.
+-- A module adds the warnings about its imports, and then what its definitions add.
 use Rattle.std.proofs.{Common.arith, Common.refl, Common.[], Common.◌++◌, lemmas.Grind.common_steps}
 use Rattle.smi_names.specs.{nodes.Imports.import_warnings, nodes.Nodes.loaded, declared.nodes.gather.Gathered.Gathered}
-use Rattle.smi_names.proofs.Gathering.{AddsNodes-then, AddsNodes-warnings, named_first}
+use Rattle.smi_names.proofs.NewNodes.{AddsNodes-then, AddsNodes-warnings, named_first}
 use Rattle.smi_names.proofs.nodes.gather.Gathered.add_loaded.Goals as goal
 
 pub returns : goal.returns

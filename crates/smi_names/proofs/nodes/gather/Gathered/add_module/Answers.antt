@@ -1,8 +1,8 @@
--- Only a warning is added for a name that is loaded.
+-- A module with the name of an earlier one adds only a warning.
 use Rattle.std.proofs.Common.{rules, ◌≡◌, ◌++◌, ◌∷◌, [], refl, take, true}
 use Rattle.smi_names.specs.{declared.nodes.gather.Gathered.Gathered, nodes.Nodes.is_loaded, nodes.Nodes.left_out}
 use Rattle.smi_names.specs.declared.nodes.warning.Warning.TheVariants as W
-use Rattle.smi_names.proofs.Gathering.{AddsNodes-warnings}
+use Rattle.smi_names.proofs.NewNodes.{AddsNodes-warnings}
 use Rattle.smi_names.proofs.nodes.gather.Gathered.add_module.Goals as goal
 
 pub returns-then-is_double : goal.returns-then-is_double
@@ -12,7 +12,7 @@ returns-then-is_double c =
     let pushed : c.push.new.self.items ≡ old.warnings.items ++ W.DoubleModule c.in_ok-name.name ∷ [] = search rules in
     let name : c.in_ok-name.name ≡ c.as_bytes.result.now = c.in_ok-name.ensures in
     let warned = rw (name, c.as_bytes.ensures.octets) at pushed in
-    let double : is_loaded (take c.args.place c.args.names.now.modules) c.args.module.now.name.octets ≡ true = search rules in
+    let double : is_loaded (take c.args.index c.args.names.now.modules) c.args.module.now.name.octets ≡ true = search rules in
     record {
       added = record {
         ns = [];

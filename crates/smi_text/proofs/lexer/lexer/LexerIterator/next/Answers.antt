@@ -1,7 +1,7 @@
 use Rattle.std.proofs.{lemmas.Grind.common_steps, lemmas.Bool.eqb-true}
 use Rattle.std.proofs.Common.{◌≡◌, ◌<◌, ◌+◌, sym, ap, List, [], ◌∷◌, Err, Ok, length, subst, arith, take, eq-eqb}
-use Rattle.smi_text.specs.{lexer.Token.Item, lexer.Lexeme.IsLexeme, lexer.Lexeme.lexeme, lexer.Reading.items_at}
-use Rattle.smi_text.proofs.ItemsLemmas.{items-empty, items-nothing, next_ends, next_faults, next_gives_token}
+use Rattle.smi_text.specs.{lexer.Token.Item, lexer.Lexeme.IsLexeme, lexer.Lexeme.lexeme, lexer.LongestMatch.items_at}
+use Rattle.smi_text.proofs.LexedItems.{items-empty, items-nothing, next_ends, next_faults, next_gives_token}
 use Rattle.smi_text.proofs.PartLaws.{part_is}
 use Rattle.smi_text.proofs.lexer.lexer.LexerIterator.next.Goals as goal
 use Rattle.smi_text.proofs.lexer.lexer.LexerIterator.next.Goals.{After-fault_at, After-lines_in}
@@ -43,13 +43,13 @@ token : (c : After-lines_in) → c.args.self.now
 token c =
     let gaps = c.gaps_at-gaps in
     let text = c.split_at.result.1.now in
-    let front = c.in-Some.ensures in
+    let prefix = c.in-Some.ensures in
     let parts = c.split_at-2.ensures in
     let is_lexeme : IsLexeme c.in-Some.kind c.split_at-2.result.0.now =
-    rw parts.front (part_is (take c.in-Some.len text) (lexeme c.in-Some.kind) front.reads) in
-    let given = next_gives_token c.self.inside.rest.now text c.self.inside.at c.self.inside.lines gaps.result.0 gaps.result.1 gaps.ensures.skips
-    c.split_at.ensures.back c.in-Some.kind c.in-Some.len front in
-    cc (c.self.view_is, given, parts.front, parts.back, c.lines_in.ensures.count is_lexeme)
+    rw parts.front (part_is (take c.in-Some.len text) (lexeme c.in-Some.kind) prefix.reads) in
+    let returned = next_gives_token c.self.inside.rest.now text c.self.inside.at c.self.inside.lines gaps.result.0 gaps.result.1 gaps.ensures.skips
+    c.split_at.ensures.back c.in-Some.kind c.in-Some.len prefix in
+    cc (c.self.view_is, returned, parts.front, parts.back, c.lines_in.ensures.count is_lexeme)
 
 pub returns-clause-steps : goal.returns-clause-steps
 returns-clause-steps c = token (goal.at.returns-clause-steps c).After-lines_in

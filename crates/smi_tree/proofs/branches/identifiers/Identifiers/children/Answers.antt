@@ -3,9 +3,9 @@ use Rattle.std.proofs.Common.{rules, ◌≡◌, ℕ, List, [], ◌∷◌, ◌++�
 use Rattle.std.proofs.{lemmas.Grind.common_steps, lemmas.List.Elements.All-head, lemmas.List.Elements.All-tail}
 use Rattle.std.proofs.lemmas.Map.Views.{Contains-keys_from_lookup}
 use Rattle.std.specs.{List.filter_map, List.Sorted.IsStrictlySortedBy, Ordering.nat_cmp, Cmp.unsigned_ties, Map.lookup, Map.keys_of, BTreeMap.is_at}
-use Rattle.smi_tree.specs.{branches.Standing.place_of, branches.Standing.AreChildren, declared.branches.branch.Branch.Branch}
-use Rattle.smi_tree.specs.branches.Branches.{branch_of, standing_at, AreBranchesOf}
-use Rattle.smi_tree.proofs.Branching.{place_off}
+use Rattle.smi_tree.specs.{branches.FirstIndex.first_index, branches.FirstIndex.AreChildren, declared.branches.branch.Branch.Branch}
+use Rattle.smi_tree.specs.branches.Branches.{branch_of, id_at, AreBranchesOf}
+use Rattle.smi_tree.proofs.BranchLists.{index_off}
 use Rattle.smi_tree.proofs.branches.identifiers.Identifiers.children.Goals as goal
 
 -- if a key is found, it is among the keys
@@ -20,12 +20,12 @@ same_places h g (x ∷ es) f = grind (arith, common_steps, same_places h g es, A
 children : (oids : List (List ℕ)) (bs : List Branch) → AreBranchesOf oids bs → (o : List ℕ) (es : List (ℕ × ℕ))
     → ((n : ℕ) → lookup (is_at (nat_cmp n)) es ≡ branch_of bs (o ++ n ∷ [])) → All (λ e. lookup (is_at (nat_cmp e.0)) es ≡ Some e.1) es
     → IsStrictlySortedBy nat_cmp (keys_of es)
-    → AreChildren oids o (filter_map (λ e. standing_at bs e.1) es)
+    → AreChildren oids o (filter_map (λ e. id_at bs e.1) es)
 children oids bs are o es same each rising = record {
   numbers = keys_of es;
   rising = rising;
-  all = λ n k e. grind (arith, place_off oids oids bs are (o ++ n ∷ []), found es n, same n);
-  there = same_places (standing_at bs) (λ n. place_of oids (o ++ n ∷ [])) es (λ i d l. grind (arith, each i d l, are.standing, same));
+  all = λ n k e. grind (arith, index_off oids oids bs are (o ++ n ∷ []), found es n, same n);
+  there = same_places (id_at bs) (λ n. first_index oids (o ++ n ∷ [])) es (λ i d l. grind (arith, each i d l, are.node_id, same));
 }
 
 pub returns : goal.returns

@@ -1,7 +1,7 @@
--- By the syntax of the object.
+-- A part is read from the syntax of the object. An object without a syntax has no part.
 use Rattle.std.proofs.Common.{rules, ◌≡◌, IsTrue}
 use Rattle.smi_tree.specs.{types.Kept.facts_of, columns.Definitions.qualified_name, private.Named.IsFoundAt}
-use Rattle.smi_tree.proofs.{Choosing.one_syntax, Parting.part_untyped, Parting.part_read}
+use Rattle.smi_tree.proofs.{TypesSingle.one_syntax, Parts.part_untyped, Parts.part_read}
 use Rattle.smi_tree.proofs.columns.objects.Objects.part.Goals as goal
 
 pub returns-in_err-syntax : goal.returns-in_err-syntax

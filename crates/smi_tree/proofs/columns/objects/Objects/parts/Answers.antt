@@ -1,8 +1,8 @@
--- One name more.
+-- The invariant of the loop holds after one name more. If a name has no part, the clause has no list of parts.
 use Rattle.std.proofs.{Common.rules, Common.◌≡◌, Common.◌<◌, Common.length, Common.Some, Common.refl, lemmas.Option.slice_get_read}
 use Rattle.std.specs.List.{slice_get}
 use Rattle.smi_tree.specs.columns.Index.{IsIndexPart, is_implied}
-use Rattle.smi_tree.proofs.Pairing.{first_more, pair_at}
+use Rattle.smi_tree.proofs.Pairwise.{first_more, pair_at}
 use Rattle.smi_tree.proofs.columns.objects.Objects.parts.Goals as goal
 
 pub names-preserved : goal.names-preserved

@@ -1,5 +1,5 @@
 use Rattle.smi_tree.specs.columns.Index.{IsIndexPart, is_implied}
-use Rattle.smi_tree.proofs.Pairing.{AreFirst}
+use Rattle.smi_tree.proofs.Pairwise.{AreFirst}
 use Rattle.smi_tree.proofs.columns.objects.Objects.parts.Given as goal
 
 abbrev pub invariant-names : goal.invariant-names

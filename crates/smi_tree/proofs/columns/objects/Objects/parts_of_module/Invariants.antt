@@ -1,5 +1,5 @@
 use Rattle.smi_tree.specs.columns.Kept.{IsOwn, items_of}
-use Rattle.smi_tree.proofs.Pairing.{AreFirst}
+use Rattle.smi_tree.proofs.Pairwise.{AreFirst}
 use Rattle.smi_tree.proofs.columns.objects.Objects.parts_of_module.Given as goal
 
 abbrev pub invariant-defs : goal.invariant-defs

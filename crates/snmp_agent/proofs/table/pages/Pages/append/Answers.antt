@@ -1,8 +1,8 @@
 use Rattle.std.proofs.Common.{◌≡◌, ℕ, List, ◌++◌, ◌∷◌, [], subst, refl, sym, ap, ◌∙◌}
 use Rattle.std.specs.FinMap.{entries}
 use Rattle.snmp_wire.specs.Message.{Datum}
-use Rattle.snmp_agent.specs.{table.Places.IsAfterAll, table.Places.entry_of, table.Pages.IsSorted, table.Pages.entries_in}
-use Rattle.snmp_agent.proofs.{Changing.put_behind, Changing.sorted_put, Gathering.entries_are, table.pages.Pages.append.Goals.In_ok-append}
+use Rattle.snmp_agent.specs.{table.Entries.IsAfterAll, table.Entries.entry_of, table.Pages.IsSorted, table.Pages.entries_in}
+use Rattle.snmp_agent.proofs.{ChangedEntries.put_after, ChangedEntries.sorted_put, GatheredRows.entries_are, table.pages.Pages.append.Goals.In_ok-append}
 use Rattle.snmp_agent.proofs.table.pages.Pages.append.Goals as goal
 
 same : (c : In_ok-append) → entries c.args.self.now ≡ entries_in c.self.inside.list.items
@@ -14,7 +14,7 @@ rising c =
     let after : IsAfterAll c.args.row.name es =
     subst (λ (fs : List (List ℕ × Datum)). IsAfterAll c.args.row.name fs) (same c) c.requires in
     sorted_put c.args.row.name es _ c.self.invariant c.args.row.value
-    (c.in_ok-append.ensures.rows ∙ sym (put_behind c.args.row.name c.args.row.value es after))
+    (c.in_ok-append.ensures.rows ∙ sym (put_after c.args.row.name c.args.row.value es after))
 
 pub invariant_of-self-2 : goal.invariant_of-self-2
 invariant_of-self-2 c = rising (goal.at.invariant_of-self-2 c).In_ok-append

@@ -2,7 +2,7 @@ use Rattle.std.proofs.{lemmas.Grind.common_steps, lemmas.Result.IfOk-weaker}
 use Rattle.std.proofs.Common.{◌≡◌, ◌++◌, [], subst, sym, refl, ap, ◌∙◌, arith, rules}
 use Rattle.std.specs.{FinMap.entries, Vec.Iter.into_iter_items}
 use Rattle.snmp_agent.specs.table.Pages.{IsSorted, entries_in, entries_of}
-use Rattle.snmp_agent.proofs.{Gathering.entries_are, Gathering.merge_begins, Gathering.merge_ends, Gathering.page_moves, Lists.nothing_left}
+use Rattle.snmp_agent.proofs.{GatheredRows.entries_are, GatheredRows.merge_begins, GatheredRows.merge_ends, GatheredRows.page_moves, Lists.nothing_left}
 use Rattle.snmp_agent.proofs.table.pages.Pages.merge.Goals as goal
 
 pub loop-page-init : goal.loop-page-init

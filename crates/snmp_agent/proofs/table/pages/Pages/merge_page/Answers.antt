@@ -1,5 +1,5 @@
 use Rattle.std.proofs.{lemmas.Grind.common_steps, Common.arith}
-use Rattle.snmp_agent.proofs.Gathering.{page_row_moves}
+use Rattle.snmp_agent.proofs.GatheredRows.{page_row_moves}
 use Rattle.snmp_agent.proofs.table.pages.Pages.merge_page.Goals as goal
 
 -- the rows that come before this one are inserted, and then this one: no row is lost, and the page

@@ -1,7 +1,7 @@
 use Rattle.std.proofs.Common.{◌∷◌, [], ap}
 use Rattle.snmp_wire.specs.Message.{VarBind}
-use Rattle.snmp_agent.specs.{table.Places.entry_of}
-use Rattle.snmp_agent.proofs.Following.{is_next, behind_first}
+use Rattle.snmp_agent.specs.{table.Entries.entry_of}
+use Rattle.snmp_agent.proofs.NextEntries.{is_next, cursor_past_first}
 use Rattle.snmp_agent.proofs.table.pages.Successors.advance.Goals as goal
 
 pub returns-in-Some-clause-next : goal.returns-in-Some-clause-next
@@ -10,9 +10,9 @@ returns-in-Some-clause-next c = λ view h.
     rw c.read_into.ensures
     (is_next c.order.ensures.less view c.args.binding.now.name first.0 (entry_of c.in-Some.row.now ∷ c.next_row.new.self) first.1)
 
-pub returns-in-Some-clause-behind : goal.returns-in-Some-clause-behind
-returns-in-Some-clause-behind c = λ view h.
-    rw (ap (λ (p : VarBind). p.name) c.read_into.ensures) (behind_first view c.args.binding.now.name _ _ (rw c.in-Some.ensures.some at h))
+pub returns-in-Some-clause-after : goal.returns-in-Some-clause-after
+returns-in-Some-clause-after c = λ view h.
+    rw (ap (λ (p : VarBind). p.name) c.read_into.ensures) (cursor_past_first view c.args.binding.now.name _ _ (rw c.in-Some.ensures.some at h))
 
 pub returns-in-None-clause-next : goal.returns-in-None-clause-next
 returns-in-None-clause-next c = λ view h.

@@ -1,5 +1,5 @@
 use Rattle.std.proofs.{lemmas.Grind.common_steps, Common.arith}
-use Rattle.snmp_agent.proofs.Following.{drop_rows, take_rows}
+use Rattle.snmp_agent.proofs.NextEntries.{drop_rows, take_rows}
 use Rattle.snmp_agent.proofs.table.pages.Successors.skip_rows.Goals as goal
 
 -- a page with fewer rows than are still to be skipped is skipped as a whole, and its last row is

@@ -1,6 +1,6 @@
 use Rattle.std.proofs.Common.{List, ℕ, length, ◌+◌, ◌≡◌, ◌++◌, take, drop}
 use Rattle.std.specs.Option.{option_map_or}
-use Rattle.snmp_agent.specs.{table.Places.last_name, table.Pages.entries_in, table.Pages.entries_of}
+use Rattle.snmp_agent.specs.{table.Entries.last_name, table.Pages.entries_in, table.Pages.entries_of}
 use Rattle.snmp_agent.proofs.table.pages.Successors.skip_rows.Given as goal
 
 abbrev pub invariant-pages : goal.invariant-pages

@@ -79,7 +79,7 @@ returns-in_err-write_lines-clause-err g c =
     (g.O.Output.stream c.rows.self.out.now)
     (c.line-in-rows.ensures.same ∙ c.rows.invariant.writer, c.rows.invariant.letters, ap (λ o. o.ghost_name) c.rows.invariant.output)
     made.3 made.2 (c.as_slice.ensures.value ∙ same) (ap (λ o. g.O.Output.stream o.now) c.rows.invariant.output) _
-    c.in_err-write_lines.ensures.front_at_fault)
+    c.in_err-write_lines.ensures.prefix_at_fault)
 
 pub returns-then-is_err-2-clause-err : goal.returns-then-is_err-2-clause-err
 returns-then-is_err-2-clause-err g c =
@@ -114,4 +114,4 @@ returns-clause-err g c =
     made.0 made.1 c.rows.rows c.args.rows c.rows.self.text.now.items _
     (g.O.Output.stream c.rows.self.out.now) (c.rows.invariant.writer, c.rows.invariant.letters, ap (λ o. o.ghost_name) c.rows.invariant.output)
     made.3 made.2 c.as_slice-2.ensures.value (ap (λ o. g.O.Output.stream o.now) c.rows.invariant.output)
-    c.write_lines-2.result c.write_lines-2.ensures.front_at_fault
+    c.write_lines-2.result c.write_lines-2.ensures.prefix_at_fault

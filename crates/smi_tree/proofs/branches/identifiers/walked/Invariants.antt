@@ -1,6 +1,0 @@
-use Rattle.std.proofs.Common.{◌≡◌, take, Some}
-use Rattle.smi_tree.specs.branches.Branches.{branch_of}
-use Rattle.smi_tree.proofs.branches.identifiers.walked.Given as goal
-
-abbrev pub invariant-numbers : goal.invariant-numbers
-invariant-numbers l = branch_of l.branches (take l.number-index l.numbers) ≡ Some l.at

@@ -1,0 +1,62 @@
+-- Look-ups of sources by name, and maps from names to indices.
+use Rattle.std.specs.Prelude.{◌≡◌, ℕ, ◌==◌, ◌&&◌, Bool, false, List, [], if◌then◌else◌, Option}
+use Rattle.std.specs.Prelude.{Some, None, option_map}
+use Rattle.std.specs.{Option.option_and_then, List.slice_get, List.position_from}
+use Rattle.indexmap.specs.IndexMap.{IndexMap, get}
+use Rattle.smi_text.specs.{trees.Mark.same_text, declared.trees.tree.Def.Def}
+use Rattle.smi_text.specs.declared.trees.tree.Module.{Module}
+use Rattle.smi_names.specs.{meaning.Meaning.root_label, meaning.Names.module_index}
+use Rattle.smi_names.specs.meaning.Scopes.{NameIndices, index_in}
+use Rattle.smi_names.specs.{nodes.Gathered.def_of_module, declared.hash.NameHash.NameHash}
+use Rattle.smi_names.specs.declared.nodes.gather.Source.{Source}
+use Rattle.smi_names.specs.declared.nodes.gather.Source.TheVariants as S
+use Rattle.smi_tree.specs.Nodes.{is_named}
+
+abbrev pub home_from : List Module → Source → Option Module
+home_from ms (S.Root n) = None
+home_from ms (S.Definition i k) = slice_get ms i
+
+abbrev pub label_in : Option Def → List ℕ
+label_in None = []
+label_in (Some d) = d.label.octets
+
+abbrev pub label_from : List Module → Source → List ℕ
+label_from ms (S.Root n) = root_label n
+label_from ms (S.Definition i k) = label_in (def_of_module (slice_get ms i) k)
+
+-- whether the source `s` has the label `x`
+abbrev pub has_label : List Module → List ℕ → Source → Bool
+has_label ms x s = same_text (label_from ms s) x
+
+-- whether the source `s` has the label `x` and is in a module named `home`
+abbrev pub is_of : List Module → List ℕ → List ℕ → Source → Bool
+is_of ms home x s = is_named home (home_from ms s) && has_label ms x s
+
+-- the indices of the first sources of labels in modules; the key is the index of the module, and
+-- the index of the label's first source in any module
+abbrev pub Others : Type 0
+Others = IndexMap (ℕ × ℕ) ℕ NameHash
+
+abbrev pub same_key : ℕ × ℕ → ℕ × ℕ → Bool
+same_key a b = (a.0 == b.0) && (a.1 == b.1)
+
+-- for each loaded module `home` and each label whose first source isn't in it, the map has the
+-- index of the label's first source in it, among the sources `prefix`
+abbrev pub AreOthers : List Module → List Source → Others → List Source → Type 0
+AreOthers ms ss others prefix = (home x : List ℕ) (p f : ℕ) (s : Source)
+    → module_index ms home ≡ Some p → position_from (has_label ms x) 0 ss ≡ Some f
+    → slice_get ss f ≡ Some s → is_named home (home_from ms s) ≡ false
+    → get same_key others (p, f) ≡ position_from (is_of ms home x) 0 prefix
+
+-- ---- for private functions
+
+abbrev pub definition_from : List Module → Source → Option Def
+definition_from ms (S.Root n) = None
+definition_from ms (S.Definition i k) = def_of_module (slice_get ms i) k
+
+-- the key of the source `s` at index `index`, whose label has its first source at index `first`;
+-- `None` if it is that first source, or is in no module
+abbrev pub key_of : List Module → NameIndices → Source → ℕ → ℕ → Option (ℕ × ℕ)
+key_of ms homes s first index = if first == index then None else
+    option_and_then (λ m. option_map (λ p. (p, first)) (index_in homes m.name.octets))
+    (home_from ms s)

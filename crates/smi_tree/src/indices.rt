@@ -1,0 +1,104 @@
+//! Maps from the names of modules and the labels of nodes to indices.
+//!
+//! Names come from files that others wrote. Someone who doesn't know the key of the maps can't
+//! choose names that all have the same hash.
+ghost use Rattle.std.specs.Prelude.{◌≡◌, List, ℕ, IfOk};
+ghost use Rattle.std.specs.List.{position_from};
+ghost use Rattle.indexmap.specs.IndexMap.{hasher_of};
+ghost use Rattle.smi_names.specs.{meaning.Names.module_index, meaning.Scopes.index_in};
+ghost use Rattle.smi_tree.specs.Indices as indices;
+ghost use Rattle.smi_tree.specs.Indices.{AreOthers};
+
+use crate::node::{home, label};
+use indexmap::IndexMap;
+use smi_names::{NameBuf, NameHash, NameRef, Source, insert_if_absent};
+use smi_text::Module;
+use std::alloc::{AllocError, Global};
+
+/// Names, each with its index.
+pub(crate) type Indices = IndexMap<NameBuf, usize, NameHash>;
+
+/// The index of a label's first source in a module, if the label's first source of all is in
+/// another module. The key is the index of the module and the index of the label's first source of
+/// all.
+pub(crate) type Others = IndexMap<(usize, usize), usize, NameHash>;
+
+/// The first sources of labels, by their indices.
+#[derive(Drop)]
+pub(crate) struct LabelIndices {
+    /// The first source of each label.
+    pub(crate) labels: Indices,
+    /// The first source of each label in each other module.
+    pub(crate) others: Others,
+}
+
+/// Returns the index of `name`.
+pub(crate) fn find(indices: &Indices, name: &[u8]) -> Option<usize>
+    ensures { result ≡ index_in indices.now name.now }
+{
+    indices.get(&NameRef::new(name)).copied()
+}
+
+/// Returns the index of the first module of each name.
+pub(crate) fn homes(
+    alloc: Global,
+    hash: NameHash,
+    modules: &[Module],
+) -> Result<Indices, AllocError>
+    ensures placed { IfOk result (λ homes. (x : List ℕ)
+        → index_in homes x ≡ module_index modules.now x) }
+    ensures hashed { IfOk result (λ homes. hasher_of homes ≡ hash) }
+{
+    let mut homes = IndexMap::with_hasher(alloc, hash);
+    'modules: for (i, module) in modules.iter().enumerate() {
+        insert_if_absent(&mut homes, NameBuf::new(alloc, module.name.as_bytes())?, i)?;
+    }
+    Ok(homes)
+}
+
+/// Returns the key in [`Others`] of the source at index `index`, whose label has its first source
+/// at index `first`. Returns `None` for that first source, and for a root.
+fn key_of(
+    modules: &[Module],
+    homes: &Indices,
+    source: Source,
+    first: usize,
+    index: usize,
+) -> Option<(usize, usize)>
+    ensures { result ≡ indices.key_of modules.now homes.now source first index }
+{
+    if first == index {
+        return None;
+    }
+    let home = find(homes, home(modules, source)?.name.as_bytes())?;
+    Some((home, first))
+}
+
+/// Returns the index of the first source of each label, and of its first source in each other
+/// module. `homes` has the indices of the modules.
+pub(crate) fn labels(
+    alloc: Global,
+    hash: NameHash,
+    modules: &[Module],
+    homes: &Indices,
+    sources: &[Source],
+) -> Result<LabelIndices, AllocError>
+    requires { (x : List ℕ) → index_in homes.now x ≡ module_index modules.now x }
+    ensures labels { IfOk result (λ made. (x : List ℕ) → index_in made.labels x
+        ≡ position_from (indices.has_label modules.now x) 0 sources.now) }
+    ensures others { IfOk result
+        (λ made. AreOthers modules.now sources.now made.others sources.now) }
+    ensures hashed { IfOk result
+        (λ made. (hasher_of made.labels ≡ hash) × (hasher_of made.others ≡ hash)) }
+{
+    let mut labels = IndexMap::with_capacity_and_hasher(alloc, sources.len(), hash)?;
+    let mut others = IndexMap::with_hasher(alloc, hash);
+    'sources: for (k, source) in sources.iter().enumerate() {
+        let label = NameBuf::new(alloc, label(modules, *source))?;
+        let first = insert_if_absent(&mut labels, label, k)?;
+        if let Some(key) = key_of(modules, homes, *source, first, k) {
+            insert_if_absent(&mut others, key, k)?;
+        }
+    }
+    Ok(LabelIndices { labels, others })
+}

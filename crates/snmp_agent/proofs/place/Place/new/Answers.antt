@@ -1,8 +1,0 @@
-use Rattle.std.proofs.Common.{refl, subst}
-use Rattle.snmp_agent.specs.{table.Pages.AreBehind, table.Table.MibView}
-use Rattle.snmp_agent.proofs.Standing.{place_past}
-use Rattle.snmp_agent.proofs.place.Place.new.Goals as goal
-
-pub returns : goal.returns
-returns c = place_past c.args.table.now 0 c.args.name c.after_near-rows.result _ _
-    (subst (λ (v : MibView). AreBehind v c.args.name c.after_near-rows.result) c.table.view_is c.after_near-rows.ensures) refl refl

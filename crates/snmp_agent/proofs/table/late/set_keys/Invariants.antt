@@ -1,5 +1,0 @@
-use Rattle.std.proofs.Common.{◌≡◌}
-use Rattle.snmp_agent.proofs.table.late.set_keys.Given as goal
-
-abbrev pub invariant-rows : goal.invariant-rows
-invariant-rows l = l.rows ≡ l.initial.rows

@@ -1,0 +1,132 @@
+-- What is known after a run over a link: after a walk, and after a Get of names.
+use Rattle.std.specs.Prelude.{◌≡◌, ◌≢◌, ◌⊎◌, ◌<◌, ◌≤◌, ◌+◌, ◌++◌, ℕ, List, [], Result, length}
+use Rattle.std.specs.Prelude.{replicate}
+use Rattle.snmp_agent.specs.Event.{Event}
+use Rattle.snmp_wire.specs.{Canon.canon, Message.VarBind}
+use Rattle.snmp_walk.specs.{declared.end.SinkFault.SinkFault, declared.end.WalkEnd.WalkEnd}
+use Rattle.snmp_walk.specs.{Link.Agents, Link.AreLawful, Link.OneOf, Link.Outcome, Moved.IsMoved}
+use Rattle.snmp_walk.specs.{Request.IsOfLowerId}
+use Rattle.snmp_walk.specs.{Moved.IsMovedByRequests, Network.AreReplies, Network.BeginWithSend}
+use Rattle.snmp_walk.specs.{Network.AreRepliesOrErrors, Sink.Took, WalkState.WalkState}
+use Rattle.snmp_walk.specs.declared.end.WalkEnd.TheVariants as ending
+use Rattle.snmp_walk.specs.declared.link.Link.{Ghosts as LinkFacts}
+use Rattle.snmp_walk.specs.Facts.{EndFacts, ReplyFacts, IsLastSent, IsReadyForAll, SendFacts, gets}
+use Rattle.snmp_walk.specs.{Facts.WalkFacts, Tables.CountsNames}
+use Rattle.snmp_walk.specs.Get.{AreForNames, GetFacts, GotFacts, IsDelivered, IsReasonOfGet}
+use Rattle.snmp_walk.specs.Get.{get_request}
+use Rattle.snmp_walk.specs.Progress.{IsPartOfWalk, Named, Increases}
+use Rattle.snmp_walk.specs.Tries.{AreTried, Happens, InTurn, IsNotAwaited, IsTried}
+
+-- A run passed the bindings `rows` to a sink, which perhaps refused one more, and ended with
+-- `end`. `Facts` holds of the bindings passed and refused.
+pub record IsRun {S : Type 0} (takes : S → VarBind → Result (Unit {0}) SinkFault → S → Type 0)
+    (before : S) (end : WalkEnd) (after : S) (Facts : (rows refused : List VarBind) → Type 0) :
+    Type 0 where
+  pub rows : List VarBind
+  pub refused : List VarBind
+  pub took : Took takes before rows refused end after
+  pub facts : Facts rows refused
+
+-- each of these datagrams is a request with an id below `id`
+abbrev pub AreOfLowerIds : List (List ℕ) → (id : ℕ) → Type 0
+AreOfLowerIds sent id = (datagram : List ℕ) → OneOf sent datagram → IsOfLowerId id datagram
+
+-- The link is honest, and what was sent over it before are requests with ids below `id`: none, or
+-- those of earlier runs. A run that begins with `id` takes none of their late replies.
+abbrev pub IsHonestFrom : {W : Type 0} → LinkFacts W → (id : ℕ) → W → Type 0
+IsHonestFrom {W} facts id link =
+    facts.honest link × AreOfLowerIds (facts.traffic link).sent id
+
+-- how a run ended, with an error status taken for a failure of the link
+abbrev pub but_for_errors : WalkEnd → WalkEnd
+but_for_errors (ending.Fault status index) = ending.Link
+but_for_errors end = end
+
+-- The events at a link, from state `link` to state `after`. If each message received is a reply of
+-- one of some agents to a datagram sent before it, or another Response that this agent may send,
+-- then `Given` holds of the agents and of the end. If errors may have arrived too, such as genErr,
+-- it holds of the agents and of the end, an error status being taken for a failure of the link.
+pub record HasHappened {W : Type 0} (facts : LinkFacts W) (link after : W) (end : WalkEnd)
+    (Given : Agents → WalkEnd → Type 0) : Type 0 where
+  pub events : List (Event (Unit {0}))
+  pub in_turn : InTurn (Happens facts) link events after
+  pub begins : BeginWithSend events
+  pub replied : (agents : Agents) → AreLawful agents → AreReplies agents events → Given agents end
+  pub replied_or_failed : (agents : Agents) → AreLawful agents → AreRepliesOrErrors agents events
+      → Given agents (but_for_errors end)
+
+-- What is known of a walk over a link, whose state was `link` before the walk and is `after` then.
+pub record IsWalkedOver {W : Type 0} (facts : LinkFacts W) (link after : W) (tries : ℕ)
+    (first : WalkState) (given refused : List VarBind) (end : WalkEnd) : Type 0 where
+  -- the names passed on are the root's own and those of instances below it
+  pub part : IsPartOfWalk Increases Named first (given ++ refused)
+  -- the names increase, a walk that is done has counted them, and each end has its reason in what
+  -- came of the requests, each sent in the state in which the one before it left the link
+  pub ends : EndFacts (IsTried facts tries)
+      (λ w. facts.records link → IsLastSent tries end (facts.traffic after) w) first link given
+      refused end after
+  -- over a link that lists what is sent: which requests were sent, and how many times
+  pub sent : facts.records link → SendFacts (facts.agents link) (IsHonestFrom facts first.id link)
+      tries (facts.traffic link) first given end (facts.traffic after)
+  -- over an honest link, over which earlier runs had lower ids: what its agents returned
+  pub judged : IsHonestFrom facts first.id link
+      → WalkFacts (facts.agents link) tries (facts.traffic link) first given refused end
+      (facts.traffic after)
+  -- over such a link: it doesn't fail if it is ready for all that is sent for k names below the
+  -- root
+  pub ready : IsHonestFrom facts first.id link → (k : ℕ) → CountsNames (facts.agents link) first k
+      → IsReadyForAll (facts.ready link) tries k → end ≢ ending.Link
+  -- its requests changed the link, which failed if the walk ended with `Link`
+  pub moved : IsMovedByRequests facts tries first given link (end ≡ ending.Link) after
+  -- There is at most one request for each row passed on, one more, and a Get.
+  pub few_of_rows : length moved.requests ≤ length given + 1 + gets first.mode
+  -- A later run over the link may begin with the id after those of the requests.
+  pub later : facts.records link → AreOfLowerIds (facts.traffic link).sent first.id
+      → AreOfLowerIds (facts.traffic after).sent (first.id + length moved.requests)
+  -- what happened over any link, and what was passed on if only replies of agents arrived
+  pub happened : HasHappened facts link after end
+      (λ agents why. ReplyFacts agents (λ w. Unit {0}) first given refused why)
+
+-- what came of the request of a Get of these names, which took the link from `link` to `after`
+abbrev pub IsGetTried : {W : Type 0} → LinkFacts W → (link after : W) → (tries : ℕ)
+    → (community : List ℕ) → (id : ℕ) → (names : List (List ℕ)) → Outcome → Type 0
+IsGetTried {W} facts link after tries community id names outcome =
+    AreTried facts (IsNotAwaited community id) (canon (get_request community id names)) tries link
+    outcome after
+
+-- What is known of a Get of names over a link, whose state was `link` before the Get and is
+-- `after` then.
+pub record IsGotOver {W : Type 0} (facts : LinkFacts W) (link after : W) (tries : ℕ)
+    (community : List ℕ) (id : ℕ) (names : List (List ℕ)) (given refused : List VarBind)
+    (end : WalkEnd) : Type 0 where
+  pub named : AreForNames (get_request community id names) names given refused end
+  -- each end has its reason in what came of the request
+  pub reason : names ≢ [] → IsReasonOfGet (IsGetTried facts link after tries community id names)
+      (IsDelivered (IsGetTried facts link after tries community id names) (facts.agents link)
+      (IsHonestFrom facts id link) community id names) names given refused end
+  -- without names, and if the request is too long, the link is unchanged
+  pub unasked : (names ≡ []) ⊎ (end ≡ ending.RequestTooLong) → after ≡ link
+  -- over a link that lists what is sent: only the request, at most once for each try, and at least
+  -- once if it had to be sent and the link didn't fail
+  pub sent : facts.records link → (times : ℕ) × (times ≤ tries)
+      × ((facts.traffic after).sent ≡ (facts.traffic link).sent
+      ++ replicate times (canon (get_request community id names)))
+      × (end ≡ ending.NoResponse → times ≡ tries)
+      × (names ≢ [] → end ≢ ending.RequestTooLong → end ≢ ending.Link → 0 < times)
+  -- over an honest link, over which earlier runs had lower ids: what its agents returned
+  pub judged : IsHonestFrom facts id link → GetFacts (facts.agents link) tries
+      (facts.traffic link) (get_request community id names) names given refused end
+      (facts.traffic after)
+  -- tries of the request changed the link, at least one if it had to be sent, and the link failed
+  -- if the Get ended with `Link`
+  pub moved : (times : ℕ) × (times ≤ tries)
+      × (names ≢ [] → end ≢ ending.RequestTooLong → 0 < times)
+      × (receives : ℕ)
+      × IsMoved facts link (replicate times (canon (get_request community id names))) receives
+      (end ≡ ending.Link) after
+  -- a later run over the link may begin with the id after this one
+  pub later : facts.records link → AreOfLowerIds (facts.traffic link).sent id
+      → AreOfLowerIds (facts.traffic after).sent (id + 1)
+  -- what happened over any link, and what was passed on if only replies of agents arrived
+  pub happened : HasHappened facts link after end
+      (λ agents why. GotFacts agents (get_request community id names) names given refused why)
