@@ -313,8 +313,8 @@ untried() {
 }
 untried 2 'echo "7 passed, 0 failed, 0 skipped"'
 gate >"$got/last"
-same 'edits of crates that have changed are tried for up to an hour' '--seconds 3600 mid low' \
-    "$(grep -x -e '--seconds 3600 mid low' "$CALLS")"
+same 'edits of crates that have changed are tried for up to forty minutes' '--seconds 2400 mid low' \
+    "$(grep -x -e '--seconds 2400 mid low' "$CALLS")"
 same 'edits that are tried and refused' '0 26 passed, 0 failed, 0 skipped' "$(gate)"
 untried 2 'echo "6 passed, 1 failed, 0 skipped"; exit 1'
 same 'edits that are tried and not refused' '1 FAILED: tests/edits.py: status 1, and 1 tests failed' \
