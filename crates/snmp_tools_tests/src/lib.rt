@@ -1,7 +1,11 @@
 //! Tests that go through several crates: from arguments to lines, over files and outputs in memory.
 //! Also tests of outputs, files, messages, module files and translations by themselves.
+//!
+//! [`walk_and_serve`] runs snmpd and a command line that asks it at the two ends of one network. Its
+//! contract says what the latter prints.
 #![tactic(auto)]
 
+mod both_ends;
 #[cfg(test)]
 mod ends;
 #[cfg(test)]
@@ -36,3 +40,5 @@ mod tiny;
 mod translation;
 #[cfg(test)]
 mod walks;
+
+pub use both_ends::{RecordedNetwork, WalkLinks, walk_and_serve};

@@ -1,0 +1,4 @@
+mod Prints
+mod RecordedEnds
+mod Records
+mod Runs

@@ -1,0 +1,4 @@
+pub mod Printed
+pub mod Recorded
+pub mod Replay
+pub mod Walk

@@ -1,0 +1,30 @@
+-- The agent's end of a record, at which the record passes a second time.
+use Rattle.std.specs.Prelude.{◌≡◌, ◌++◌, ℕ, Bool, true, List, [], drop, map}
+use Rattle.snmp_agent.specs.{Event.Event, Event.InTurn, Reply.Agent, Serving.AreTurns}
+use Rattle.snmp_agent.specs.declared.server.Served.{Served}
+use Rattle.snmp_walk.specs.Network.{Happening, of_agents}
+use Rattle.snmp_tools_tests.specs.Recorded.{happening_of, recorded}
+use Rattle.snmp_tools_tests.specs.declared.both_ends.recorded.Entry.{Entry}
+use Rattle.snmp_tools_tests.specs.declared.both_ends.replay.ReplayDoor.{ReplayDoor}
+
+-- what is left of the record at the door
+abbrev pub ahead_of : ReplayDoor → List (Happening (Unit {0}))
+ahead_of door = map happening_of (drop door.used door.entries.now)
+
+-- The event can happen at the door between the two states: what is recorded of it is the next that
+-- is left of the record of the agent's end.
+abbrev pub HappensAtDoor : ReplayDoor → Event (Unit {0}) → ReplayDoor → Type 0
+HappensAtDoor old e new = of_agents (ahead_of old) ≡ recorded e ++ of_agents (ahead_of new)
+
+-- the whole record is left at the door
+abbrev pub BindsAt : List Entry → ReplayDoor → Type 0
+BindsAt entries door = ahead_of door ≡ map happening_of entries
+
+-- The agent served `turns` turns at the door, with the counts `served`, and took it from state
+-- `old` to state `new`. If `done` is true, nothing is left of the record then.
+abbrev pub IsReplayed : ReplayDoor → Agent → (turns : ℕ) → Served → ReplayDoor → (done : Bool)
+    → Type 0
+IsReplayed old agent turns served new done =
+    ((events : List (Event (Unit {0}))) × AreTurns agent turns served events
+    × InTurn HappensAtDoor old events new)
+    × (done ≡ true → ahead_of new ≡ [])
