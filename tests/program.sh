@@ -507,7 +507,7 @@ for syntax in A B Self Ring Gone Absent Lost Missing 'SEQUENCE OF Row' Row OnRow
 done
 
 # help
-prints 'snmp 0.6.0' --version
+prints 'snmp 0.7.0' --version
 prints 'Translates names of managed objects, reads them from SNMP agents...' -h
 showing=('--mib <FILE>' '-O <LETTERS>')
 asking=("${showing[@]}" '-v <VERSION>' '-c <COMMUNITY>' '-r <RETRIES>' '-t <SECONDS>' '--max-size <OCTETS>' '<AGENT>')

@@ -197,11 +197,11 @@ fn help_lists_the_forms_of_agents(rt: HostRuntime) {
 #[test]
 fn the_program_has_help_and_a_version(rt: HostRuntime) {
     assert!(rt; helps(rt.alloc(), &["snmp", "--help"], &["Usage: snmp <COMMAND>"]));
-    assert!(rt; helps(rt.alloc(), &["snmp", "--version"], &["snmp 0.6.0"]));
-    assert!(rt; helps(rt.alloc(), &["snmp", "-V"], &["snmp 0.6.0"]));
+    assert!(rt; helps(rt.alloc(), &["snmp", "--version"], &["snmp 0.7.0"]));
+    assert!(rt; helps(rt.alloc(), &["snmp", "-V"], &["snmp 0.7.0"]));
     for (command, _) in COMMANDS {
-        assert!(rt; helps(rt.alloc(), &["snmp", command, "--version"], &["snmp 0.6.0"]));
-        assert!(rt; helps(rt.alloc(), &["snmp", command, "-V"], &["snmp 0.6.0"]));
+        assert!(rt; helps(rt.alloc(), &["snmp", command, "--version"], &["snmp 0.7.0"]));
+        assert!(rt; helps(rt.alloc(), &["snmp", command, "-V"], &["snmp 0.7.0"]));
     }
     assert!(rt; !helps(rt.alloc(), &["snmp"], &[]));
 }

@@ -9,7 +9,7 @@ use clap::Command;
 use std::alloc::{AllocError, Global};
 
 /// The version of the program.
-pub(crate) const VERSION: &str = "0.6.0";
+pub(crate) const VERSION: &str = "0.7.0";
 
 // What help says of the walks, and what follows the help of each command: an example that needs no
 // file, the exit statuses, and what to read.
@@ -113,8 +113,8 @@ fn top_command<'a>(alloc: Global) -> Command<'a>
         .disable_help_subcommand(true)
 }
 
-/// Returns a command without arguments as yet. Help says `about` of it, and ends with `end`.
-fn described<'a>(alloc: Global, name: &'a str, about: &'a str, end: &'a str) -> Command<'a>
+/// Returns a command that has no arguments yet. Its help says `about` of it, and ends with `end`.
+fn new_command<'a>(alloc: Global, name: &'a str, about: &'a str, end: &'a str) -> Command<'a>
     ensures { app_of result ≡ new_app name.now }
 {
     Command::new(alloc, name).about(about).after_help(end)
@@ -125,7 +125,7 @@ fn translate_command<'a>(alloc: Global) -> Made<'a>
     ensures { IsMade result translate_app }
 {
     let about = "Prints names of managed objects in another form, or details of them";
-    described(alloc, "snmptranslate", about, TRANSLATE_END)
+    new_command(alloc, "snmptranslate", about, TRANSLATE_END)
         .arg(options::mib_option(alloc))?
         .arg(options::letters_option(alloc, options::LETTERS_OF_NAMES))?
         .arg(options::details_option(alloc))?
@@ -136,7 +136,7 @@ fn translate_command<'a>(alloc: Global) -> Made<'a>
 fn asking_command<'a>(alloc: Global, name: &'a str, about: &'a str, end: &'a str) -> Made<'a>
     ensures { IsMade result (with_rules (new_app name.now) asking_rules) }
 {
-    described(alloc, name, about, end)
+    new_command(alloc, name, about, end)
         .arg(options::mib_option(alloc))?
         .arg(options::letters_option(alloc, options::LETTERS_OF_LINES))?
         .arg(options::protocol_option(alloc))?
@@ -181,7 +181,7 @@ fn walk_command<'a>(
 fn serve_command<'a>(alloc: Global) -> Made<'a>
     ensures { IsMade result serve_app }
 {
-    described(alloc, "snmpd", "Serves a table as an agent", SERVE_END)
+    new_command(alloc, "snmpd", "Serves a table as an agent", SERVE_END)
         .arg(options::mib_option(alloc))?
         .arg(options::table_option(alloc))?
         .arg(options::community_option(alloc))?
