@@ -136,11 +136,13 @@ same "the manual's letters of -T" "$(letters snmptranslate -T)" "$(letters_by_ma
 described=$(sed -n 's/^\.It Fl \([^ ]*\) Ar.*/\1/p; s/^\.It Fl \([hV]\) , -\(.*\)/\1\n-\2/p' docs/snmp.1 | sort)
 synopsis=$(sed -n '/^\.Sh SYNOPSIS/,/^\.Sh DESC/s/^\.\(Op \)\?Fl \([^ ]*\).*/\2/p' docs/snmp.1; echo V; echo -version; echo -help)
 same 'the options that the manual describes' "$(sort -u <<<"$synopsis")" "$described"
-mapfile -t messages < <(sed -n '/^| what | message |/,/^$/s/.*| \(.*\) |$/\1/p; /^Warnings change no status/p' docs/PROFILE.md |
-    grep -o '`[^`]*`' | tr -d '`' | grep -E '^([A-Z][a-z]|snmp: )')
-least 'the number of messages in docs/PROFILE.md' 26 ${#messages[@]}
+# Each message of the sources is on the page of messages, from which the manual has its list.
+listed=$(sed -nE 's/^\| (`[^|]+) \| .*/\1/p' docs/TROUBLESHOOTING.md)
+mapfile -t messages < <(grep -ohE 'b"([^"]*[a-z]{2} [a-z]{2}[^"]*|syntax)"' crates/snmp_tools/src/{failure,load/*}.rt |
+    sed 's/^b"//; s/"$//' | sort -u)
+least 'the messages of the sources' 34 ${#messages[@]}
 for message in "${messages[@]}"; do
-    count "the manual has the message $message" "$(grep -qxF ".It Li \"$message\"" docs/snmp.1 || echo "not found")"
+    count "docs/TROUBLESHOOTING.md has the message $message" "$(grep -qF -- "$message" <<<"$listed" || echo "it isn't there")"
 done
 count 'the list of messages of the manual' "$(tools/list-messages --check 2>&1)"
 if has 1 'mandoc -Tlint' mandoc; then

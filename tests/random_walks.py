@@ -3,7 +3,7 @@
 
 usage: random_walks.py RUNS [SEED] [WORD..]
 
-The model shares no code with the program: it follows docs/PROFILE.md for tables, their order, walks and lines. The
+The model shares no code with the program: it follows docs/REFERENCE.md for tables, their order, walks and lines. The
 title of a run is `run N of seed S: ` and the run's arguments. If there are words, only those runs are made whose titles
 contain one of them. The last line is 'N passed, M failed, K skipped'.
 """

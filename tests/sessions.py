@@ -7,7 +7,8 @@
 A session is a block whose first line begins with `$ `. In a Markdown page it is a fenced block, or one indented by four
 blanks; in a manual page it is between .Bd -literal and .Ed. A command begins with `$ ` and continues on lines that
 begin with `> `. The lines after it are its output and error output; blanks at the end of a line are ignored. A command
-that ends in & runs until the end of the session.
+that ends in & runs until the end of the session. A script, which a reader can paste, is a fenced block of `sh` followed
+by one of `text`: a session of one command, and what it prints.
 
 Each session runs in a folder of its own with links to the files of the repository, so that arguments such as ./snmp and
 examples/three.tab work. The program is installed into a new folder, whose path replaces /usr/local. Port 1161 is
@@ -120,6 +121,17 @@ def sessions_of(path):
             yield f"{path}:{line}: {next(commands_of(block))[0]}", block
 
 
+def scripts_of(path):
+    """The scripts of a page, each with its title, as sessions."""
+    with open(os.path.join(TOP, path), encoding="utf-8") as file:
+        text = file.read()
+    body = r"((?:(?!```).*\n)*)```"
+    for match in re.finditer(rf"^```sh\n{body}\n\n```text\n{body}$", text, re.MULTILINE):
+        command, printed = match.groups()
+        line = text.count("\n", 0, match.start()) + 1
+        yield f"{path}:{line}: a script", "$ " + command.rstrip("\n").replace("\n", "\n> ") + "\n" + printed
+
+
 def overlooked_lines(path, sessions):
     """Counts the lines of a page that begin as a command does. Returns what is wrong if these aren't exactly the
     commands of its sessions."""
@@ -137,7 +149,7 @@ def tests():
     for path, sessions in found.items():
         yield (f"{path}: each command is in a session",
                lambda prefix, path=path, sessions=sessions: overlooked_lines(path, sessions))
-        for title, block in sessions:
+        for title, block in [*sessions, *scripts_of(path)]:
             yield title, lambda prefix, block=block: ports.over_free_port(lambda port: run(block, prefix, port))
 
 

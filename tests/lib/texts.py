@@ -1,4 +1,4 @@
-"""The lines that the program prints for names and values with -On and no module file, by docs/PROFILE.md."""
+"""The lines that the program prints for names and values with -On and no module file, by docs/REFERENCE.md."""
 from lib.messages import NULL, elements, name_in
 
 NO_OBJECT = "No Such Object available on this agent at this OID"
