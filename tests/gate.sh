@@ -6,6 +6,9 @@
 # shellcheck disable=SC2016,SC2086  # the scripts that this writes expand variables later
 . "$(dirname "${BASH_SOURCE[0]}")/lib/tests.sh"
 
+# The gate that is tested has the time for edits that it has by itself.
+unset EDIT_SECONDS
+
 # -- a checkout of four crates, and a mock of rt
 
 # tree: makes a new checkout in $tree. Its programs are `snmp`, which uses `mid`, and `other`. Both `mid` and `other`
