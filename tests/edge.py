@@ -926,10 +926,10 @@ def module_of(names):
     """Returns a module file with 20,000 names: 'plain' ones, or 'chosen' ones whose hashes under the fixed key fall
     into one bucket."""
     with tempfile.TemporaryDirectory() as folder:
-        made = programs.run_command(["cc", "-O2", "-o", f"{folder}/chosen", f"{programs.TOP}/bench/chosen.c"])
+        made = programs.run_command(["cc", "-O2", "-o", f"{folder}/chosen", f"{programs.TESTS}/chosen.c"])
         ran = programs.run_command([f"{folder}/chosen", names, "20000"])
     if made.status != 0 or ran.status != 0:
-        raise RuntimeError(f"bench/chosen.c: {made} {ran.status}")
+        raise RuntimeError(f"tests/chosen.c: {made} {ran.status}")
     return ran.output.encode()
 
 

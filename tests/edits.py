@@ -81,9 +81,9 @@ def crates_below(crate):
 
 
 def libraries():
-    """Returns the libraries whose contracts other crates or the pages rely on: all but crates of tests and bench."""
+    """Returns the libraries whose contracts other crates or the pages rely on: all but crates of tests."""
     return [crate for crate in crates_of_list() if os.path.exists(at(f"crates/{crate}/src/lib.rt"))
-            and not crate.endswith("_tests") and crate != "bench"]
+            and not crate.endswith("_tests")]
 
 
 def statements_of(path):

@@ -62,7 +62,6 @@ build() {
 }
 case $1 in
     run) echo "rt: chose --jobs 2 for low" && build . "$here" ;;
-    lib) mkdir -p out && cat src/*.rt >"out/lib$here.a" ;;
     try)
         shift 4
         echo 'Usage: program [OPTIONS]'
@@ -166,20 +165,6 @@ fi
 same 'arguments that tests/is-current does not take' \
     '1 tests/is-current: usage: tests/is-current [--sources] crates/NAME/out/FILE,' \
     "$(in_tree tests/is-current tests/edits.py >"$got/out"; echo "$? $(cut -d " " -f -5 "$got/out")")"
-
-# -- the library of the benchmarks
-
-printf '%s\n' 'bench staticlib: low' >>"$tree/crates.txt"
-mkdir -p "$tree/crates/bench/src" "$tree/bench"
-echo 'mod bench' >"$tree/crates/bench/src/lib.rt"
-cp "$top/bench/common.sh" "$tree/bench"
-# bench FUNCTION ARGUMENT..: prints what a function of common.sh prints, and its status.
-bench() { in_tree bash -c '. bench/common.sh; "$@"' bench "$@"; echo "$?"; }
-library=$tree/crates/bench/out/libbench.a
-same 'a library of the benchmarks that is not built' 1 "$(bench is_built "$library")"
-same 'a library of the benchmarks that is built' '0 0' "$(bench build) $(bench is_built "$library")"
-echo 'another' >>"$tree/crates/low/src/lib.rt"
-same 'a library of the benchmarks whose sources were edited' 1 "$(bench is_built "$library")"
 
 # -- the build of ./snmp
 
