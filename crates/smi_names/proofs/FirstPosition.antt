@@ -1,4 +1,5 @@
--- Indices of names and of modules in lists that grow, and the numbers of parts.
+-- If a list grows at its end, then the index of the first element that passes a test stays, and each module keeps its entries. The last lemmas are on
+-- identifier values.
 use Rattle.std.proofs.{lemmas.Grind.common_steps, lemmas.Bool.cases_lt, lemmas.Option.slice_get_past}
 use Rattle.std.proofs.{lemmas.Grind.common_steps, lemmas.List.Elements.All-append, lemmas.Bool.cases_eq, lemmas.Option.slice_get_within}
 use Rattle.std.proofs.Common.{◌≡◌, ◌≢◌, ℕ, zero, suc, ◌+◌, ◌-◌, ◌<◌, ◌≤◌, Bool, cond, List, [], ◌∷◌, ◌++◌, length, take, get_or}
@@ -11,7 +12,7 @@ use Rattle.smi_names.specs.{meaning.Names.IsSourced, meaning.Names.AreEach, decl
 use Rattle.smi_names.specs.meaning.Scopes.{NameIndices, known, decided_as, IsWithin, IsEntryOf, IsDecided}
 use Rattle.smi_names.proofs.Scopes.{get-append, get-push_at, known-append}
 
--- the first index in two lists, one after the other, is that in the first list, or otherwise that in the second
+-- the first element of `xs ++ ys` that passes `t` is the first one in `xs` or, if none passes there, the first one in `ys`; indices count from `j`
 pub position-append : {A : Type 0} (t : A → Bool) (j : ℕ) (xs ys : List A)
     → position_from t j (xs ++ ys) ≡ or_else (position_from t j xs) (position_from t (j + length xs) ys)
 position-append t j [] ys = let all : j + 0 ≡ j = omega arith in rw all refl
@@ -38,7 +39,7 @@ get-push xs j y f = grind (arith, common_steps, cases_lt j (length xs), get-appe
 get-more : {X : Type 0} (xs : List X) (j : ℕ) (x y : X) → slice_get xs j ≡ Some x → slice_get (xs ++ y ∷ []) j ≡ Some x
 get-more xs j x y e = get-append xs (y ∷ []) j (slice_get_within xs j x e) ∙ e
 
--- if the entries have their sources, then so do they and the added ones with one module more
+-- if the sources of the entries `old` are indices into `ms`, and the entries `added` belong to `m`, then all sources are indices into `ms ++ m ∷ []`
 AreSourced-more : (ms : List Module) (old added : List Entry) (m : Module) (i : ℕ) → i ≡ length ms → All (IsSourced ms) old → All (IsEntryOf m i) added
     → All (IsSourced (ms ++ m ∷ [])) (old ++ added)
 AreSourced-more ms old added m i last sourced of =
@@ -47,7 +48,7 @@ AreSourced-more ms old added m i last sourced of =
       h.1,
     )) (λ k d l. let h = of k d l in (rw (h.0, h.1, last) (get-push_at ms m), h.2))
 
--- if modules have these scopes and entries, then with one module more they have its scope and entries too
+-- if `scopes` and `old` have the names of `ms`, and `scope` and `added` have the names of `m`, then together they have the names of `ms ++ m ∷ []`
 pub AreEach-more : (ms : List Module) (scopes : List NameIndices) (old added : List Entry) (m : Module) (i : ℕ) (scope : NameIndices) → AreEach ms scopes old
     → ((x : List ℕ) → known (old ++ added) scope x ≡ decided_as m x (decision m x)) → IsWithin (old ++ added) scope
     → i ≡ length ms → All (IsEntryOf m i) added → All IsDecided added → AreEach (ms ++ m ∷ []) (scopes ++ scope ∷ []) (old ++ added)
@@ -75,7 +76,7 @@ pub arcs_push : (ps : List Part) (p : Part) (ns : List ℕ) (n : ℕ) → arcs p
 arcs_push [] p ns n e f = let none : [] ≡ ns = cc in rw (f, sym none) refl
 arcs_push (q ∷ qs) p ns n e f = grind (arith, common_steps, arcs_push qs p)
 
--- parts have numbers together if and only if each has one
+-- `arcs` returns numbers if and only if each part has a number
 pub numbered : (ps : List Part) → list_all (λ p. is_some (part_number p)) ps ≡ is_some (arcs ps)
 numbered [] = refl
 numbered (p ∷ ps) = grind (arith, common_steps, numbered ps, is_some)

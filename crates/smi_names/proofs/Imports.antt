@@ -1,4 +1,4 @@
--- Whether a module has a name, and whether a module of a name comes before an index.
+-- What decides a name says whether a module defines or imports it; the index of the first module of a name says whether an earlier module has the name.
 use Rattle.std.proofs.{lemmas.Grind.common_steps, lemmas.List.take-append-drop}
 use Rattle.std.proofs.Common.{◌≡◌, ℕ, ◌+◌, Bool, false, ◌||◌, nat_lt, List, take, Option, Some, None, is_some, arith, MatchOption, length, drop}
 use Rattle.std.specs.{Prelude.option_map, List.position_from, Option.option_and_then}
@@ -15,12 +15,12 @@ stated : (d : Option Def) (i : Option Import) (n : Option ℕ)
     → is_stated_some (or_else (or_else (option_map defined d) (option_map imported i)) (option_map root n)) ≡ (is_some d || is_some i)
 stated d i n = grind (arith, common_steps)
 
--- what decides a name shows whether the module has it
+-- if `r` is what decides the meaning of `x` in the module `o`, then the module defines or imports `x` if and only if `r` is a definition or an import
 pub defines_or_imports_by : (o : Option Module) (x : List ℕ) (r : Option Decision) → r ≡ option_and_then (λ m. decision m x) o
     → is_stated_some r ≡ defines_or_imports o x
 defines_or_imports_by o x r e = grind (arith, common_steps, stated)
 
--- the first index of a name is below `i` if and only if one of the first `i` modules has the name
+-- the index of the first module named `x` is below `i` if and only if one of the first `i` modules has this name; if there is no such index, none has it
 is_loaded-at : (ms : List Module) (x : List ℕ) (i : ℕ)
     → MatchOption (module_index ms x) (is_loaded (take i ms) x ≡ false) (λ j. nat_lt j i ≡ is_loaded (take i ms) x)
 is_loaded-at ms x i =

@@ -1,4 +1,4 @@
--- Nodes and warnings are appended.
+-- If a definition, a module or a list of modules adds nodes and warnings to those gathered before, then the old ones stay, and the new ones follow.
 use Rattle.std.proofs.{lemmas.Grind.common_steps, lemmas.List.append-nil, lemmas.List.length_push}
 use Rattle.std.proofs.Common.{◌≡◌, ℕ, zero, suc, false, is_some, List, [], ◌∷◌, ◌++◌, length, take, Some, refl, sym, ap, ◌∙◌}
 use Rattle.std.proofs.Common.{arith, append_assoc, Result, Ok, Err, OnOk}
@@ -19,7 +19,7 @@ nodes_of-push ms [] (x ∷ os) s o e = absurd (omega arith)
 nodes_of-push ms (x ∷ ss) [] s o e = absurd (omega arith)
 nodes_of-push ms (x ∷ ss) (y ∷ os) s o e = ap (λ ns. node_from ms x y ∷ ns) (nodes_of-push ms ss os s o (omega arith))
 
--- a definition adds a node or a warning: its resolution decides which of the lists grows by one
+-- if `s` is the source of definition `d`, and `new` is `old` grown by `d`, then the nodes and warnings of `d`, by its resolution `r`, are appended
 pub AddsNodes-extended : (ms : List Module) (old new : Gathered) (s : Source) (m : Module) (d : Def) (r : Resolution)
     → length old.sources.items ≡ length old.oids.items
     → IsSourceOf ms s m d → GrowsByDefinition old new s m d r → AddsNodes ms old new (nodes_by m d r) (warnings_by m d r)
@@ -74,7 +74,7 @@ pub AddsNodes-warnings : (ms : List Module) (old new : Gathered) (ws : List Warn
     → AddsNodes ms old new [] ws
 AddsNodes-warnings ms old new ws long s o w = grind (arith, common_steps, append-nil)
 
--- if no module before it has its name, then a module is the first of its name
+-- if no module before index `i` has the name of module `m`, which is at index `i`, then `m` is the first module of its name
 pub named_first : (ms : List Module) (i : ℕ) (m : Module) → slice_get ms i ≡ Some m → is_loaded (take i ms) m.name.octets ≡ false
     → module_named ms m.name.octets ≡ Some m
 named_first [] i m at absent = absurd (cc)

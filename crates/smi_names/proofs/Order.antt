@@ -1,4 +1,4 @@
--- A list is filled in along an order of indices.
+-- A list is filled in along an order of indices: before an index is filled in, the index that it refers to has been.
 use Rattle.std.proofs.{lemmas.Grind.common_steps, lemmas.List.Elements.Contains-push_cases, lemmas.Bool.cases_lt, lemmas.Bool.cases_eq}
 use Rattle.std.proofs.Common.{◌≡◌, ℕ, ◌+◌, ◌<◌, ◌≤◌, ◌⊎◌, inl, inr, List, [], ◌∷◌, ◌++◌, length, set, get_or, take, replicate, Option, Some, Contains}
 use Rattle.std.proofs.Common.{arith}

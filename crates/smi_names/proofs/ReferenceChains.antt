@@ -1,4 +1,4 @@
--- What the name at an index refers to, and what it means, by what decides it.
+-- What decides the name at an index also decides which index that name refers to, and what it means.
 use Rattle.std.proofs.{lemmas.Grind.common_steps, lemmas.List.get_or_past, lemmas.List.length-map}
 use Rattle.std.proofs.Common.{◌≡◌, ℕ, ◌≤◌, ◌⊎◌, List, length, map, MatchOption, Option, Some, None, refl, sym, ap, ◌∙◌, arith}
 use Rattle.std.proofs.lemmas.Option.{slice_get_past, slice_get-map, get_or_from_slice_get}
@@ -26,7 +26,7 @@ module _ (k : KnownNames) (refers_to : Def → Option (List ℕ)) where
       → (q : ℕ) × (to ≡ Some q) × (slice_get k.names q ≡ content_named k.modules b)
   refers_to_entry a b to l e = grind (arith, common_steps)
 
-  -- if a chain of names has an end, then so does that of their indices
+  -- if the chain of the name `a` has an end, then the chain of its index `p` has an end
   pub has_end : (next : List (Option ℕ)) → ((p : ℕ) → IsNext k refers_to p (next_at next p)) → {a : QualifiedName} → HasEnd (next_name k.modules refers_to) a
       → (p : ℕ) → slice_get k.names p ≡ content_named k.modules a → HasEnd (next_at next) p
   has_end next are {a} (ends e) p named = ends (refers_to_nothing a (next_at next p) (are p a named) e)
@@ -34,7 +34,7 @@ module _ (k : KnownNames) (refers_to : Def → Option (List ℕ)) where
       let on = refers_to_entry a b (next_at next p) (are p a named) e in refers_on on.1 (has_end next are h on.0 on.2)
 
   module _ (p : ℕ) where
-    -- what decides the names at an index
+    -- if `s` is the entry at index `p`, then it has what decides the meaning of the name at `p`
     by_index : (s : Option Content) → slice_get k.names p ≡ s → (a : QualifiedName) → slice_get k.names p ≡ content_named k.modules a
         → decided k.modules a ≡ option_map (λ c. c.decided) s
     by_index s there a named = sym (decided_at a.name s (module_named k.modules a.home) (sym there ∙ named))
@@ -77,11 +77,11 @@ module _ (k : KnownNames) (refers_to : Def → Option (List ℕ)) where
                   let on = refers_to_entry a b to l (by_def ∙ rw e refl) in
                   after own e ((rw on.1 at led) b on.2) refl
 
--- in every meaning an import refers to what it does for the parents
+-- if each parent stored is the index that its entry refers to, then the parent of an imported name is the index of this name in the module after FROM
 pub keeps_imports : (d : Directory) → d.parents.items ≡ map (next_index d parent_of) d.entries.items → KeepsImports d
 keeps_imports d is p e i to at by got = grind (arith, common_steps, slice_get-map)
 
--- names refer to what their entries do
+-- ---- each entry refers to the index of the name that its own name refers to
 module _ (ms : List Module) (d : Directory) (dir : IsDirectory ms d) (refers_to : Def → Option (List ℕ)) where
   next_is : (p : ℕ) (a : QualifiedName) → slice_get (known_names ms d).names p ≡ content_named ms a
       → next_at (map (next_index d refers_to) d.entries.items) p ≡ option_map (index_by d) (next_name ms refers_to a)
@@ -111,7 +111,7 @@ module _ (ms : List Module) (d : Directory) (dir : IsDirectory ms d) (refers_to 
   pub are_next : AreNext (known_names ms d) refers_to (map (next_index d refers_to) d.entries.items)
   are_next = record { long = length-map d.entries.items (next_index d refers_to) ∙ sym (length-map d.entries.items content_of); each = each_next }
 
--- if what a list has at the index `to` is right, then so is what is found by this index; without an index nothing is found
+-- if the value of `found` at index `to` is right, then so is the value that `far_meaning` returns for `to`; if `to` is `None`, it returns `None`
 pub far_of : {X : Type 0} (Right : ℕ → Option X → Type 0) (found : List (Option X)) (to : Option ℕ) → ((q : ℕ) → to ≡ Some q → Right q (option_at found q))
     → MatchOption to (option_and_then (λ q. option_at found q) to ≡ None) (λ q. Right q (option_and_then (λ q. option_at found q) to))
 far_of Right found to f = grind (arith, common_steps)

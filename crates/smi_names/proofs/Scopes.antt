@@ -1,4 +1,4 @@
--- What scopes have, as names are entered.
+-- If a name is entered into a scope (a module's map from names to the indices of their entries), then it has an entry there, and other names keep theirs.
 use Rattle.std.proofs.{lemmas.Grind.common_steps, lemmas.List.append-nil, lemmas.List.length_push, lemmas.Slice.Eq.bytes_eq-Decides}
 use Rattle.std.proofs.{lemmas.Option.slice_get_cases, lemmas.List.Elements.All-nil, lemmas.List.Elements.All-push, lemmas.List.Elements.All-append}
 use Rattle.std.proofs.Common.{◌≡◌, ℕ, zero, suc, ◌<◌, ◌≤◌, Bool, true, false, cond, List, [], ◌∷◌, ◌++◌, length, Option, Some, None, unwrap_or}
@@ -33,11 +33,11 @@ known-append old added scope x within = grind (arith, common_steps, get-append)
 or_else_none : {A : Type 0} (o : Option A) → or_else o None ≡ o
 or_else_none o = grind (arith, common_steps)
 
--- an index below the one offered is the name's own
+-- if `insert_if_absent` returns `p`, and that is below the index `index` that was to be inserted, then the name had the index `p` before
 pub had_index : (r : Option ℕ) (p index : ℕ) → p ≡ unwrap_or r index → p < index → r ≡ Some p
 had_index r p index e l = grind (arith, common_steps)
 
--- if all indices are below the one offered, and `p` isn't, then the name had none
+-- if `insert_if_absent` returns `p`, which isn't below the index `index` to be inserted, though an index that the name had would be, then the name had none
 pub had_none : (r : Option ℕ) (p index : ℕ) → p ≡ unwrap_or r index → ((q : ℕ) → r ≡ Some q → q < index) → index ≤ p → r ≡ None
 had_none r p index e within l = grind (arith, common_steps)
 
@@ -81,7 +81,7 @@ module _ (old : List Entry) (scope : NameIndices) (m : Module) (i : ℕ) (within
           let found = get_within old p (within x p at) in
           rw (at, found.1) refl
 
-  -- if a name that isn't in the scope is entered with the entry `e`, then the scope knows what `e` says of the name too
+  -- if a name that isn't in the scope is entered with the entry `e`, then the scope has `e` for that name, and for any other name what it had before
   pub KnowsMore-entered : (new : NameIndices) (name : List ℕ) (e : Entry) → index_in scope name ≡ None
       → ((x : List ℕ) → index_in new x ≡ cond (same_text name x) (Some (length old)) (index_in scope x)) → e.module.now ≡ m → e.name.now ≡ name
       → IsEntryOf m i e → hasher_of new ≡ hasher_of scope
@@ -116,7 +116,7 @@ module _ (old : List Entry) (scope : NameIndices) (m : Module) (i : ℕ) (within
       inside x p true at = let is : length old ≡ p = cc in omega (arith, length_push old e)
       inside x p false at = omega (arith, within x p at, length_push old e)
 
--- two additions to a scope are one, by any function with the values of both
+-- if names are added to a scope as `f` decides, and then as `g` decides, then they are added as `h` does: as `f` decides or, if it doesn't, as `g` does
 pub KnowsMore-then : (e0 e1 e2 : List Entry) (s0 s1 s2 : NameIndices) (m : Module) (i : ℕ) (f g h : List ℕ → Option Decision)
     → KnowsMore e0 s0 e1 s1 m i f → KnowsMore e1 s1 e2 s2 m i g → ((x : List ℕ) → or_else (f x) (g x) ≡ h x) → KnowsMore e0 s0 e2 s2 m i h
 KnowsMore-then e0 e1 e2 s0 s1 s2 m i f g h a b same = record {

@@ -1,4 +1,4 @@
--- The steps of the search: an index is met, a path is settled, and a path that enters a ring has no end.
+-- Each step of the search for the indices whose chains end keeps the invariant `Keeps`. In a ring, or before one, no chain has an end.
 use Rattle.std.proofs.{lemmas.Grind.common_steps, lemmas.Bool.cases_lt, lemmas.Bool.cases_eq}
 use Rattle.std.proofs.Common.{◌≡◌, ◌≢◌, ℕ, zero, suc, ◌+◌, ◌<◌, ◌⊎◌, inl, inr, Bool, true, false, cond, List, [], ◌∷◌, ◌++◌, length, set, take}
 use Rattle.std.proofs.Common.{Option, Some, None, Contains, refl, sym, ap, ◌∙◌, subst, arith}
@@ -24,13 +24,13 @@ news-set [] p h e = absurd (omega arith)
 news-set (m ∷ ms) zero h e = let e' : m ≡ M.New = e in rw e' (omega arith)
 news-set (m ∷ ms) (suc p) h e = let r = news-set ms p (omega arith) e in omega arith
 
--- what isn't new stays so if `at` is marked as not new
+-- if index `p` isn't marked as new, then it still isn't after index `at` gets the mark `m`, which isn't new
 pub marked : (marks : List Mark) (at p : ℕ) (m : Mark) → is_new m ≡ false → at < length marks → mark_at marks p ≢ M.New
     → mark_at (set marks at m) p ≢ M.New
 marked marks at p m old inside other = grind (arith, common_steps, cases_eq, get_or-set_same, get_or-set_other)
 
 module _ (next : List (Option ℕ)) where
-  -- an index has an end if the one that it refers to has one, and the other way round
+  -- if `p` refers to nothing, or to an index whose chain has an end, then the chain of `p` has an end
   has_end_from : (p : ℕ) (to : Option ℕ) → next_at next p ≡ to → ((q : ℕ) → to ≡ Some q → HasEnd (next_at next) q) → HasEnd (next_at next) p
   has_end_from p None e f = ends e
   has_end_from p (Some q) e f = refers_on e (f q refl)
@@ -47,13 +47,13 @@ module _ (next : List (Option ℕ)) where
   Follows-pop [] from to p l = l
   Follows-pop (x ∷ xs) from to p l = let r = Follows-pop xs (next_at next x) to p l.1 in ((l.0, r.0), r.1)
 
-  -- if the first index of a path has an end, then so does the one after the path
+  -- if `path` follows the chain from `from` to `at`, and the chain of `from` has an end, then the chain of `at` has an end
   led : (path : List ℕ) (from : Option ℕ) (at : ℕ) → Follows next path from (Some at)
       → ((p : ℕ) → from ≡ Some p → HasEnd (next_at next) p) → HasEnd (next_at next) at
   led [] from at l f = f at l
   led (x ∷ xs) from at l f = led xs (next_at next x) at l.1 (λ q e. below (f x l.0) e)
 
-  -- if any index of a path has an end, then so does the one after the path
+  -- if `path` follows the chain from `from` to `at`, and the chain of an index `p` in `path` has an end, then the chain of `at` has an end
   led_from : (path : List ℕ) (from : Option ℕ) (at p : ℕ) → Follows next path from (Some at) → Contains path p → HasEnd (next_at next) p → HasEnd
       (next_at next) at
   led_from [] from at p l m h = absurd (omega (arith, m.1))
@@ -63,7 +63,7 @@ module _ (next : List (Option ℕ)) where
   Contains-later : (x : ℕ) (xs : List ℕ) (p : ℕ) → Contains xs p → Contains (x ∷ xs) p
   Contains-later x xs p (i, k, e) = (suc i, omega arith, e)
 
-  -- each index of a path refers to one of the path, or to the one after it
+  -- if `path` follows the chain from `from` to `at`, then each index `p` in `path` refers to an index in `path` or to `at`
   onward : (path : List ℕ) (from : Option ℕ) (at p : ℕ) → Follows next path from (Some at) → Contains path p
       → (q : ℕ) × (next_at next p ≡ Some q) × (Contains path q ⊎ (q ≡ at))
   onward [] from at p l m = absurd (omega (arith, m.1))
@@ -73,7 +73,7 @@ module _ (next : List (Option ℕ)) where
       let r = onward xs (next_at next x) at p l.1 (i, omega arith, e) in
       (r.0, r.1, elim r.2 [ inl m ↦ inl (Contains-later x xs r.0 m) | inr s ↦ inr s ])
 
-  -- indices that only refer to one another have no end
+  -- if each index in the set `S` refers to an index in `S`, then the chains of these indices have no end
   no_end : (S : ℕ → Type 0) → ((p : ℕ) → S p → (q : ℕ) × (next_at next p ≡ Some q) × S q) → {p : ℕ} → HasEnd (next_at next) p → S p → ⊥
   no_end S closed {p} (ends e) s = let r = closed p s in let f = r.1 in cc
   no_end S closed {p} (refers_on {a} {b} e h) s = grind (arith, common_steps, no_end S closed h)
@@ -146,7 +146,7 @@ module _ (next : List (Option ℕ)) where
         ];
       }
 
-  -- an index that refers to nothing is settled by itself
+  -- if `p` refers to nothing, then the invariant still holds after `p` is appended to the order and marked as settled, without a path
   pub Keeps-alone : (marks : List Mark) (order : List ℕ) (p : ℕ) → Keeps next marks order [] → p < length next → next_at next p ≡ None
       → Keeps next (set marks p M.Settled) (order ++ p ∷ []) []
   Keeps-alone marks order p kept inside last =
@@ -171,7 +171,7 @@ module _ (next : List (Option ℕ)) where
         settled = λ q e. let same : q ≡ p = cc in rw same (has_end_from p l.to back.1 (λ r f. (l.settled r f).0), λ _. Contains-push order p);
       }
 
-  -- a climb that stopped at an index neither met nor new has come to an end
+  -- if the invariant holds, and `to` is `None`, an index past the end of `next`, or one marked neither as new nor as met, then `IsSettled` holds of it
   pub IsSettled-stopped : (marks : List Mark) (order path : List ℕ) (to : Option ℕ) → Keeps next marks order path
       → ((q : ℕ) → to ≡ Some q → q < length next → mark_at marks q ≢ M.New) → ((q : ℕ) → to ≡ Some q → mark_at marks q ≢ M.Met)
       → IsSettled next order to

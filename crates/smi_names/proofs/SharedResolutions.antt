@@ -1,4 +1,4 @@
--- Resolutions that are stored once: the list grows, and what it has stays.
+-- If a list of resolutions grows, then each resolution in it stays at its index.
 use Rattle.std.proofs.{lemmas.Grind.common_steps, lemmas.List.append-nil, lemmas.List.get_or_append_left, lemmas.List.map-set}
 use Rattle.std.proofs.Common.{◌≡◌, ℕ, zero, suc, ◌<◌, ◌≤◌, nat_le, List, [], ◌∷◌, ◌++◌, length, set, replicate, refl, arith, length-append}
 use Rattle.std.proofs.lemmas.List.Elements.{All-head, All-tail, All-set, All-weaker}
@@ -6,11 +6,11 @@ use Rattle.smi_names.specs.{chains.Resolution.extend_resolution_by, chains.Resol
 use Rattle.smi_names.specs.chains.Resolution.{resolutions_at, AreWithin, HasReasons, GrowsTo}
 use Rattle.smi_names.specs.declared.chains.shared.Resolution.TheVariants as R
 
--- with no numbers after it an identifier is the same
+-- an identifier `o` of at most 128 numbers, extended by no numbers, is `o`
 pub followed_by_none : (o : List ℕ) → length o ≤ 128 → extend_resolution_by (R.Numbers o) [] ≡ R.Numbers o
 followed_by_none o short = grind (arith, common_steps, nat_le, append-nil)
 
--- what the list has stays at its index
+-- if all `indices` are within `list`, then `list ++ added` has the same resolutions at them
 resolutions_at-append : (list added : List Resolution) (indices : List ℕ) → AreWithin list indices
     → resolutions_at (list ++ added) indices ≡ resolutions_at list indices
 resolutions_at-append list added [] within = refl

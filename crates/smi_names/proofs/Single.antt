@@ -1,4 +1,4 @@
--- A thing resolves in one way: its chain has no end, or ends at numbers or at nothing, and never two of these.
+-- A thing has at most one resolution: its chain has no end, or ends at numbers, or ends at a thing without an identifier, and no two of these hold.
 use Rattle.std.proofs.{lemmas.Grind.common_steps, Common.◌≡◌, Common.ℕ, Common.◌<◌, Common.◌≤◌, Common.List, Common.length, Common.ap, Common.arith}
 use Rattle.smi_names.specs.chains.Chain.{Origin, next_of, HasEnd, ends, refers_on, HasIdentifier, by_itself, after_another, EndsNowhere, here, further}
 use Rattle.smi_names.specs.{chains.Resolution.ComesTo, declared.chains.shared.Resolution.Resolution}

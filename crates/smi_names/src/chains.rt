@@ -1,8 +1,7 @@
-//! Chains of names, followed without recursion: the indices whose chains end, in order, and the
-//! numbers along the chains.
+//! Chains of names: a name can refer to another, which can refer to a third, and so on. The names
+//! whose chains end are found without recursion, and their identifiers with them.
 //!
-//! Depends only on object identifiers. Meanings follow definitions and imports with it: each name
-//! has an index.
+//! Depends only on object identifiers: here a name is represented by its index.
 
 mod order;
 mod shared;

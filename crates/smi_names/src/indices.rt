@@ -9,10 +9,10 @@ use indexmap::IndexMap;
 use std::alloc::AllocError;
 use std::hash::Hash;
 
-/// Names, each with its index.
+/// A map from names to indices.
 pub(crate) type NameIndices<'a> = IndexMap<NameRef<'a>, usize, NameHash>;
 
-/// Inserts `index` under `key` unless the key has an index, and returns the index that it has then.
+/// Inserts `index` under `key` unless the key has an index. Returns the index that it has then.
 pub fn insert_if_absent<K: Eq + Hash + Drop>(
     indices: &mut IndexMap<K, usize, NameHash>,
     key: K,
@@ -26,7 +26,7 @@ pub fn insert_if_absent<K: Eq + Hash + Drop>(
     Ok(*indices.entry(key)?.or_insert(index))
 }
 
-/// Returns the index of `name`.
+/// Returns the index of `name`, if the map has one.
 pub(crate) fn find<'b>(indices: &NameIndices<'b>, name: &'b [u8]) -> Option<usize>
     ensures { result ≡ index_in indices.now name.now }
 {

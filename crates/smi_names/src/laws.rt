@@ -7,14 +7,14 @@ ghost use Rattle.smi_names.specs.declared.nodes.warning.Warning.{Warning};
 ghost use Rattle.smi_text.specs.declared.trees.tree.Module.{Module};
 ghost use Rattle.smi_names.specs.meaning.Meaning.{Means, QualifiedName, origin};
 
-/// A name has at most one identifier, whatever the order of modules and definitions.
+/// A name has at most one identifier in a list of modules.
 #[tactic(auto, using(crate::proofs::Single::one_meaning))]
 pub fn one_identifier()
     ensures { (modules : List Module) (a : QualifiedName) (o p : List ℕ)
         → Means modules a o → Means modules a p → o ≡ p }
 {}
 
-/// A name resolves to one identifier, or to none for one reason.
+/// A name resolves to at most one thing: an identifier, or a reason for having none.
 #[tactic(auto, using(crate::proofs::Single::one_resolution))]
 pub fn one_resolution()
     ensures { (modules : List Module) (a : QualifiedName) (one other : Resolution)
@@ -22,7 +22,7 @@ pub fn one_resolution()
         → one ≡ other }
 {}
 
-/// Modules load as one list of nodes, with one list of warnings.
+/// Modules that are loaded in one order have at most one list of nodes and one list of warnings.
 pub fn one_loading()
     ensures { (modules before : List Module) (nodes others : List Node)
         (warnings more : List Warning) → Loads modules before nodes warnings

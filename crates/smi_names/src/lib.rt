@@ -1,7 +1,7 @@
-//! What names mean in loaded modules (RFC 2578, section 3), and the nodes that modules define, each
-//! with its identifier, with the warnings for what refers to nothing.
+//! What names mean in loaded modules (RFC 2578, section 3), and the nodes that modules define,
+//! each with its identifier, with the warnings about modules, imports and definitions.
 //!
-//! Builds on module trees and identifiers. The tree of names stores the nodes, and finds them.
+//! Builds on parsed modules and identifiers. The crate `smi_tree` stores the nodes and finds them.
 //!
 //! # Examples
 //!

@@ -1,6 +1,7 @@
-//! What names mean in modules: what decides each name is found once, and its chain is resolved.
+//! What names mean in modules: a definition, an import or the list of roots decides each name, and
+//! the chain of names that it refers to is followed.
 //!
-//! Depends on module trees and on chains. The nodes are made from what is resolved here, and the
+//! Depends on parsed modules and on chains. The nodes are made from what is resolved here, and the
 //! tree of names follows names to types and to definitions.
 
 mod along;

@@ -15,7 +15,7 @@ use std::marker::Model;
 
 /// A name in modules, which borrows its octets. Names are equal if their octets are.
 ///
-/// By a `&NameRef` a map also finds a [`NameBuf`].
+/// A map that has [`NameBuf`]s as keys can be searched by a `&NameRef`.
 #[derive(Drop)]
 pub struct NameRef<'a> {
     octets: &'a [u8],

@@ -1,7 +1,7 @@
-//! The nodes that modules define, each with its identifier, and the warnings for modules, imports
-//! and definitions that lack what they refer to.
+//! The nodes that modules define, each with its identifier, and the warnings about modules that
+//! are left out, imports that aren't found, and definitions whose value yields no identifier.
 //!
-//! Depends on module trees and on the meanings of their names. The tree of names stores the nodes.
+//! Depends on parsed modules and on what their names mean. The crate `smi_tree` stores the nodes.
 
 mod gather;
 mod imports;

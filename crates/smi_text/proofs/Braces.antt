@@ -16,10 +16,11 @@ unfoldable pub is_balanced : ℕ → List TokenText → Bool
 is_balanced depth [] = depth == 0
 is_balanced depth (x ∷ xs) = not (is_outside x.kind depth) && is_balanced (depth_after x.kind depth) xs
 
--- a prefix closes no more braces than it opens, with d braces open before it
+-- a prefix closes at most the braces that it opens and `d` others, which are open before it
 abbrev is_within : ℕ → List TokenText → Bool
 is_within d prefix = nat_le (closing_braces prefix) (d + opening_braces prefix)
 
+-- with `d` braces open before the tokens, no prefix closes more than are open, and all tokens together close all that are
 abbrev is_whole : ℕ → List TokenText → Bool
 is_whole d xs = list_all (is_within d) (prefixes xs) && d + opening_braces xs == closing_braces xs
 
@@ -27,14 +28,14 @@ all-same : {A : Type 0} (p q : A → Bool) → ((x : A) → p x ≡ q x) → (xs
 all-same p q h [] = refl
 all-same p q h (x ∷ xs) = λ i. h x i && all-same p q h xs i
 
--- the number of braces that a token of this kind opens, and that it closes
+-- the number of braces that a token of this kind opens; `closes`: that it closes
 abbrev opens : TokenKind → ℕ
 opens k = if same_kind k K.OpenBrace then 1 else 0
 
 abbrev closes : TokenKind → ℕ
 closes k = if same_kind k K.CloseBrace then 1 else 0
 
--- the opening braces of a list are those of its first token and those of the others
+-- the number of opening braces in a list is the number for the first token plus the number for the others
 opening-cons : (x : TokenText) (xs : List TokenText) → opening_braces (x ∷ xs) ≡ opens x.kind + opening_braces xs
 opening-cons x xs = sum_by-cons (λ y. opens y.kind) x xs
 
@@ -47,7 +48,7 @@ within-none d = grind arith
 shifted : (d n o c : ℕ) → d + o ≡ n + c → (a b : ℕ) → (nat_le (c + a) (d + (o + b)) ≡ nat_le a (n + b)) × ((d + (o + b) == c + a) ≡ (n + b == a))
 shifted d n o c e a b = (grind arith, grind arith)
 
--- if the token x takes the count from d to n, then the tokens after x are whole after n open braces if and only if all are after d
+-- if `n` braces are open after the token `x`, and `d` before it, then the tokens after `x` close all `n` and no more if and only if `x` and they close all `d`
 step : (d n : ℕ) (x : TokenText) (xs : List TokenText) → d + opens x.kind ≡ n + closes x.kind → is_whole d (x ∷ xs) ≡ is_whole n xs
 step d n x xs e = grind (arith, common_steps, shifted, within-none, list_all-map, all-same, opening-cons, closing-cons)
 
@@ -104,7 +105,7 @@ closes-opening (suc d) x xs k (inner, last, rest, e, l, b, (more, end, after, f,
     let split : xs ≡ (inner ++ last ∷ more) ++ end ∷ after = e ∙ ap (λ ys. inner ++ last ∷ ys) f ∙ sym (append_assoc inner (last ∷ more) (end ∷ after)) in
     (x ∷ (inner ++ last ∷ more), end, after, ap (λ ys. x ∷ ys) split, g, nested x last inner more k l b h, c)
 
--- if the tokens `xs` close the braces that are open after `x`, then `x` followed by `xs` closes those open before it
+-- if `x` closes no brace that isn't open, and the tokens `xs` close the braces that are open after `x`, then `x` followed by `xs` closes those open before it
 closes-more : (k : TokenKind) (d : ℕ) (x : TokenText) (xs : List TokenText) → x.kind ≡ k → is_outside k d ≡ false → Closes (depth_after k d) xs
     → Closes d (x ∷ xs)
 closes-more K.OpenBrace d x xs e inside c = closes-opening d x xs e (rw add-one at c)

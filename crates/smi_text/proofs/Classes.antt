@@ -1,4 +1,4 @@
--- What the class of an octet says about it.
+-- An octet is what its class, `class_of` of the octet, says.
 use Rattle.std.proofs.Common.{arith, ◌≡◌, ℕ, true, List, [], ◌∷◌, subst}
 use Rattle.std.proofs.{lemmas.Grind.common_steps, lemmas.Bool.eqb-true}
 use Rattle.std.specs.Char.{is_ascii_lowercase, is_ascii_uppercase, is_ascii_digit}
@@ -6,7 +6,7 @@ use Rattle.smi_text.specs.{declared.lexer.class.Class.Class, declared.lexer.toke
 use Rattle.smi_text.specs.{lexer.LongestMatch.class_of, lexer.LongestMatch.symbol_among}
 use Rattle.smi_text.specs.declared.lexer.class.Class.TheVariants as C
 
--- the octet is as its class says
+-- octet `c` is as this class says
 abbrev pub HasClass : Class → ℕ → Type 0
 HasClass C.Blank c = is_blank c ≡ true
 HasClass C.Lowercase c = is_ascii_lowercase c ≡ true
@@ -18,7 +18,7 @@ HasClass C.Apostrophe c = c ≡ 39
 HasClass (C.Symbol kind) c = IsLexeme kind (c ∷ [])
 HasClass C.Other c = Unit {0}
 
--- each symbol of the table is its kind's lexeme
+-- each octet in the table is by itself a lexeme of the kind that the table has for it
 abbrev AreLexemes : List (ℕ × TokenKind) → Type 0
 AreLexemes [] = Unit {0}
 AreLexemes (symbol ∷ others) = IsLexeme symbol.1 (symbol.0 ∷ []) × AreLexemes others

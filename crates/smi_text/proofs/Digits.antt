@@ -1,4 +1,4 @@
--- The number that digits write, read from the start.
+-- A loop over digits, from the first to the last, computes the number that they write.
 use Rattle.std.proofs.{lemmas.Grind.common_steps, lemmas.List.drop_all, lemmas.Bool.lt-leb, lemmas.Bool.le-leb}
 use Rattle.std.proofs.Common.{◌≡◌, ℕ, suc, ◌+◌, ◌*◌, ◌^◌, ◌<◌, ◌≤◌, List, [], ◌∷◌, length, get_or, drop, refl, ◌∙◌, ap, arith, drop-cons, add-one}
 use Rattle.std.specs.Prelude.{Some, None}
@@ -16,16 +16,16 @@ pub worth-digit : (base n c : ℕ) (cs : List ℕ) → worth base n (c ∷ cs) �
 unfolding number_value
 worth-digit base n c cs = grind (arith, common_steps, pow-succ', mul_assoc, mul_comm, add-mul)
 
--- if more digits follow, then the number is no smaller
+-- if the digits `cs` follow digits that write `n`, then together they write at least `n`
 pub worth-grows : (base n : ℕ) (cs : List ℕ) → 0 < base → n ≤ worth base n cs
 worth-grows base n cs h = grind (arith, common_steps, le-mul_of_pos_right, one-le-pow)
 
--- the value of the digits from index `i` on, with `n` before them, is that of the digits after the first of them, with `n` and that digit before them
+-- if digits that write `n` come before the digits of `cs` from index `i` on, then the digit at `i` can be counted among those before
 pub worth_step : (base n i : ℕ) (cs : List ℕ) → i < length cs
     → worth base n (drop i cs) ≡ worth base (base * n + digit_value (get_or cs i 0)) (drop (i + 1) cs)
 worth_step base n i cs h = rw (add-one, drop-cons cs i 0) (worth-digit base n (get_or cs i 0) (drop (suc i) cs))
 
--- if the digits so far write more than `most`, then so do all digits
+-- if the digits up to index `i` write more than `most`, then all digits do, and `up_to most` of their number is None
 pub worth_above : (base n i most : ℕ) (cs : List ℕ) → 0 < base → i < length cs → worth base n (drop i cs) ≡ number_value base cs
     → most < base * n + digit_value (get_or cs i 0) → None ≡ up_to most (number_value base cs)
 worth_above base n i most cs pos h e over = grind (arith, common_steps, worth-grows, worth_step, lt-leb)

@@ -19,7 +19,8 @@ unfolding prepend
 prefixes-inv xs None ys rest h = absurd (cc)
 prefixes-inv {A} xs (Some p) ys rest h = grind (arith, common_steps, some-inj)
 
--- if parts are spelled before another part of the same kind, then they are read first, and then that one
+-- if the tokens `ts` begin with the spelling of the parts `xs`, then another part begins, and `many` can be read from `ts`, then it reads `xs`, that part, and
+-- perhaps others
 module _ {A : Type 0} {s : A → List Mark} {f : Format A} (law : Lawful s f) (solid : f.empty ≡ false) (far : apart f.stop f.first ≡ true) where
   begin-again : (xs : List A) (ts mid : List Item) → ItemsMatch (flat_map s xs) ts mid → begins f.first mid ≡ true → begins f.first ts ≡ true
   begin-again [] ts mid h b = ap (begins f.first) h ∙ b
@@ -42,7 +43,7 @@ module _ {A : Type 0} {s : A → List Mark} {f : Format A} (law : Lawful s f) (s
       let later = many-before xs p.0 mid rest q.0 p.2 b q.1 in
       (later.0, later.1, later.2, later.3, cc (q.2, later.4))
 
--- names that occur twice
+-- ---- names that occur twice
 
 any-middle : (x y : List ℕ) (xs ys : List (List ℕ)) → same_text y x ≡ true → list_any (same_text x) (xs ++ y ∷ ys) ≡ true
 any-middle x y xs ys h = grind (arith, common_steps, list_any-append, or_right, or_left, same-sym x y)
@@ -51,7 +52,7 @@ twice : (xs ys : List (List ℕ)) (y : List ℕ) → list_any (same_text y) xs �
 twice [] ys y h k = cc
 twice (x ∷ xs) ys y h k = grind (arith, common_steps, or_cases, and_parts, any-middle x y xs ys, twice xs ys y)
 
--- definitions
+-- ---- definitions
 
 definition-apart : apart definition.stop definition.first ≡ true
 unfolding all
@@ -77,7 +78,7 @@ module _ (line : ℕ) (body : List Lexeme) (s : HasSecond line body) where
       ∙ map-append (λ (d : Def). d.label.octets) s.before (f.0 ∷ f.1) in
       twice (labels s.before) (labels f.1) f.0.label.octets (rw same at s.defined) (rw all at k)
 
--- modules
+-- ---- modules
 
 all-middle : (ms : List Module) (m : Module) (ns : List Module) → HasNoDoubles (ms ++ m ∷ ns) → are_distinct (labels m.defs) ≡ true
 all-middle [] m ns h = (and_parts (are_distinct (labels m.defs)) (list_all (λ n. are_distinct (labels n.defs)) ns) h).0

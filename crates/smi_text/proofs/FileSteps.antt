@@ -1,4 +1,4 @@
--- The steps of the loops over definitions and over modules: what is read so far, and the names that are defined so far.
+-- Each step of the loops over definitions and over modules leaves true what the loop says of the parts read so far, and of the names defined so far.
 use Rattle.std.proofs.Common.{arith, ◌≡◌, ℕ, true, false, ◌||◌, List, [], ◌∷◌, ◌++◌, Some, Ok, refl, sym, ◌∙◌, ap, append-nil, ◌<◌, Bool, length}
 use Rattle.std.proofs.Common.{None, Bor}
 use Rattle.std.proofs.{lemmas.Grind.common_steps, lemmas.Grind.flat_map-append, lemmas.Bool.and_parts, lemmas.Bool.and_from, lemmas.Bool.or_parts}
@@ -22,7 +22,7 @@ use Rattle.smi_text.proofs.Many.{reading-shorter, many-fails, many-goes_on, many
 use Rattle.smi_text.proofs.Many.{with_prefix_nil}
 use Rattle.smi_text.proofs.Shorter.{definition-solid, module_text-solid}
 
--- the label of a definition is the text of its first token
+-- ---- the label of a definition is the text of its first token
 
 mark_text : Mark → List ℕ
 mark_text (spelled k x ok) = x
@@ -45,7 +45,7 @@ spelled-label d _ rest h = absurd h
 pub read-label : (d : Def) (ts rest : List Item) → definition.read ts ≡ Some (d, rest) → d.label.octets ≡ text_ahead ts
 read-label d ts rest h = spelled-label d ts rest (definition-law.takes ts rest d h)
 
--- one more part, label or module
+-- ---- lists after one more part, label or module
 
 flat-more : {A : Type 0} (f : A → List Mark) (xs : List A) (x : A) → flat_map f (xs ++ x ∷ []) ≡ flat_map f xs ++ f x
 flat-more f xs x = flat_map-append f xs (x ∷ []) ∙ ap (λ (ms : List Mark). flat_map f xs ++ ms) (append-nil (f x))
@@ -84,8 +84,9 @@ pub nothing-begins : (cs : List Ahead) → begins cs [] ≡ false
 unfolding begins
 nothing-begins cs = refl
 
--- definitions
+-- ---- definitions
 
+-- the definitions `defs` are read from the items `from`, the items `now` are left, `names` has the names that `defs` define, and none is defined twice
 pub record HasRead (names : BTreeSet (ℕ × Bor (List ℕ))) (defs : List Def) (from now : List Item) : Type 0 where
   pub left : prepend defs ((many definition).read now) ≡ (many definition).read from
   pub matched : ItemsMatch (flat_map of_def defs) from now
@@ -134,7 +135,7 @@ module _ (names : BTreeSet (ℕ × Bor (List ℕ))) (defs : List Def) (from now 
       on_line = refl;
     }
 
--- a fault of a new definition is a fault of the definitions
+-- ---- a fault of a new definition is a fault of the definitions
 
 pub definitions-fault : (names : BTreeSet (ℕ × Bor (List ℕ))) (defs : List Def) (from now : List Item) → HasRead names defs from now
     → (x : List ℕ) → begins definition.first now ≡ true → x ≡ text_ahead now
@@ -144,11 +145,11 @@ definitions-fault names defs from now have x ahead label (E.DoubleName line) f =
 definitions-fault names defs from now have x ahead label E.Memory f = tt
 definitions-fault names defs from now have x ahead label _ f = has_read-stuck names defs from now have ahead f
 
--- if no module can be read, then the stop is a fault of the module
+-- if a step stops because memory ran out or no module can be read, then its error is as `ModuleFault` says
 pub module-stop : (stop : Stop) (ts : List Item) → (is_memory stop ≡ false → module_text.read ts ≡ None) → ModuleFault (error_of stop) ts
 module-stop stop ts h = grind (arith, common_steps)
 
--- one module
+-- ---- one module
 
 module _ (ts mid : List Item) (h : Head) (read : head.read ts ≡ Some (h, mid)) where
   pub module-defs : (error : ParseError) → DefinitionsFault error mid → ModuleFault error ts
@@ -164,8 +165,9 @@ module _ (ts mid : List Item) (h : Head) (read : head.read ts ≡ Some (h, mid))
   module-defs E.Memory f = tt
   module-defs _ f = rw (read, f) refl
 
--- modules
+-- ---- modules
 
+-- the modules `ms` are read from the items `from`, the items `now` are left, and none of the modules defines a name twice
 pub record HasModules (ms : List Module) (from now : List Item) : Type 0 where
   pub left : prepend ms ((many module_text).read now) ≡ file.read from
   pub matched : ItemsMatch (spelling ms) from now

@@ -1,4 +1,4 @@
--- The offset at which an octet first occurs, and the number of newlines.
+-- What `memchr` finds is the first offset of an octet, and `memchr_iter` finds as many newlines as there are.
 use Rattle.std.proofs.{lemmas.Grind.common_steps, lemmas.List.take_all, lemmas.List.append-nil, lemmas.List.Folds.list_all_more}
 use Rattle.std.proofs.Common.{◌≡◌, ℕ, zero, suc, ◌+◌, ◌<◌, ◌≤◌, Bool, true, cond, ◌==◌, List, [], ◌∷◌, ◌++◌, length, get_or, take, drop}
 use Rattle.std.proofs.Common.{Option, Some, None, refl, ap, ◌∙◌, arith, add-one}
@@ -8,7 +8,7 @@ use Rattle.memchr.specs.Find.{IsFirstByte, TakesFirst, is_byte, places, places_f
 use Rattle.smi_text.specs.{lexer.LongestMatch.IsFirstIndex, lexer.LongestMatch.is_other, lexer.LongestMatch.newlines}
 use Rattle.smi_text.proofs.{LexedItems.newlines-cons, LexedItems.newlines-one, Scans.rest_at}
 
--- no octet of the prefix is `octet`
+-- if none of the first `n` octets is `octet`, then each of them passes the test `is_other octet`
 others : (octet : ℕ) (text : List ℕ) (n : ℕ) → n ≤ length text
     → ((k : ℕ) → k < n → (get_or text k 0 == octet) ≡ true → ⊥)
     → list_all (is_other octet) (take n text) ≡ true

@@ -1,4 +1,4 @@
--- Gaps: blank octets and comments, and offsets at which no gap begins.
+-- Gaps are blank octets and comments. They are skipped until no gap begins.
 use Rattle.std.proofs.{lemmas.Grind.common_steps, lemmas.List.drop_all}
 use Rattle.std.proofs.Common.{◌≡◌, ℕ, zero, suc, ◌+◌, ◌<◌, ◌≤◌, true, false, cond, List, [], ◌∷◌, length, get_or, take, drop, refl, sym, ap, ◌∙◌, inl}
 use Rattle.std.proofs.Common.{inr, arith, ◌-◌, add-zero, Option}
@@ -25,7 +25,7 @@ skips_blank : (text : List ℕ) (n lines more : ℕ) → n < length text → is_
     → Skips text n lines → Skips text (n + 1) (lines + more)
 skips_blank text n lines more here blank ended skips = grind (arith, common_steps, rest_at, skips_gap, blank_prefix)
 
--- a newline ends a line, and no other octet does
+-- if the octets before offset `n` can be skipped, then a newline at `n` can be skipped too, and ends one more line
 pub skips_newline : (text : List ℕ) (n lines : ℕ) → n < length text → get_or text n 0 ≡ 10 → Skips text n lines → Skips text (n + 1) (lines + 1)
 skips_newline text n lines here newline skips = skips_blank text n lines 1 here (ap is_blank newline) (rw newline refl) skips
 

@@ -1,4 +1,4 @@
--- Each way of making a format out of lawful ones makes a lawful one.
+-- A format is lawful for a spelling if it reads exactly what is spelled. Each way of making a format out of lawful formats makes a lawful one.
 use Rattle.std.proofs.lemmas.Grind.{common_steps}
 use Rattle.std.proofs.Common.{◌≡◌, ℕ, zero, suc, Bool, true, false, ◌&&◌, not, List, [], ◌∷◌, ◌++◌, Option, Some, None, if◌then◌else◌, refl}
 use Rattle.std.proofs.Common.{sym, ◌∙◌, ap, subst, arith, inl, inr, ◌⊎◌}
@@ -22,7 +22,7 @@ use Rattle.smi_text.proofs.Marks.{then-inv, begins-append, apart-false}
 pub never-matched : (ts rest : List Item) → ItemsMatch say.nothing ts rest → ⊥
 never-matched ts rest h = grind (arith, common_steps)
 
--- what is spelled begins as the format says, if the format isn't empty
+-- if tokens match the spelling of `x`, and the format reads at least one token, then these tokens begin as the format says
 pub starts-with : {A : Type 0} {s : A → List Mark} {f : Format A} → Lawful s f → f.empty ≡ false → (x : A) (ts rest : List Item) → ItemsMatch (s x) ts rest
     → begins f.first ts ≡ true
 starts-with law solid x ts rest h = grind (arith, common_steps)
@@ -36,9 +36,10 @@ begins-right cs ds ts h = begins-append cs ds ts ∙ or_right (begins cs ts) (be
 neither : (cs ds : List Ahead) (ts : List Item) → begins (cs ++ ds) ts ≡ false → (begins cs ts ≡ false) × (begins ds ts ≡ false)
 neither cs ds ts h = or_parts (begins cs ts) (begins ds ts) (sym (begins-append cs ds ts) ∙ h)
 
--- one token
+-- ---- one token
 
--- a token that passes a test, and what is taken from it
+-- the format of one token is lawful if `pick` takes `x` from a token that passes the test if and only if the token matches the mark of `x`, and such a token
+-- begins as `cs` says
 module _ {A : Type 0} {cs : List Ahead} {mark : A → Mark} {test : Lexeme → Bool} {pick : Lexeme → Option A}
     (fits : (t : Lexeme) (x : A) → test t ≡ true → pick t ≡ Some x → MarksToken (mark x) t)
     (found : (t : Lexeme) (x : A) → MarksToken (mark x) t → (test t ≡ true) × (pick t ≡ Some x))
@@ -79,7 +80,7 @@ pub name-law : Lawful (λ (x : Name). spelled K.Upper x.octets (not (is_reserved
 unfolding name
 name-law = name_where-law (a_name ∷ []) K.Upper (λ x. not (is_reserved x)) (λ t k ok. grind arith)
 
--- several parts
+-- ---- several parts
 
 module _ {A B : Type 0} {s : A → List Mark} {t : B → List Mark} {f : Format A} {g : Format B} (f-law : Lawful s f) (g-law : Lawful t g)
     (far : apart f.stop g.first ≡ true) where
@@ -94,7 +95,7 @@ module _ {A B : Type 0} {s : A → List Mark} {t : B → List Mark} {f : Format 
   }
 
 module _ {A : Type 0} {s : A → List Mark} {f : Format A} (law : Lawful s f) (solid : f.empty ≡ false) where
-  -- a part is read if a token that begins one is ahead, otherwise none: a spelling begins with such a token, and what may follow doesn't
+  -- `maybe f` is lawful: it reads a part if the token ahead begins one. The spelling of a part begins with such a token, and what may follow doesn't.
   pub maybe-law : Lawful (say.of_option s) (maybe f)
   unfolding maybe
   maybe-law = grind (arith, common_steps, if-inv, map-inv, some-inj, neither, starts-with)
@@ -103,13 +104,13 @@ abbrev pub of_either : {A B : Type 0} → (A → List Mark) → (B → List Mark
 of_either s t (inl x) = s x
 of_either s t (inr y) = t y
 
--- the token ahead decides between two parts
+-- whether the token ahead decides between two parts: both have a first token, and no token begins both
 abbrev pub decides : {A B : Type 0} → Format A → Format B → Bool
 decides f g = not f.empty && not g.empty && apart f.first g.first
 
 module _ {A B : Type 0} {s : A → List Mark} {t : B → List Mark} {f : Format A} {g : Format B} (f-law : Lawful s f) (g-law : Lawful t g)
     (decided : decides f g ≡ true) where
-  -- no token begins both: what is read belongs to the side that its first token begins, and no spelling of one side is read by the other
+  -- `either f g` is lawful: since no token begins both parts, the token ahead says which of them is spelled
   sides-law : Lawful (of_either s t) (either f g)
   unfolding either
   sides-law = grind (arith, common_steps, and_parts, not-true, if-inv, map-inv, starts-with, neither, apart-false, begins-left, begins-right)
@@ -122,7 +123,8 @@ pub either-law : {A B : Type 0} {u : A ⊎ B → List Mark} {f : Format A} {g : 
     → decides f g ≡ true → Lawful u (either f g)
 either-law f-law g-law decided = spelled-as (sides-law f-law g-law decided) (elim [ inl x ↦ refl | inr y ↦ refl ])
 
--- parts in a row, and parts between which the token ahead decides, each with `last` at its end: they are lawful if all their tests hold, which one `refl` says
+-- `▸` puts lawful formats in a row, and `∣` lets the token ahead decide between them; `last` ends both. The result is lawful if the test of each pair passes,
+-- and one `refl` shows that all do.
 infixr 20 ◌▸◌
 infixr 20 ◌∣◌
 pub ◌▸◌ : {A B : Type 0} {s : A → List Mark} {t : B → List Mark} {f : Format A} {g : Format B} {b : Bool} → Lawful s f → (b ≡ true → Lawful t g)
@@ -165,7 +167,7 @@ module _ {A : Type 0} {s : A → List Mark} {f : Format A} (law : Lawful s f) (s
   unfolding many
   many-law = grind (arith, common_steps, many-takes-from, many-again, neither, many-starts)
 
--- if the pieces and the part that they make have the same spelling, then the format of the part is lawful
+-- if the format of the pieces is lawful, and the pieces and the part that they make have the same spelling, then the format of the part is lawful
 module _ {A B : Type 0} {to : A → B} {u : B → List Mark} {s : A → List Mark} {f : Format A} (law : Lawful s f)
     (forth : (ts rest : List Item) (x : A) → ItemsMatch (s x) ts rest → ItemsMatch (u (to x)) ts rest)
     (back : (ts rest : List Item) (y : B) → ItemsMatch (u y) ts rest → (x : A) × (to x ≡ y) × ItemsMatch (s x) ts rest) where
@@ -173,7 +175,7 @@ module _ {A B : Type 0} {to : A → B} {u : B → List Mark} {s : A → List Mar
   unfolding shaped
   made-law = grind (arith, common_steps, map-inv)
 
--- a part is spelled by its pieces if it is made of some, and has no spelling otherwise
+-- `shaped to f` is lawful for the spelling `u` if `f` is lawful for the spelling of what `to` makes, and `u` has no tokens for a part that `to` can't make
 pub shaped-law : {A B : Type 0} {to : A → B} {u : B → List Mark} {f : Format A} → Lawful (λ x. u (to x)) f
     → ((y : B) → ((x : A) × (to x ≡ y)) ⊎ (u y ≡ say.nothing)) → Lawful u (shaped to f)
 unfolding shaped
@@ -189,7 +191,7 @@ pub before-law : {A : Type 0} {s : A → List Mark} {v : Unit {0} → List Mark}
 unfolding before
 before-law f-law w-law far = shaped-law (pair-law f-law w-law far) (λ x. inl ((x, tt), refl))
 
--- one part and then others are read as a pair is that is made into a list
+-- `some_of f g` reads what the pair of `f` and `many g` reads, made into one list
 some-read : {A : Type 0} (f g : Format A) (ts : List Item)
     → (some_of f g).read ts ≡ (shaped (λ (p : A × List A). p.0 ∷ p.1) (pair f (many g))).read ts
 unfolding some_of shaped pair prepend
@@ -207,7 +209,7 @@ some_of-law {A} {s} {t} {f} {g} f-law g-law solid far near =
       starts = law.starts;
     }
 
--- tokens that match marks also match them with the line of the first token put on the first mark
+-- tokens that match at least one mark also match the marks with the line of the first token put on the first mark
 put-line : (ms : List Mark) (ts rest : List Item) → (ms ≡ [] → ⊥) → ItemsMatch ms ts rest → ItemsMatch (say.put_line (line_ahead ts) ms) ts rest
 put-line ms ts rest some h = grind (arith, common_steps)
 
@@ -222,7 +224,7 @@ module _ {A : Type 0} {s : A → List Mark} {f : Format A} (law : Lawful s f) (s
   unfolding lined
   lined-law = grind (arith, common_steps, map-inv, put-line, some-mark, drop-line, starts-with)
 
--- parts of productions
+-- ---- parts of productions
 
 -- if a format is lawful, then so is the format of a word followed by it
 pub after-word : {A : Type 0} {w : List ℕ} {s : A → List Mark} {f : Format A} → Lawful s f → Lawful (λ x. say.word w ∷ s x) (preceded (word w) f)

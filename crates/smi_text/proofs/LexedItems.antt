@@ -1,4 +1,4 @@
--- The computed items of a text, by its longest prefix that is a part.
+-- The longest prefix of a text that is a part, a lexeme or a gap, decides which items `items_at` computes for the text.
 use Rattle.std.proofs.{lemmas.Grind.common_steps, lemmas.Bool.cases_lt, lemmas.List.drop-drop, lemmas.List.Sums.sum_by-append}
 use Rattle.std.proofs.Common.{◌≡◌, ℕ, zero, suc, ◌+◌, ◌<◌, ◌≤◌, cond, Option, Some, None, Ok, Err, List, [], ◌∷◌, length, take, drop, refl, sym, ap}
 use Rattle.std.proofs.Common.{◌∙◌, inl, inr, arith, zero-add, add-zero, length-take-le}
@@ -37,14 +37,14 @@ newlines-cons c s = sum_by-append (λ d. cond (is_newline d) 1 0) (c ∷ []) s
 pub newlines-one : (c : ℕ) → newlines (c ∷ []) ≡ cond (is_newline c) 1 0
 newlines-one c = zero-add (cond (is_newline c) 1 0)
 
--- octets that are read already add no item
+-- the first `k` octets, if they are read already, add no item: they only count as octets, and their newlines as lines
 pub items-skipped : (k at before : ℕ) (text : List ℕ) → items_at k at before text ≡ items_at 0 (at + k) (before + newlines (take k text)) (drop k text)
 unfolding items_at
 items-skipped zero at before text = simp add-zero
 items-skipped (suc k) at before [] = refl
 items-skipped (suc k) at before (c ∷ cs) = grind (arith, common_steps, items-skipped k (at + 1) (before + newlines (c ∷ [])) cs, newlines-cons)
 
--- if `k` octets are the longest prefix that is a part, the items of the text are those of the part, followed by those of the remaining text
+-- if `k` octets are the longest prefix that is a part, then the items of the text are the items of this part, followed by the items of the remaining text
 pub items-prefix : (text : List ℕ) (part : Part) (k at before : ℕ) → IsPartPrefix part_of text part k
     → items_at 0 at before text ≡ part_items at before part (take k text) (items_at 0 (at + k) (before + newlines (take k text)) (drop k text))
 unfolding items_at part_of
@@ -56,7 +56,7 @@ items-prefix (c ∷ cs) part (suc k) at before prefix =
     ap (λ f. prefix_items at before (c ∷ cs) f (items_at (prefix_rest_len f) (at + 1) (before + newlines (c ∷ [])) cs)) found
     ∙ ap (part_items at before part (c ∷ take k cs)) (items-skipped (suc k) at before (c ∷ cs))
 
--- if no part begins, then the fault is the only item
+-- if no part begins a text that isn't empty, then the fault is the only item
 pub items-none : (c : ℕ) (cs : List ℕ) (at before : ℕ) → ((m : ℕ) → part_of (take m (c ∷ cs)) ≡ None)
     → items_at 0 at before (c ∷ cs) ≡ Err (fault_on (before + 1) (c ∷ cs)) ∷ []
 unfolding items_at

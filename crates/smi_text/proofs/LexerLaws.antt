@@ -48,7 +48,7 @@ finds (suc n) text = finds_step n text (part_of (take (suc n) text)) (longest_pr
 
 -- ---- offsets
 
--- the items of what follows the first `n` octets, by the number of octets and newlines before it
+-- for the items after the first `n` octets of `text`, the octets and newlines of `before` and of these `n` octets can be counted separately
 line_count : (before text : List ℕ) (n : ℕ) → n ≤ length text
     → items_at 0 (length (before ++ take n text)) (newlines (before ++ take n text)) (drop n text) ≡ items_at 0 (length before + n)
     (newlines before + newlines (take n text)) (drop n text)
@@ -60,7 +60,7 @@ none_of text none m = grind (arith, common_steps, ⊎_elim, take_all, cases_lt)
 
 -- ---- the items
 
--- the computed items are those of the text
+-- the items that `items_at` computes are the items of the text, as `Lexes` defines them
 pub lexes : (n : ℕ) (before text : List ℕ) → length text ≤ n → Lexes before text (items_at 0 (length before) (newlines before) text)
 lexes n before [] within = rw (items-nothing (length before) (newlines before)) ends
 lexes zero before (c ∷ cs) within = absurd (omega arith)
@@ -111,7 +111,7 @@ earlier : (source : List ℕ) (low high : ℕ) (tokens : List Lexeme) → low �
 earlier source low high [] below h = tt
 earlier source low high (t ∷ ts) below h = (omega (arith, h.0), h.1, h.2, h.3, h.4)
 
--- the octets of a span are those after the octets before it
+-- if a source is `before` followed by `text`, then the first `n` octets of `text` are the source's in the span that begins after `before`
 span_of : (before text : List ℕ) (n : ℕ) → n ≤ length text → take n text ≡ slice_range (before ++ text) (length before) (length before + length (take n text))
 span_of before text n within = grind (arith, common_steps, length-take-le, drop-append_seam)
 

@@ -1,4 +1,4 @@
--- What the kind of a token says about its text.
+-- If the kind of a token is a sign, then its text is the only one of that kind. A step that stores the name ahead returns what the format of names reads.
 use Rattle.std.proofs.Common.{arith, ◌≡◌, ℕ, Bool, true, List, ◌∷◌, Some, Result, Ok, Err, sym, ◌∙◌, ap}
 use Rattle.std.proofs.{lemmas.Grind.common_steps, lemmas.Bool.and_from, lemmas.Bool.false≢true, Math.Bool.Bool-set, Math.Logic.∥∥₁_elim}
 use Rattle.std.specs.Prelude.{drop, IfOk, IfErr}
@@ -11,7 +11,7 @@ use Rattle.smi_text.proofs.{Marks.same_kind-same, Marks.same_text-same, NameLaws
 sign-of : (k : TokenKind) (x : List ℕ) → is_sign_kind k ≡ true → IsLexeme k x → x ≡ sign_text k
 sign-of k x e h = grind (arith, common_steps)
 
--- the text of a sign is the only one of its kind
+-- if a token has the kind of a sign, then its text is the only text of that kind
 sign_is : (k : TokenKind) (x : List ℕ) → is_sign_kind k ≡ true → ∥ IsLexeme k x ∥₁ → same_text x (sign_text k) ≡ true
 sign_is k x e t = ∥∥₁_elim t (Bool-set (same_text x (sign_text k)) true) (λ h. rw (sign-of k x e h) (same_text-same (sign_text k)))
 
@@ -20,7 +20,7 @@ pub sign_read : (k : TokenKind) (t : Lexeme) (ts : List Item) → t.kind ≡ k �
 unfolding token
 sign_read k t ts e s l = grind (arith, common_steps, sign_is, and_from, same_kind-same)
 
--- a name is the name of its octets
+-- if `n` is a name with the octets `x`, then `name_of x` is `n`
 pub name_at : (x : List ℕ) (n : Name) → n.octets ≡ x → name_of x ≡ Some n
 name_at x n e = ap name_of (sym e) ∙ name_of-octets n
 

@@ -1,4 +1,4 @@
--- One step of the loops that read the names of an index, and tokens between braces.
+-- A step of the loops that read the names of an INDEX, or tokens between braces: what was read, followed by what will be read, is the same before and after.
 use Rattle.std.proofs.Common.{◌≡◌, ℕ, zero, suc, ◌+◌, ◌<◌, ◌≤◌, true, false, List, [], ◌∷◌, ◌++◌, length, Some, None, Ok, refl, sym, arith}
 use Rattle.std.proofs.Common.{append_assoc}
 use Rattle.std.proofs.lemmas.Grind.{common_steps}
@@ -10,7 +10,7 @@ use Rattle.smi_text.specs.private.Format.{Parsed, a_word, a_kind, begins, prepen
 use Rattle.smi_text.specs.private.Grammar.{read_index, with_names, depth_after, is_outside, kept_text, read_balanced}
 use Rattle.smi_text.proofs.{Laws.lower-law, Laws.token-law, Many.reading-shorter, Many.prepend-append, Many.prepend-end}
 
--- the names of an index
+-- ---- the names of an index
 
 pub with_names-nil : (r : Parsed IndexParts) → with_names [] r ≡ r
 unfolding with_names
@@ -32,7 +32,7 @@ index-next names (suc m) ts h x rest after b e c t = (
   rw (b, e, c, t) (sym (with_names-append names (x ∷ []) (read_index (suc m) after))),
 )
 
--- tokens between braces
+-- ---- tokens between braces
 
 pub depth_after-le : (k : TokenKind) (depth : ℕ) → depth_after k depth ≤ depth + 1
 depth_after-le k depth = grind arith

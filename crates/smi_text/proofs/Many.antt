@@ -1,4 +1,4 @@
--- Reading any number of one part.
+-- If a format is lawful, then any number of its parts is read as it is spelled.
 use Rattle.std.proofs.lemmas.Grind.{common_steps}
 use Rattle.std.proofs.Common.{◌≡◌, ℕ, zero, suc, ◌+◌, ◌<◌, ◌≤◌, true, false, List, [], ◌∷◌, ◌++◌, length, Some, None, Ok, if◌then◌else◌}
 use Rattle.std.proofs.Common.{option_map, option_and_then, refl, ◌∙◌, ap, arith, append_assoc, append-nil}
@@ -6,7 +6,7 @@ use Rattle.smi_text.specs.{lexer.Token.Item, trees.Mark.Mark}
 use Rattle.smi_text.specs.private.Format.{ItemsMatch, Format, Parsed, begins, read_many, many, prepend}
 use Rattle.smi_text.proofs.Lawful.{Lawful}
 
--- the tokens that the marks spell are one for each mark
+-- if items match the marks `ms`, then there is one for each mark before `rest`
 pub ItemsMatch-length : (ms : List Mark) (ts rest : List Item) → ItemsMatch ms ts rest → length ts ≡ length ms + length rest
 ItemsMatch-length [] ts rest h = ap length h ∙ omega arith
 ItemsMatch-length (m ∷ ms) (Ok t ∷ ts) rest h = omega (arith, ItemsMatch-length ms ts rest h.1)
@@ -24,7 +24,7 @@ reading-shorter law solid x ts rest h = shorter law solid x ts rest (law.takes t
 abbrev put_one : {A : Type 0} → Format A → ℕ → A × List Item → Parsed (List A)
 put_one f n p = option_map (λ q. (p.0 ∷ q.0, q.1)) (read_many f n p.1)
 
--- two bounds that are at least the number of tokens make no difference to what is read
+-- if a lawful format always takes a token, and two bounds are at least the number of tokens, then `read_many` reads the same with both
 enough : {A : Type 0} {s : A → List Mark} {f : Format A} → Lawful s f → f.empty ≡ false → (n m : ℕ) (ts : List Item) → length ts ≤ n → length ts ≤ m
     → read_many f (suc n) ts ≡ read_many f (suc m) ts
 unfolding read_many begins
@@ -41,12 +41,13 @@ enough {A} {s} {f} law solid (suc n) (suc m) (t ∷ ts) h k =
           ap (λ (r : Parsed (List A)). option_map (λ (q : List A × List Item). (p.0 ∷ q.0, q.1)) r) (enough law solid n m p.1 (omega arith) (omega arith))
     ] refl)
 
--- if the part begins and isn't read, then none of several is
+-- if the token ahead begins a part, but the part can't be read, then `many` can't be read either
 pub many-fails : {A : Type 0} (f : Format A) (ts : List Item) → begins f.first ts ≡ true → f.read ts ≡ None → (many f).read ts ≡ None
 unfolding many read_many
 many-fails f ts b e = rw (b, e) refl
 
--- if a part is read, then it is before the others
+-- if a lawful format always takes a token, and the token ahead begins a part that is read, then `many` reads this part, and then what it reads from the
+-- remaining tokens
 pub many-goes_on : {A : Type 0} {s : A → List Mark} {f : Format A} → Lawful s f → f.empty ≡ false → (x : A) (ts rest : List Item) → begins f.first ts ≡ true
     → f.read ts ≡ Some (x, rest) → (many f).read ts ≡ prepend (x ∷ []) ((many f).read rest)
 unfolding many read_many begins prepend
@@ -56,7 +57,7 @@ many-goes_on {A} {s} {f} law solid x (t ∷ ts) rest b e =
     rw (b, e) (ap (λ (r : Parsed (List A)). option_map (λ (q : List A
     × List Item). (x ∷ q.0, q.1)) r) (enough law solid (length ts) (length rest) rest (omega arith) (omega arith)))
 
--- if the part doesn't begin, then there are no parts
+-- if the token ahead doesn't begin a part, then `many` reads an empty list
 pub many-done : {A : Type 0} (f : Format A) (ts : List Item) → begins f.first ts ≡ false → (many f).read ts ≡ Some ([], ts)
 unfolding many read_many
 many-done f ts b = rw b refl
@@ -77,7 +78,8 @@ pub with_prefix_nil : {A : Type 0} (r : Parsed (List A)) → prepend [] r ≡ r
 unfolding prepend
 with_prefix_nil r = grind (arith, common_steps)
 
--- one step of a loop that reads several parts: the parts that are still to be read, and a bound that is enough for them
+-- if the token ahead begins a part, and this is read from at least one token, then `read_many` reads it and after it the parts from the remaining tokens, for
+-- which some bound `m` is enough
 pub next-many : {A : Type 0} (f : Format A) (n : ℕ) (x : A) (ts rest : List Item) → begins f.first ts ≡ true → f.read ts ≡ Some (x, rest) → length ts ≤ n
     → length rest < length ts
     → (m : ℕ) × (length rest ≤ m) × (read_many f (suc n) ts ≡ prepend (x ∷ []) (read_many f (suc m) rest))

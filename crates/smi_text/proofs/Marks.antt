@@ -1,4 +1,5 @@
--- Marks, kinds and texts: what the tests of tokens mean.
+-- If a test of a token's kind or text passes, then the kind or text is as tested. Items match one list of marks (which describe tokens) followed by another if
+-- and only if they match the first list, and the items after those match the second. If two lists of conditions are apart, no token meets a condition of each.
 use Rattle.std.proofs.Common.{arith, ◌≡◌, ℕ, Bool, true, false, ◌||◌, not, List, [], ◌∷◌, ◌++◌, Option, Some, None, Ok, refl, sym, subst}
 use Rattle.std.proofs.Common.{◌⊎◌, if◌then◌else◌}
 use Rattle.std.proofs.{lemmas.Grind.common_steps, lemmas.List.Folds.list_any-append, lemmas.Slice.Eq.bytes_eq-Decides}
@@ -11,7 +12,7 @@ use Rattle.smi_text.specs.declared.lexer.token.TokenKind.TheVariants as K
 use Rattle.smi_text.specs.trees.Mark.{Mark, same_kind, same_text}
 use Rattle.smi_text.specs.private.Format.{ItemsMatch, Ahead, is_this_word, meets, begins, half_apart, apart}
 
--- kinds and texts
+-- ---- kinds and texts
 
 pub same_kind-eq : (a b : TokenKind) → same_kind a b ≡ true → a ≡ b
 same_kind-eq a b h = same_true the_type tt a b h
@@ -25,7 +26,7 @@ same_text-eq x y h = (bytes_eq-Decides x y).0 h
 pub same_text-same : (x : List ℕ) → same_text x x ≡ true
 same_text-same x = (bytes_eq-Decides x x).1 refl
 
--- marks one after the other
+-- ---- marks followed by other marks
 
 pub ItemsMatch-append : (xs ys : List Mark) (ts mid rest : List Item) → ItemsMatch xs ts mid → ItemsMatch ys mid rest → ItemsMatch (xs ++ ys) ts rest
 ItemsMatch-append [] ys ts mid rest h k = let P : List Item → Type 0 = λ us. ItemsMatch ys us rest in subst P (sym h) k
@@ -38,7 +39,7 @@ ItemsMatch-split [] ys ts rest h = (ts, refl, h)
 ItemsMatch-split (x ∷ xs) ys (Ok t ∷ ts) rest h = grind (arith, common_steps, ItemsMatch-split xs ys ts rest h.1)
 ItemsMatch-split (x ∷ xs) ys _ rest h = absurd h
 
--- readings
+-- ---- what is read, if `option_map`, `option_and_then` or a condition returns it
 
 pub map-inv : {A B : Type 0} (f : A → B) (r : Option A) (y : B) → option_map f r ≡ Some y → (x : A) × (r ≡ Some x) × (f x ≡ y)
 map-inv f None y h = absurd (cc)
@@ -51,7 +52,7 @@ then-inv k (Some x) y h = (x, refl, h)
 pub if-inv : {A : Type 0} (b : Bool) (x y z : A) → (if b then x else y) ≡ z → ((b ≡ true) × (x ≡ z)) ⊎ ((b ≡ false) × (y ≡ z))
 if-inv b x y z h = grind (arith, common_steps)
 
--- the token ahead
+-- ---- the token ahead
 
 pub begins-append : (cs ds : List Ahead) (ts : List Item) → begins (cs ++ ds) ts ≡ (begins cs ts || begins ds ts)
 unfolding begins

@@ -14,7 +14,7 @@ unfolding named
 same-when x w true e = ap (λ v. Some (named x v)) (Bool-set (is_word x) true e w)
 same-when x w false e = absurd (false≢true (sym e ∙ w))
 
--- a name is the name of its octets
+-- for the octets of a name `n`, `name_of` returns `n`
 pub name_of-octets : (n : Name) → name_of n.octets ≡ Some n
 unfolding named
 name_of-octets n = same-when n.octets n.lexical (is_word n.octets) refl
@@ -23,6 +23,6 @@ octets-when : (x : List ℕ) (b : Bool) (e : is_word x ≡ b) (n : Name) → nam
 octets-when x true e n h = ap (λ (m : Name). m.octets) (sym (some-inj (record { octets = x; lexical = e }) n h))
 octets-when x false e n h = absurd (cc)
 
--- the name of octets has these octets
+-- if `name_of x` is the name `n`, then `n` has the octets `x`
 pub name_of-is : (x : List ℕ) (n : Name) → name_of x ≡ Some n → n.octets ≡ x
 name_of-is x n h = octets-when x (is_word x) refl n h

@@ -1,4 +1,4 @@
--- A stretch of octets is a part if and only if it reads as one.
+-- Octets are a part, a lexeme or a gap, if and only if `part_of` reads them as this part.
 use Rattle.std.proofs.{lemmas.Grind.common_steps, Math.Bool.and-false, lemmas.Bool.Decides.nat_tests, lemmas.List.Folds.list_all-append}
 use Rattle.std.proofs.Common.{◌≡◌, ◌≢◌, ℕ, ◌⊎◌, Bool, true, false, cond, not, ◌&&◌, ◌||◌, Some, List, [], ◌∷◌, ◌++◌, refl, sym, ap, ◌∙◌, inl}
 use Rattle.std.proofs.Common.{inr, arith, eqb, append_assoc, append-nil}
@@ -58,12 +58,12 @@ literal_is is_digit upper lower s h = grind (arith, common_steps, literal_body, 
 literal_part_is : (s : List ℕ) (part : Part) → literal_part s ≡ Some part → IsPart part (39 ∷ s)
 literal_part_is s part h = grind (arith, common_steps, if-inv, then_is, literal_is)
 
--- comments
--- if octets begin no run of hyphens, then no prefix of them does
+-- ---- comments
+-- if `b` is false or octets don't begin with a hyphen, then `b` is false or a prefix of them doesn't begin with one
 begins_prefix : (b : Bool) (prefix rest : List ℕ) → (b && begins is_hyphen (prefix ++ rest)) ≡ false → (b && begins is_hyphen prefix) ≡ false
 begins_prefix b prefix rest h = grind (arith, common_steps, and-false)
 
--- a closing run begins with two hyphens
+-- if octets begin with two hyphens, and all after the first are hyphens, then they are a run of hyphens
 run_is : (c : ℕ) (cs : List ℕ) → (is_hyphen c && begins is_hyphen cs) ≡ true → list_all is_hyphen cs ≡ true → IsRunOfHyphens (c ∷ cs)
 run_is c cs two all = grind (arith, common_steps, and-false, and_from, and_parts)
 
@@ -114,7 +114,7 @@ hyphen_part_is (c ∷ cs) part h =
       | inr p ↦ then_is number (lexeme K.Number) part (45 ∷ c ∷ cs) p.1 (λ e. (45 ∷ [], c ∷ cs, refl, inr refl, some_octets c cs, e))
     ]
 
--- what reads as a symbol, by its first octet and the octets after it, is that symbol
+-- if `c` is the symbol `kind`, and `symbol_part kind s` is `part`, then `c` followed by `s` is this part
 symbol_part_is : (kind : TokenKind) (c : ℕ) (s : List ℕ) (part : Part) → IsLexeme kind (c ∷ []) → symbol_part kind s ≡ Some part → IsPart part (c ∷ s)
 symbol_part_is kind c [] part first h = then_is true (lexeme kind) part (c ∷ []) h (λ _. first)
 symbol_part_is K.Colon c (d ∷ ds) part first h = grind (arith, common_steps, then_is, and_parts, sole_is, eqb-true)
@@ -152,7 +152,7 @@ upper_class c h = grind (arith, nat_tests)
 digit_class : (c : ℕ) → is_ascii_digit c ≡ true → class_of c ≡ C.Digit
 digit_class c h = grind (arith, nat_tests)
 
--- an octet that passes a test isn't one that fails it
+-- if `octet` fails the test `p`, and `c` passes it, then `c` isn't `octet`
 other : (p : ℕ → Bool) (octet : ℕ) → p octet ≡ false → (c : ℕ) → p c ≡ true → eqb c octet ≡ false
 other p octet fail c pass = ne_eqb c octet (λ e. false≢true (sym fail ∙ ap p (sym e) ∙ pass))
 

@@ -1,4 +1,4 @@
--- The parts that the scans find, after their first octet.
+-- What a scan finds, together with the octet before it, is the longest prefix that is a part: a lexeme or a gap.
 use Rattle.std.proofs.{lemmas.Grind.common_steps, lemmas.Bool.and_parts, lemmas.Bool.cases_lt, lemmas.Bool.not-true, Math.Bool.and-false}
 use Rattle.std.proofs.{Math.Bool.and-true, Math.Bool.and_assoc, Math.Seq.take-add, lemmas.List.Folds.list_all-append}
 use Rattle.std.proofs.Common.{◌≡◌, ℕ, zero, suc, ◌+◌, ◌-◌, ◌<◌, ◌≤◌, Bool, true, false, cond, if◌then◌else◌, ◌&&◌, ◌⊎◌, Option, Some, None, List, []}
@@ -13,7 +13,7 @@ use Rattle.smi_text.specs.declared.lexer.class.Class.{Class}
 use Rattle.smi_text.specs.lexer.LongestMatch.{class_of, part_in, part_of}
 use Rattle.smi_text.proofs.Scans.{rest_at, longest_after, goes_on_past}
 
--- the longest prefix, if a test decides what it reads as
+-- if `reading` returns `part` when `test` passes, and None otherwise, then the longest prefix that passes is the longest that reads as a part
 pub part_prefix : (test : List ℕ → Bool) (reading : List ℕ → Option Part) (part : Part) (text : List ℕ) (n : ℕ)
     → ((s : List ℕ) → reading s ≡ then_some (test s) part) → IsLongestPassing test text n → IsPartPrefix reading text part n
 part_prefix test reading part text n read prefix = grind (arith, common_steps)
@@ -21,7 +21,7 @@ part_prefix test reading part text n read prefix = grind (arith, common_steps)
 pub none_some : (part : Part) → ◌≡◌ {A = Option Part} None (Some part) → ⊥
 none_some part h = cc
 
--- no prefix, if a test decides what it reads as
+-- if `reading` returns `part` when `test` passes, and None otherwise, and no prefix passes, then no prefix reads as a lexeme
 pub no_prefix : (test : List ℕ → Bool) (reading : List ℕ → Option Part) (part : Part) (text : List ℕ)
     → ((s : List ℕ) → reading s ≡ then_some (test s) part) → ((m : ℕ) → test (take m text) ≡ false) → HasNoLexeme reading text
 no_prefix test reading part text read fails kind m h = none_some (lexeme kind) (sym (read (take m text) ∙ ap (λ b. then_some b part) (fails m)) ∙ h)
@@ -36,7 +36,7 @@ other_not octet c h = not-true (eqb c octet) h
 
 -- ---- strings
 
--- an octet other than a quote makes no difference
+-- if `c` isn't a quote, then `c` and `s` are the rest of a string if and only if `s` is
 pub string_step : (c : ℕ) (s : List ℕ) → is_other 34 c ≡ true → is_string_rest (c ∷ s) ≡ is_string_rest s
 string_step c s h = ap (λ b. cond b (is_nothing s) (is_string_rest s)) (other_not 34 c h)
 
@@ -65,18 +65,18 @@ string_some text i h =
 
 -- ---- literals
 
--- before its second quote, a literal isn't complete
+-- if no octet of `s` is a quote, then `s` isn't the rest of a literal
 pub literal_open : (is_digit is_letter : ℕ → Bool) (s : List ℕ) → list_all (is_other 39) s ≡ true → is_literal_rest is_digit is_letter s ≡ false
 literal_open is_digit is_letter [] h = refl
 literal_open is_digit is_letter (c ∷ cs) h = grind (arith, common_steps, and_parts, other_not, and-false, literal_open is_digit is_letter cs)
 
--- after the second quote, the letter decides
+-- if `digits` has no quote, then `digits`, a quote and `s` are the rest of a literal if and only if all digits pass, and `s` is one letter that passes
 pub literal_closed : (is_digit is_letter : ℕ → Bool) (digits s : List ℕ) → list_all (is_other 39) digits ≡ true
     → is_literal_rest is_digit is_letter (digits ++ 39 ∷ s) ≡ (list_all is_digit digits && is_sole is_letter s)
 literal_closed is_digit is_letter [] s h = refl
 literal_closed is_digit is_letter (c ∷ cs) s h = grind (arith, common_steps, and_parts, other_not, and_assoc, literal_closed is_digit is_letter cs s)
 
--- what follows a literal's digits decides its kind
+-- the literal, by its kind, that has the digits `digits` and the octets `s` after its second quote, if these make one
 abbrev pub literal_after : List ℕ → List ℕ → Option Part
 literal_after digits s =
     if list_all is_ascii_hexdigit digits && is_sole is_hex_letter s then Some (lexeme Hex)
@@ -94,12 +94,12 @@ literal_unended digits = rw (and-false (list_all is_ascii_hexdigit digits), and-
 literal_unclosed : (s : List ℕ) → list_all (is_other 39) s ≡ true → literal_part s ≡ None
 literal_unclosed s h = rw (literal_open is_ascii_hexdigit is_hex_letter s h, literal_open is_binary_digit is_binary_letter s h) refl
 
--- with a quote at its first index `i`, a prefix of a literal that ends after this quote is read from the digits before the quote and the octets after it
+-- if the first quote is at index `i`, then a prefix that ends after it is read as a literal from the digits before the quote and the octets after it
 literal_long : (k i : ℕ) (text : List ℕ) → IsFirstIndex 39 text (Some i)
     → literal_part (take (i + suc k) text) ≡ literal_after (take i text) (take k (drop (i + 1) text))
 literal_long k i text h = grind (arith, common_steps, take-add, rest_at, literal_reads)
 
--- each prefix ends before the second quote or after it
+-- if the second quote is at index `i`, then each prefix of the text isn't the rest of a literal, or it ends after this quote
 literal_at : (text : List ℕ) (i : ℕ) → IsFirstIndex 39 text (Some i) → (m : ℕ)
     → (literal_part (take m text) ≡ None)
     ⊎ ((k : ℕ) × (m ≡ i + suc k) × (literal_part (take m text) ≡ literal_after (take i text) (take k (drop (i + 1) text))))
@@ -118,14 +118,14 @@ literal_none text h kind m is = none_some (lexeme kind) (sym (literal_unclosed (
 pub literal_ends : (text : List ℕ) (i : ℕ) → IsFirstIndex 39 text (Some i) → i + 1 ≡ length text → IsLexemePrefix literal_part text None
 literal_ends text i h last kind m is = grind (arith, common_steps, literal_at, none_some, drop_all, take_all, literal_unended)
 
--- the octet after the second quote is the letter, and with more octets there is no literal
+-- of the octets `c` and `cs` after the second quote, no prefix makes a literal but `c` by itself
 literal_letter : (digits : List ℕ) (c : ℕ) (cs : List ℕ) (k : ℕ) → (literal_after digits (take k (c ∷ cs)) ≡ None) ⊎ (take k (c ∷ cs) ≡ c ∷ [])
 literal_letter digits c cs zero = inl (literal_unended digits)
 literal_letter digits c cs (suc zero) = inr refl
 literal_letter digits c [] (suc (suc k)) = inr refl
 literal_letter digits c (d ∷ ds) (suc (suc k)) = grind (arith, common_steps, and-false, literal_unended)
 
--- the first prefix that can be a literal ends with the octet after the second quote, which decides what kind of literal it is, if it is one
+-- if the second quote is at index `i`, then the prefix of `i + 2` octets is the rest of a literal of the kind `found`; if that is None, no prefix is one
 pub literal_prefix : (text : List ℕ) (i : ℕ) → IsFirstIndex 39 text (Some i) → i + 1 < length text
     → (digits : List ℕ) → digits ≡ take i text → (found : Option TokenKind) → option_map lexeme found ≡ literal_of digits (get_or text (i + 1) 0)
     → IsLexemePrefix literal_part text (option_map (λ kind. (kind, i + 2)) found)
@@ -135,7 +135,7 @@ literal_prefix text i h next digits prefix found kind_is = by_kind found (rw pre
         ≡ literal_after (take i text) (take k (get_or text (i + 1) 0 ∷ drop ((i + 1) + 1) text))
     rest k = ap (λ s. literal_after (take i text) (take k s)) (rest_at text (i + 1) next)
 
-    -- each prefix is no literal, or is this one
+    -- each prefix isn't the rest of a literal, or it is the prefix of `i + 2` octets
     each : (m : ℕ) → (literal_part (take m text) ≡ None)
         ⊎ ((m ≤ length text → m ≡ i + 2) × (literal_part (take m text) ≡ literal_of (take i text) (get_or text (i + 1) 0)))
     each m =

@@ -1,5 +1,5 @@
--- Each production is lawful: it reads what its case of the grammar spells, and nothing else. A law names the pieces of its production in order, with the words
--- of the grammar, and says which pieces each part is made of. A `refl` says that the token ahead tells the pieces apart.
+-- Each production is lawful: it reads what its case in `Spelling.antt` writes, and nothing else. A law names the pieces of its production in order, with the
+-- words of the grammar, and says which pieces each part is made of. A `refl` says that the token ahead tells the pieces apart.
 use Rattle.std.proofs.Common.{arith, ◌≡◌, ℕ, true, if◌then◌else◌, List, [], ◌∷◌, Option, Some, None, Ok, refl, inl, inr, ◌⊎◌}
 use Rattle.std.proofs.{lemmas.Grind.common_steps, lemmas.Bool.and_parts, lemmas.Bool.or_right, lemmas.Bool.or_cases}
 use Rattle.std.specs.{Prelude.drop, Prelude.◌==◌, List.list_any}
@@ -23,7 +23,7 @@ use Rattle.smi_text.specs.declared.trees.tree.Refinement.TheVariants as R
 use Rattle.smi_text.specs.declared.trees.tree.Index.TheVariants as I
 use Rattle.smi_text.specs.declared.trees.tree.DefKind.TheVariants as D
 
--- identifiers
+-- ---- identifiers
 
 arc-law : Lawful (λ x. say.arc x ∷ []) g.arc
 arc-law = unfold all in text_where-law
@@ -41,7 +41,7 @@ later_part-law = unfold all in shaped-law (either-law arc-law (pair-law lower-la
 value-law : Lawful say.of_value g.value
 value-law = unfold all in after-sign (braced-law (some_of-law part-law later_part-law refl refl refl) refl)
 
--- types
+-- ---- types
 
 bound-law : Lawful (λ x. say.bound x ∷ []) g.bound
 bound-law = unfold all is_bound in kept-law _ _ (λ t h. grind (arith, common_steps))
@@ -83,7 +83,7 @@ syntax_type-law = unfold all in shaped-law (either-law (after-word (after-word n
 pub field-law : Lawful say.of_field g.field
 field-law = unfold all in shaped-law (pair-law lower-law syntax_type-law refl) (λ f. inl (_, refl))
 
--- clauses
+-- ---- clauses
 
 names-law : Lawful say.of_names g.names
 names-law = unfold all in braced-law (separated-law K.Comma lower-law refl refl) refl
@@ -98,7 +98,7 @@ index-law : Lawful say.of_index g.index
 index-law = unfold all in shaped-law (either-law (after-word (braced-law index_names-law refl)) (after-word (braced-law lower-law refl)) refl)
     (elim [ I.Own p ↦ inl (inl p, refl) | I.Augments x ↦ inl (inr x, refl) ])
 
--- definitions of a name that begins with a lower-case letter
+-- ---- definitions of a name that begins with a lower-case letter
 
 module_identity-law : Lawful say.of_module_identity g.module_identity
 module_identity-law = unfold all in shaped-law
@@ -125,7 +125,8 @@ textual_convention-law : Lawful say.of_textual_convention g.textual_convention
 textual_convention-law = unfold all in shaped-law
     (after-word ((maybe-law clause-law refl ▸ status-law ▸ last (after-word syntax_type-law)) refl)) (λ d. inl (_, refl))
 
--- how a kind is written: after a name in lower case (0), after a name in upper case and `::=` (1), or as a macro (2)
+-- how a definition of this kind is written: after a name that begins with a lower-case letter (0), after one that begins with an upper-case letter and `::=`
+-- (1), or as a macro (2)
 abbrev class : DefKind → ℕ
 class (D.TextualConvention d) = 1
 class (D.TypeAssignment d) = 1
@@ -134,7 +135,7 @@ class (D.Choice xs) = 1
 class (D.Macro xs) = 2
 class _ = 0
 
--- the spelling of the kinds of one class, and no spelling of the others
+-- the marks `s k` if the kind `k` is of class `n`; otherwise `nothing`, which no tokens match
 abbrev only : ℕ → (DefKind → List Mark) → DefKind → List Mark
 only n s k = if class k == n then s k else say.nothing
 
@@ -155,7 +156,7 @@ lower_definition-law = unfold all in shaped-law
       | _ ↦ inr refl
     ])
 
--- definitions of a name that begins with an upper-case letter
+-- ---- definitions of a name that begins with an upper-case letter
 
 abbrev of_assigned : DefKind → List Mark
 of_assigned = only 1 (λ k. drop 1 (say.of_kind k))
@@ -185,7 +186,7 @@ macro_definition-law = unfold all in shaped-law
     (after-word (after-sign (after-word (before-law (many-law before_end-law refl refl) word-law refl))))
     (elim [ D.Macro xs ↦ inl (xs, refl) | _ ↦ inr refl ])
 
--- the spelling of a kind whose names begin with an upper-case letter
+-- the spelling of a definition after its name, if that begins with an upper-case letter
 abbrev of_upper : DefKind → List Mark
 of_upper (D.Macro xs) = say.of_kind (D.Macro xs)
 of_upper k = sign K.Assign ∷ of_assigned k
@@ -195,7 +196,7 @@ upper_definition-law = unfold all in made-law (either-law {u = of_either _ _} (a
     (λ ts rest x h. grind (arith, common_steps, never-matched))
     (λ ts rest. elim [ D.Macro xs ↦ λ h. (inr _, refl, h) | k ↦ λ h. (inl _, refl, h) ])
 
--- the names of macros
+-- ---- the names of macros
 
 macro-ahead : (t : Lexeme) → same_kind t.kind K.Upper ≡ true → is_macro t.text ≡ true → list_any (meets t) g.macro_words ≡ true
 unfolding is_macro
@@ -208,9 +209,9 @@ pub begins_macro : (t : Lexeme) (ts : List Item) → t.kind ≡ K.Upper → begi
 unfolding begins is_macro
 begins_macro t ts e = rw e refl
 
--- definitions
+-- ---- definitions
 
--- the spelling of a definition, by its name: one in lower case, one in upper case, or the reserved word of a macro
+-- the spelling of a definition, by its name: one that begins with a lower-case letter, one that begins with an upper-case letter, or a macro's reserved word
 abbrev of_labelled : g.Labelled ⊎ (g.Labelled ⊎ g.Labelled) → List Mark
 of_labelled (inl p) = on_line p.0.0 (say.lower p.0.1) ∷ only 0 say.of_kind p.1
 of_labelled (inr (inl p)) = on_line p.0.0 (say.upper p.0.1) ∷ of_upper p.1
@@ -231,9 +232,10 @@ definition-law = unfold all in made-law {s = of_labelled}
     def-forth
     (λ ts rest d h. elim (def-back ts rest d h) [ inl s ↦ (inl _, refl, s) | inr (inl s) ↦ (inr (inl _), refl, s) | inr (inr s) ↦ (inr (inr _), refl, s) ])
 
--- imports and modules
+-- ---- imports and modules
 
--- a symbol is a word in lower case, a name in upper case, or the name of a macro
+-- if a token can be imported, then it is as the grammar says: a word that begins with a lower-case letter, a name that begins with an upper-case letter, or
+-- the name of a macro
 symbol-ahead : (t : Lexeme) → is_symbol t.kind t.text ≡ true → list_any (meets t) (a_kind K.Lower ∷ a_name ∷ g.macro_words) ≡ true
 unfolding is_symbol
 symbol-ahead t h = grind (arith, common_steps, or_cases, and_parts, or_right, macro-ahead)

@@ -1,4 +1,4 @@
--- What the functions of a file unfold, each list under one name: the formats, and the productions that the file reads.
+-- Names for what proofs unfold: the formats, and for each source file the productions that it reads.
 use Rattle.std.proofs.Common.{ℕ}
 use Rattle.smi_text.specs.{trees.Number.is_symbol, trees.Reserved.is_reserved}
 use Rattle.smi_text.specs.private.Format.{begins, maybe, preceded, lower, word, token, text, text_where, name, pair, before, either, shaped, some_of}
@@ -11,7 +11,7 @@ use Rattle.smi_text.specs.private.Grammar.{object_identity, object_type, objects
 use Rattle.smi_text.specs.private.Grammar.{ranges, raw_definition, refinement, revision, simple_type, size, status, syntax_clause}
 use Rattle.smi_text.specs.private.Grammar.{syntax_type, tag, textual_convention, upper_definition, value, file, read_index, with_names}
 
--- the formats of one token, or of none
+-- what proofs about the formats of one token, or of none, unfold
 unfoldable pub tokens : ℕ
 unfolding begins maybe shaped pair preceded lower word token text text_where name
 tokens = 0
@@ -39,7 +39,7 @@ unfolding formats braced module_identity object_identity object_type notificatio
     default_value
 of_definitions = 0
 
--- only what is needed for these two, which have many parts
+-- what proofs about `module_identity` and `textual_convention` unfold: no more than they need, since both have many parts
 unfoldable pub of_many : ℕ
 unfolding shaped pair preceded module_identity textual_convention
 of_many = 0
@@ -53,7 +53,7 @@ unfoldable pub of_modules : ℕ
 unfolding formats braced imported_symbol import_clause imports heading opening head module_text is_symbol
 of_modules = 0
 
--- all formats and productions
+-- what proofs about all formats and productions unfold
 unfoldable pub all : ℕ
 unfolding of_types of_clauses of_definitions of_modules file many is_reserved
 all = 0

@@ -1,5 +1,5 @@
--- Runs of tokens that are stored as they are, and indexes, are lawful. An index of a bounded number of names is made as other formats are, and is read as an
--- index is.
+-- The formats of tokens that are stored as they are, and of the names of an INDEX, are lawful. The format `up_to n`, of at most n names, is made of other
+-- formats, and reads what `read_index n` does.
 use Rattle.std.proofs.lemmas.Grind.{common_steps}
 use Rattle.std.proofs.Common.{◌≡◌, ℕ, zero, suc, ◌≤◌, nat_le, Bool, true, false, List, [], ◌∷◌, length, Option, Some, None, if◌then◌else◌, refl, sym}
 use Rattle.std.proofs.Common.{◌∙◌, arith, inl, inr, ◌⊎◌, ◌&&◌, not, Ok}
@@ -19,7 +19,7 @@ use Rattle.smi_text.proofs.Laws.{kept-law}
 use Rattle.smi_text.specs.declared.trees.tree.IndexParts.{IndexParts}
 use Rattle.std.proofs.lemmas.Bool.{and_parts, and_from, or_parts, not-true, not-false}
 
--- the last name, after IMPLIED or without it, or a name with others after a comma
+-- the names of an INDEX, made of their pieces: the last name, after IMPLIED or without it, or a name with others after a comma
 abbrev to_names : Name ⊎ (Name × Option IndexParts) → IndexParts
 to_names (inl x) = index_parts (x ∷ []) true
 to_names (inr (x, None)) = index_parts (x ∷ []) false
@@ -33,7 +33,7 @@ up_to (suc n) = shaped to_names (either implied_name (pair lower (maybe (precede
 abbrev of_up_to : ℕ → IndexParts → List Mark
 of_up_to n p = if nat_le (length p.names) n then say.of_index_names p.names p.implied else say.nothing
 
--- the spelling of its pieces, by that of the names after a comma
+-- the spelling of the pieces of an index, if `s` is the spelling of the names after a comma
 abbrev of_pieces : (IndexParts → List Mark) → Name ⊎ (Name × Option IndexParts) → List Mark
 of_pieces s (inl x) = say.word (codes "IMPLIED") ∷ say.lower x ∷ []
 of_pieces s (inr p) = say.lower p.0 ∷ say.of_option (λ q. sign K.Comma ∷ s q) p.1
@@ -86,7 +86,7 @@ index_names-law = unfold index_names formats in record {
   starts = λ x ts rest h. (law (suc (length ts))).starts x ts rest (bounded x ts rest h);
 }
 
--- runs of tokens that are stored as they are
+-- ---- runs of tokens that are stored as they are
 
 pub before_assign-law : Lawful (λ (x : TokenText). spelled x.kind x.text (not (same_kind x.kind K.Assign)) ∷ []) before_assign
 unfolding before_assign

@@ -1,4 +1,5 @@
--- The steps and ends of a scan for the longest prefix that passes a test, and of each scan by its own test.
+-- A scan for the longest prefix that passes a test continues after an octet that makes no difference to the test, and stops before one with which no prefix
+-- passes.
 use Rattle.std.proofs.{lemmas.Grind.common_steps, lemmas.List.Folds.list_all_more, lemmas.List.drop_all}
 use Rattle.std.proofs.lemmas.Bool.{and_parts, eqb-true, ne_eqb, cases_lt, false_from_ne_true}
 use Rattle.std.proofs.Common.{◌≡◌, ℕ, zero, suc, ◌+◌, ◌-◌, ◌<◌, ◌≤◌, Bool, true, false, List, [], ◌∷◌, length, get_or, take, drop, sym, ap, ◌∙◌}
@@ -51,7 +52,8 @@ module _ (test : List ℕ → Bool) (text : List ℕ) where
   scan_stop n here empty stop before =
       scan_end n empty (λ k h. ap (λ s. test (take (suc k) s)) (rest_at text n here) ∙ stop k) before
 
--- after octets that make no difference, the longest prefix of the rest that passes another test
+-- if `inner` is what `test` is after the first `n` octets, and `k` octets after these are the longest prefix that passes `inner`, then `n + k` octets are the
+-- longest that passes `test`
 pub longest_after : (test inner : List ℕ → Bool) (text : List ℕ) (n k : ℕ) → n ≤ length text
     → ((j : ℕ) → test (take (n + j) text) ≡ inner (take j (drop n text)))
     → IsLongestPassing inner (drop n text) k → IsLongestPassing test text (n + k)
@@ -85,7 +87,7 @@ pub begins-take : (test : ℕ → Bool) (k : ℕ) (s : List ℕ) → begins test
 begins-take test (suc k) (c ∷ cs) h = h
 begins-take test _ _ h = refl
 
--- nothing begins after the end of the text
+-- if `n` is at or past the end of the text, then no octet that passes a test is at `n`
 pub begins_past : (test : ℕ → Bool) (text : List ℕ) (n : ℕ) → length text ≤ n → begins test (drop n text) ≡ false
 begins_past test text n past = ap (begins test) (drop_all n text past)
 
@@ -162,7 +164,7 @@ remark_step text n here plain alone =
     scan_step is_remark_rest text n here
     (λ k. rw (ne_eqb (get_or text n 0) 10 plain, hyphen_alone is_hyphen (get_or text n 0) k (drop (n + 1) text) alone) refl)
 
--- after the end of a remark, only a closing run may follow
+-- if `s` begins where a remark ends, then a prefix of `s` is the rest of a remark if and only if it consists of hyphens
 pub closing_run : (k : ℕ) (s : List ℕ) → IsRemarkEnd s → is_remark_rest (take k s) ≡ list_all is_hyphen (take k s)
 closing_run zero s h = refl
 closing_run (suc zero) s h = grind (arith, common_steps)
@@ -170,7 +172,7 @@ closing_run (suc (suc k)) s h = grind (arith, common_steps)
 
 -- ---- comments
 
--- after the opening run, the remark begins
+-- if `s` doesn't begin with a hyphen, then a prefix of `s` is the rest of a comment if and only if it is the rest of a remark
 pub remark_begins : (k : ℕ) (s : List ℕ) → begins is_hyphen s ≡ false → is_comment_rest (take k s) ≡ is_remark_rest (take k s)
 remark_begins (suc k) (c ∷ cs) h = ap (λ b. cond b (is_comment_rest (take k cs)) (is_remark_rest (c ∷ take k cs))) h
 remark_begins _ _ h = refl

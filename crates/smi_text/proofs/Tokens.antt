@@ -1,4 +1,4 @@
--- What marks say of the items of a text, and of its tokens.
+-- If a text has no fault, then marks, which describe tokens, match its items if they match its tokens. Marks that match items match their tokens.
 use Rattle.std.proofs.Common.{◌≡◌, List, [], ◌∷◌, ◌++◌, Some, None, Ok, Err, refl, ap}
 use Rattle.std.specs.Prelude.{map}
 use Rattle.smi_text.specs.lexer.Token.{Lexeme, Item, tokens_of, first_fault}
@@ -19,7 +19,7 @@ pub tokens-read : (ms : List Module) (ts : List Lexeme) → TokensMatch (spellin
 unfolding begins
 tokens-read ms ts h = file-law.again ms (all_tokens ts) [] (taken-tokens (spelling ms) ts [] h) refl
 
--- the items of a text that lexes to its end are its tokens
+-- if `items` contain no fault, then they are the items of their tokens
 pub all-whole : (items : List Item) → first_fault items ≡ None → items ≡ all_tokens (tokens_of items)
 all-whole [] w = refl
 all-whole (Ok t ∷ items) w = ap (λ (us : List Item). Ok t ∷ us) (all-whole items w)

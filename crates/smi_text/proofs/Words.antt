@@ -1,4 +1,4 @@
--- Whether a text is one of some words.
+-- A text is one of some words if it is the first of them or one of the others.
 use Rattle.std.proofs.Common.{◌≡◌, ℕ, ◌+◌, ◌<◌, ◌≤◌, Bool, true, false, ◌||◌, List, [], ◌∷◌, length, get_or, drop, refl, drop-cons, add-one, Bor}
 use Rattle.std.proofs.Common.{arith}
 use Rattle.std.proofs.{lemmas.Grind.common_steps, lemmas.Slice.Eq.bytes_eq-Decides, lemmas.List.drop_all}

@@ -11,7 +11,7 @@ use Rattle.smi_text.specs.declared.lexer.token.LexError.{LexError}
 use Rattle.smi_text.specs.declared.error.ParseError.TheVariants as E
 use Rattle.smi_text.specs.trees.Spelling.{spelling, of_head, of_def}
 
--- the text lexes to its end, and its tokens are the spelling of the modules
+-- the lexer reads the text to its end, and the tokens are the spelling of the modules `ms`
 pub record AreSpelledBy (ms : List Module) (text : List ℕ) : Type 0 where
   pub items : List Item
   pub lexed : Lexes [] text items
@@ -22,7 +22,7 @@ pub record AreSpelledBy (ms : List Module) (text : List ℕ) : Type 0 where
 abbrev pub HasNoDoubles : List Module → Type 0
 HasNoDoubles ms = list_all (λ m. are_distinct (labels m.defs)) ms ≡ true
 
--- the text breaks off with the fault
+-- the lexer stops before the end of the text, with this fault
 pub record BreaksOff (fault : LexError) (text : List ℕ) : Type 0 where
   pub items : List Item
   pub lexed : Lexes [] text items
@@ -39,8 +39,8 @@ pub record HasSecond (line : ℕ) (tokens : List Lexeme) : Type 0 where
   pub defined : list_any (same_text second.label.octets) (labels before) ≡ true
   pub on_line : second.line ≡ line
 
--- the tokens begin with modules that define no name twice; the module after them defines a name a
--- second time, on line `line`
+-- the tokens begin with modules that don't define a name twice; the module after them defines a
+-- name a second time, on line `line`
 pub record DefinesAgain (line : ℕ) (tokens : List Lexeme) : Type 0 where
   pub modules : List Module
   pub once : HasNoDoubles modules
@@ -51,12 +51,13 @@ pub record DefinesAgain (line : ℕ) (tokens : List Lexeme) : Type 0 where
   pub matched : TokensMatch (spelling modules ++ of_head name heading imports) tokens body
   pub twice : HasSecond line body
 
+-- a module of the text defines a name a second time, on line `line`, and none before it does
 pub record HasDouble (line : ℕ) (text : List ℕ) : Type 0 where
   pub items : List Item
   pub lexed : Lexes [] text items
   pub again : DefinesAgain line (tokens_of items)
 
--- the text has the cause of the error; if memory runs out, the text isn't the cause
+-- the text has the fault that the error reports; nothing is said of it if memory ran out
 abbrev pub IsCause : ParseError → List ℕ → Type 0
 IsCause (E.Lex fault) text = BreaksOff fault text
 IsCause (E.Syntax line) text = (ms : List Module) → AreSpelledBy ms text → ⊥

@@ -1,4 +1,5 @@
-//! Clauses that several definitions have, and raw runs of tokens (RFC 2578, sections 7 and 8).
+//! Clauses that several definitions have, and tokens that are stored as they are (RFC 2578,
+//! sections 7 and 8).
 #![tactic(auto, unfolding(crate::proofs::Productions::of_clauses))]
 
 ghost use Rattle.std.specs.Prelude.{◌≡◌, ◌+◌, ◌<◌, ◌^◌, List, [], ◌∷◌, codes};
@@ -106,7 +107,7 @@ fn is_outside(kind: TokenKind, depth: usize) -> bool
 }
 
 impl<'a> Parser<'a> {
-    /// Reads STATUS, DESCRIPTION and REFERENCE.
+    /// Reads STATUS and DESCRIPTION, and REFERENCE if it is ahead.
     pub(crate) fn status(&mut self) -> Result<Status, Stop>
         ensures { ReturnsReading result self.new (grammar.status.read self.old) }
     {
@@ -247,8 +248,8 @@ impl<'a> Parser<'a> {
         }
     }
 
-    /// Reads tokens up to the brace that closes the one before them. Each brace that opens among
-    /// them is closed among them.
+    /// Reads tokens up to a `}` whose `{` isn't among them, or to the end of the text or a fault.
+    /// Fails there if a `{` among the tokens isn't closed.
     fn balanced_tokens(&mut self) -> Result<Items<TokenText>, Stop>
         ensures { ReturnsReading result self.new (grammar.balanced_tokens.read self.old) }
     {

@@ -206,7 +206,7 @@ impl<'a> Parser<'a> {
         Ok(fields)
     }
 
-    /// Reads what follows a name and `::=`.
+    /// Reads what follows a name and `::=`: a textual convention or a type.
     fn read_assigned(&mut self) -> Result<DefKind, Stop>
         ensures { ReturnsReading result self.new (grammar.assigned.read self.old) }
     {
@@ -290,7 +290,7 @@ impl<'a> Parser<'a> {
         }
     }
 
-    /// Returns whether a definition is ahead.
+    /// Returns whether the token ahead begins a definition.
     pub(crate) fn at_definition(&self) -> bool
         ensures { result ≡ begins grammar.definition.first self.now }
     {

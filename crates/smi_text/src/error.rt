@@ -6,7 +6,7 @@ use thiserror::Error;
 /// Why a text is refused as a whole. Lines count from 1.
 #[derive(Clone, Copy, Debug, PartialEq, Eq, Error)]
 pub enum ParseError {
-    /// The text has octets that are not a token.
+    /// The lexer can't read the text to its end, for the reason in its error.
     #[error(transparent)]
     Lex(LexError),
     /// No module text can continue with the token on line `line`, or the text ends too early, on
@@ -26,7 +26,7 @@ pub enum ParseError {
 pub(crate) enum Stop {
     /// The text can't continue with the next token, or can't end here, on line `line`.
     Syntax { line: usize },
-    /// The text breaks off in the lexer, with this fault.
+    /// The lexer returned this fault, and not another token.
     Lex(LexError),
     /// An allocation was refused.
     Memory,

@@ -25,7 +25,8 @@ use std::alloc::Global;
 use std::collections::BTreeSet;
 
 impl<'a> Parser<'a> {
-    /// Returns the name of the definition that is ahead, if one is.
+    /// Returns the text of the token ahead if it begins a definition; this is the definition's
+    /// name.
     fn label(&self) -> Option<&'a [u8]>
         ensures { IsLabelAhead result self.now }
     {
@@ -35,7 +36,7 @@ impl<'a> Parser<'a> {
         }
     }
 
-    /// Reads the definitions of a module. Fails at the second definition of a name.
+    /// Reads the definitions of a module. Fails if one of them defines a name a second time.
     fn definitions(&mut self) -> Result<Items<Def>, ParseError>
         ensures ok { IfOk result (λ defs. ReadsDefinitions defs self.old self.new) }
         ensures fault { IfErr result (λ error. DefinitionsFault error self.old) }
@@ -50,7 +51,8 @@ impl<'a> Parser<'a> {
 
     /// Reads the definition of `label`, appends it to `defs`, and adds `label` to `names`. Fails
     /// if `label` is among the names already.
-    // A definition is large: it is moved only from where it is read to the list.
+    // A definition is large: this function puts it into the list, since to return it would move it
+    // again.
     fn new_definition(
         &mut self,
         label: &'a [u8],
@@ -105,7 +107,7 @@ impl<'a> Parser<'a> {
     }
 }
 
-/// Returns the fault at which `text` breaks off, if it does.
+/// Returns the first fault of the lexer in `text`, if it has one.
 fn first_fault(text: &[u8]) -> Option<LexError>
     ensures { IfSome result (λ fault. BreaksOff fault text.now) }
 {
@@ -117,35 +119,36 @@ fn first_fault(text: &[u8]) -> Option<LexError>
     None
 }
 
-/// Returns the error to report if the reading of `text` stopped with `stop`. For an error of the
-/// lexer this is the first such error in the whole text, otherwise `stop` itself.
+/// Returns the error to report if the parser stopped with `stop`. For a fault of the lexer this is
+/// the first such fault in the whole text, otherwise `stop` itself.
 fn cause_of(stop: ParseError, text: &[u8]) -> ParseError
     ensures { IsCauseOf stop result text.now }
 {
     match stop {
         ParseError::Lex(_) => match first_fault(text) {
             Some(fault) => ParseError::Lex(fault),
-            // A text that lexes to its end has no such stop.
+            // Not reached: the parser stops with a fault of the lexer only if the text has one.
             None => ParseError::Syntax { line: 1 },
         },
         _ => stop,
     }
 }
 
-/// Reads the modules of `text` (RFC 2578, section 3). Returns an empty list for a text without a
-/// module.
+/// Reads the modules of `text` (RFC 2578, section 3). Returns an empty list for a text that has
+/// nothing but blanks and comments.
 ///
-/// A fault anywhere refuses the whole text. The first fault in the text is reported.
+/// A fault anywhere refuses the whole text. The first fault in the text is reported. If a name is
+/// defined a second time, this counts as a fault at the end of its second definition.
 pub fn parse_modules(alloc: Global, text: &[u8]) -> Result<Vec<Module>, ParseError>
-    // The text is a spelling of the modules returned, none of which defines a name twice.
+    // The text is a spelling of the modules returned, and none of them defines a name twice.
     ensures found { IfOk result (λ ms. AreSpelledBy ms.items text.now × HasNoDoubles ms.items) }
-    // A text of such modules is read, unless memory runs out.
+    // A text that spells such modules is read as these modules, unless memory runs out.
     ensures only { (ms : List Tree) → AreSpelledBy ms text.now → HasNoDoubles ms
         → MatchResult result (λ found. found.items ≡ ms) (λ error. error ≡ ParseError.Memory) }
 
-    // Each error is returned only for its cause: the lexer's fault if the text breaks off,
-    // `Syntax` if it spells no modules, and `DoubleName` with the line of the first definition of
-    // a name that its module has already defined.
+    // Each error is returned only for its cause: the lexer's fault if the lexer stops before the
+    // end, `Syntax` if the text isn't a spelling of modules, and `DoubleName` with the line of the
+    // first definition of a name that its module has already defined.
     ensures cause { IfErr result (λ error. IsCause error text.now) }
 {
     let mut parser = Parser::new(alloc, text);
@@ -163,8 +166,8 @@ pub fn one_module_list()
         → TokensMatch (spelling ns) tokens [] → ms ≡ ns }
 {}
 
-/// Kinds and texts of tokens are the spelling of at most one list of modules, apart from its
-/// lines.
+/// If tokens match the spellings of two lists of modules, apart from lines, then the two lists are
+/// the same, apart from lines.
 ///
 /// A law: the call does nothing, and its caller may use what it ensures.
 #[tactic(auto, using(crate::proofs::Lines::same_but_lines))]
@@ -175,8 +178,8 @@ pub fn one_module_list_without_lines()
         map without_lines ms ≡ map without_lines ns }
 {}
 
-/// Tokens between braces have a spelling if and only if each brace that opens among them is
-/// followed by the one that closes it, and no other brace closes among them.
+/// Counting braces finds exactly the balanced tokens: each brace that opens among them is followed
+/// by the one that closes it, and no other brace closes among them.
 ///
 /// A law: the call does nothing, and its caller may use what it ensures.
 #[tactic(auto, using(crate::proofs::Braces::counted, crate::proofs::Braces::balanced_counted, crate::proofs::Braces::prefixes_counted))]

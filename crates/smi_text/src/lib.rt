@@ -1,7 +1,7 @@
 //! SMIv2 module texts (RFC 2578, RFC 2579, RFC 2580): their tokens, the module trees that they
 //! spell, and the parser from tokens to trees.
 //!
-//! The lowest layer of module files: the crates of names and values read the trees.
+//! The lowest of the crates for module files: the crates of names and values read the trees.
 //!
 //! # Examples
 //!

@@ -44,7 +44,7 @@ impl Production for Symbol {
     }
 }
 
-/// The symbols of one FROM clause.
+/// A FROM clause: its symbols, FROM and the name of a module.
 pub(crate) struct OneImport;
 
 impl Production for OneImport {
@@ -63,7 +63,7 @@ impl Production for OneImport {
 }
 
 impl<'a> Parser<'a> {
-    /// Returns whether a symbol is ahead.
+    /// Returns whether a symbol that can be imported is ahead.
     #[tactic(auto, unfolding(crate::proofs::Productions::all))]
     fn at_symbol(&self) -> bool
         ensures { result ≡ begins grammar.imported_symbol.first self.now }
@@ -71,7 +71,7 @@ impl<'a> Parser<'a> {
         self.at_definition()
     }
 
-    /// Reads a symbol that is imported: a name, or that of a macro.
+    /// Reads a symbol that is imported: a name, or the name of a macro.
     fn symbol(&mut self) -> Result<TokenText, Stop>
         ensures { ReturnsReading result self.new (grammar.imported_symbol.read self.old) }
     {
@@ -83,7 +83,7 @@ impl<'a> Parser<'a> {
         }
     }
 
-    /// Reads the symbols of one FROM clause.
+    /// Reads a FROM clause: its symbols, FROM and the name of a module.
     fn import_clause(&mut self) -> Result<Import, Stop>
         ensures { ReturnsReading result self.new (grammar.import_clause.read self.old) }
     {
@@ -99,7 +99,7 @@ impl<'a> Parser<'a> {
         })
     }
 
-    /// Reads IMPORTS, with all that is imported.
+    /// Reads IMPORTS, its FROM clauses and the semicolon after them.
     fn imports(&mut self) -> Result<Items<Import>, Stop>
         ensures { ReturnsReading result self.new (grammar.imports.read self.old) }
     {
@@ -120,7 +120,7 @@ impl<'a> Parser<'a> {
         }
     }
 
-    /// Reads the identifier after a module's name.
+    /// Reads the identifier in braces after a module's name.
     fn heading(&mut self) -> Result<Items<Part>, Stop>
         ensures { ReturnsReading result self.new (grammar.heading.read self.old) }
     {
@@ -141,7 +141,7 @@ impl<'a> Parser<'a> {
         }
     }
 
-    /// Reads what opens the body of a module.
+    /// Reads DEFINITIONS, `::=` and BEGIN.
     fn opening(&mut self) -> Result<(), Stop>
         ensures { ReturnsReading result self.new (grammar.opening.read self.old) }
     {

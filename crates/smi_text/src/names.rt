@@ -6,8 +6,9 @@ ghost use Rattle.smi_text.specs.{trees.Mark.same_text, private.Names.has, privat
 use crate::error::Stop;
 use std::collections::BTreeSet;
 
-/// The last eight octets of a name as one number, and the name. Most names of a module begin alike
-/// and end differently, so the numbers tell them apart without a look at the other octets.
+/// The last eight octets of a name as one number, 0 if it is shorter, and the name. Most names of
+/// a module begin alike and end differently, so the numbers tell most of them apart without a look
+/// at the other octets.
 pub(crate) type Key<'a> = (u64, &'a [u8]);
 
 /// Returns the last eight octets of `name` as one number, or 0 if it is shorter.

@@ -1,4 +1,4 @@
-//! The tokens that are left of a text, and the steps by which every production is read.
+//! The parser: the tokens that are left of a text, and the steps that all productions share.
 #![tactic(auto, unfolding(crate::proofs::Productions::of_parser))]
 
 ghost use Rattle.std.specs.Prelude.{◌≡◌, ℕ, true, false, MatchBool, List, [], ◌∷◌, codes, map};
@@ -29,7 +29,7 @@ pub(crate) struct Parser<'a> {
     alloc: Global,
     /// The tokens after the next one.
     lexer: Lexer<'a>,
-    /// The next token, or the fault at which the text breaks off.
+    /// The next token, or the fault of the lexer; `None` at the end of the text.
     ahead: Option<Result<Token<'a>, LexError>>,
     /// The whole text.
     text: &'a [u8],
@@ -48,16 +48,16 @@ impl<'a> Model for Parser<'a> {
 
 /// A production that can occur several times in a row.
 pub(crate) trait Production {
-    /// The part of the tree that it reads.
+    /// The part of the tree that the production yields.
     type Output;
 
     ghost format: { Format Self.Output };
 
-    /// Returns whether one begins with the token ahead.
+    /// Returns whether the production begins with the token ahead.
     fn is_ahead(parser: &Parser<'_>) -> bool
         ensures { result ≡ begins format.first parser.now };
 
-    /// Reads one, which has at least one token.
+    /// Reads the production once, from at least one token.
     fn read(parser: &mut Parser<'_>) -> Result<Self::Output, Stop>
         ensures gives { ReturnsReading result parser.new (format.read parser.old) }
         ensures shorter { OnOk result (length parser.new < length parser.old) };
@@ -137,7 +137,8 @@ impl<'a> Parser<'a> {
         Vec::new(self.alloc)
     }
 
-    /// Returns the token ahead. Returns `None` at the end of the text and at a fault.
+    /// Returns the token ahead, which is the next to be read. Returns `None` at the end of the
+    /// text and at a fault.
     pub(crate) fn peek(&self) -> Option<Token<'a>>
         ensures none { IfNone result (token_ahead self.now ≡ None) }
         ensures some { IfSome result (λ t. self.now ≡ Ok (lexeme_of t) ∷ drop 1 self.now) }
@@ -155,7 +156,7 @@ impl<'a> Parser<'a> {
         self.ahead.is_none()
     }
 
-    /// Moves past the token ahead.
+    /// Moves past the token or the fault ahead. Does nothing at the end of the text.
     pub(crate) fn advance(&mut self)
         ensures { self.new ≡ drop 1 self.old }
     {
@@ -197,7 +198,9 @@ impl<'a> Parser<'a> {
         self.at_kind(first) || self.at_kind(second)
     }
 
-    /// Returns the stop of a text that can't continue with what is ahead.
+    /// Returns the reason to stop if the text can't continue with what is ahead: the fault if one
+    /// is ahead, otherwise `Syntax`, on the line of the token ahead or, at the end of the text, of
+    /// the last octet.
     #[cold]
     #[inline(never)]
     pub(crate) fn syntax(&self) -> Stop

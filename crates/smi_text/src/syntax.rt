@@ -51,7 +51,7 @@ impl Production for LaterPart {
     }
 }
 
-/// A name with a number of any sign.
+/// A name with a number in parentheses, which may be negative.
 pub(crate) struct OneNamedNumber;
 
 impl Production for OneNamedNumber {
@@ -179,7 +179,7 @@ impl<'a> Parser<'a> {
         Ok(parts)
     }
 
-    /// Reads what a definition ends with: `::=` and its identifier value.
+    /// Reads `::=` and the identifier value after it.
     pub(crate) fn value(&mut self) -> Result<Items<Part>, Stop>
         ensures { ReturnsReading result self.new (grammar.value.read self.old) }
     {
@@ -187,7 +187,7 @@ impl<'a> Parser<'a> {
         self.identifier()
     }
 
-    /// Reads a number of any sign, -9223372036854775808 to 18446744073709551615.
+    /// Reads a number outside identifiers, -9223372036854775808 to 18446744073709551615.
     pub(crate) fn number(&mut self) -> Result<Text, Stop>
         ensures { ReturnsReading result self.new
             ((format.text_where TokenKind.Number is_number).read
@@ -201,7 +201,7 @@ impl<'a> Parser<'a> {
         }
     }
 
-    /// Reads a name with a number of any sign in parentheses.
+    /// Reads a name with a number in parentheses, which may be negative.
     fn named_number(&mut self) -> Result<NamedNumber, Stop>
         ensures { ReturnsReading result self.new (grammar.named_number.read self.old) }
     {
@@ -212,7 +212,7 @@ impl<'a> Parser<'a> {
         Ok(NamedNumber { name, number })
     }
 
-    /// Returns whether an end of a range is ahead.
+    /// Returns whether a number or a literal is ahead: only these can be an end of a range.
     #[tactic(auto, using(crate::proofs::Marks::begins_cons))]
     fn at_bound(&self) -> bool
         ensures { result ≡ begins (a_kind TokenKind.Number ∷ a_kind TokenKind.Hex ∷ a_kind

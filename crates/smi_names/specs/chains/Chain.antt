@@ -1,15 +1,17 @@
--- Chains: each thing has its own numbers, or has them after those of another thing, or has none. In
--- a module text the things are names, and the chains are those of parents and of imports (RFC 2578,
--- sections 3.2 and 7.10).
+-- Chains: the identifier of a thing is its own numbers, or the identifier of another thing
+-- followed by its own numbers, or the thing has none. In a module text the things are names: a
+-- defined name can refer to its parent, and an imported name refers to the same name in the module
+-- after FROM (RFC 2578, sections 3.2 and 7.10).
 use Rattle.std.specs.Prelude.{◌≡◌, ℕ, List, ◌++◌, Option, Some, None}
 
--- the origin of a thing's numbers: only the thing, another thing and then itself, or nowhere
+-- the origin of a thing's identifier. `numbers ns`: the identifier is `ns`. `after b ns`: it is
+-- the identifier of `b` followed by `ns`. `nowhere`: the thing has no identifier.
 pub data Origin (A : Type 0) : Type 0 where
   numbers : List ℕ → Origin A
   after : A → List ℕ → Origin A
   nowhere : Origin A
 
--- the thing that an origin refers to
+-- the thing that an origin refers to, if it refers to one
 abbrev pub next_of : {A : Type 0} → Origin A → Option A
 next_of (numbers ns) = None
 next_of (after b ns) = Some b
@@ -26,7 +28,7 @@ pub data HasIdentifier {A : Type 0} (origin : A → Origin A) : A → List ℕ �
   after_another : {a b : A} {ns o : List ℕ}
       → origin a ≡ after b ns → HasIdentifier origin b o → HasIdentifier origin a (o ++ ns)
 
--- the chain of `a` ends at a thing without numbers
+-- the chain of `a` ends at a thing whose origin is `nowhere`
 pub data EndsNowhere {A : Type 0} (origin : A → Origin A) : A → Type 0 where
   here : {a : A} → origin a ≡ nowhere → EndsNowhere origin a
   further : {a b : A} {ns : List ℕ}

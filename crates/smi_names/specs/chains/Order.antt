@@ -1,4 +1,4 @@
--- Indices in an order in which each comes after the one that it refers to.
+-- Orders of indices: each index comes after the index that it refers to.
 use Rattle.std.specs.Prelude.{◌≡◌, ℕ, ◌<◌, List, length, take, slice_index, slice_index_or}
 use Rattle.std.specs.Prelude.{Contains, Option, Some, None}
 
@@ -6,11 +6,11 @@ use Rattle.std.specs.Prelude.{Contains, Option, Some, None}
 abbrev pub next_at : List (Option ℕ) → ℕ → Option ℕ
 next_at next p = slice_index_or next p None
 
--- what a list has at an index
+-- what a list has at an index; `None` past its end
 abbrev pub option_at : {X : Type 0} → List (Option X) → ℕ → Option X
 option_at xs p = slice_index_or xs p None
 
--- each index of the order comes after the one that it refers to, if that is an index
+-- each index of `order` comes after the index that it refers to, if that isn't past the end
 abbrev pub ComeAfterNext : List (Option ℕ) → List ℕ → Type 0
 ComeAfterNext next order =
     (i q : ℕ) → i < length order → next_at next (slice_index order i) ≡ Some q → q < length next

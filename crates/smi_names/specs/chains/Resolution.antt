@@ -1,4 +1,4 @@
--- What names resolve to, and lists that store each resolution once.
+-- What names resolve to (identifiers, or reasons for having none), and lists of these resolutions.
 use Rattle.std.specs.Prelude.{◌≡◌, ℕ, ◌+◌, ◌<◌, ◌≤◌, nat_le, List, [], ◌∷◌, ◌++◌, length, map, All}
 use Rattle.std.specs.Prelude.{slice_index_or, if◌then◌else◌, Option, Some, None}
 use Rattle.smi_names.specs.chains.Chain.{Origin, numbers, after, nowhere, next_of, HasEnd}
@@ -6,8 +6,9 @@ use Rattle.smi_names.specs.chains.Chain.{HasIdentifier, EndsNowhere}
 use Rattle.smi_names.specs.declared.chains.shared.Resolution.{Resolution}
 use Rattle.smi_names.specs.declared.chains.shared.Resolution.TheVariants as R
 
--- `a` resolves to this: its identifier, of at most 128 numbers (RFC 2578, section 3.5), or one of
--- three reasons for none
+-- `ComesTo origin a r`: `a` resolves to `r`. That is its identifier, of at most 128 numbers (RFC
+-- 2578, section 3.5), or the reason why it has no such identifier: its chain has no end, its chain
+-- ends at a thing without an identifier, or its identifier is longer.
 abbrev pub ComesTo : {A : Type 0} → (A → Origin A) → A → Resolution → Type 0
 ComesTo origin a (R.Numbers o) = HasIdentifier origin a o × (length o ≤ 128)
 ComesTo origin a R.Cycle = HasEnd (λ b. next_of (origin b)) a → ⊥
@@ -22,13 +23,13 @@ resolution_at rs p = slice_index_or rs p R.Unresolved
 abbrev pub resolutions_at : List Resolution → List ℕ → List Resolution
 resolutions_at list indices = map (λ k. resolution_at list k) indices
 
--- each index has a resolution in the list
+-- each of `indices` is below the length of `list`
 abbrev pub AreWithin : List Resolution → List ℕ → Type 0
 AreWithin list indices = All (λ k. k < length list) indices
 
 -- ---- for private functions
 
--- an identifier with numbers after it, `TooLong` if there are more than 128 together
+-- identifier `o` followed by the numbers `ns`; `TooLong` if there are more than 128 together
 abbrev pub extend_identifier : List ℕ → List ℕ → Resolution
 extend_identifier o ns =
     if nat_le (length o + length ns) 128 then R.Numbers (o ++ ns) else R.TooLong
@@ -37,18 +38,18 @@ abbrev pub extend_resolution_by : Resolution → List ℕ → Resolution
 extend_resolution_by (R.Numbers o) ns = extend_identifier o ns
 extend_resolution_by r ns = r
 
--- what the name referred to resolves to, `Unresolved` if there is none
+-- the resolution at an index of `rs`; `Unresolved` for `None`, or past the end
 abbrev pub far_at : List Resolution → Option ℕ → Resolution
 far_at rs None = R.Unresolved
 far_at rs (Some q) = resolution_at rs q
 
--- what a name resolves to, by the origin of its numbers and what the name referred to resolves to
+-- what a name with this origin resolves to, if the name that it refers to resolves to `far`
 abbrev pub resolution_by : {A : Type 0} → Origin A → Resolution → Resolution
 resolution_by (numbers ns) far = extend_identifier [] ns
 resolution_by (after b ns) far = extend_resolution_by far ns
 resolution_by nowhere far = R.Unresolved
 
--- the list begins with the three reasons for having no identifier
+-- `list` begins with the three reasons for having no identifier
 abbrev pub HasReasons : List Resolution → Type 0
 HasReasons list =
     (more : List Resolution) × (list ≡ (R.Unresolved ∷ R.Cycle ∷ R.TooLong ∷ []) ++ more)

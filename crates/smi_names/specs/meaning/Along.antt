@@ -1,5 +1,5 @@
 -- What names mean along chains: an import refers to the same name in the module after FROM, and a
--- definition can refer to a name of its own module (RFC 2578, sections 3.1 and 3.2).
+-- definition can refer to a name in its own module (RFC 2578, sections 3.1 and 3.2).
 use Rattle.std.specs.Prelude.{◌≡◌, ◌⊎◌, ℕ, List, length, MatchOption, Option, Some, None}
 use Rattle.std.specs.Prelude.{option_map}
 use Rattle.std.specs.{List.slice_get, Option.option_and_then}
@@ -10,7 +10,8 @@ use Rattle.smi_names.specs.meaning.Meaning.{QualifiedName, Decision, defined, im
 use Rattle.smi_names.specs.meaning.Meaning.{decision, module_named}
 use Rattle.smi_names.specs.meaning.Scopes.{KnownNames, content_named}
 
--- the name that a name refers to, by what decides it; `refers_to` says it of definitions
+-- the name that the name `a` refers to, if any, by what decides its meaning; a definition refers
+-- to the name in its own module that `refers_to` returns
 abbrev pub next_by : (Def → Option (List ℕ)) → QualifiedName → Option Decision
     → Option QualifiedName
 next_by refers_to a None = None
@@ -19,7 +20,7 @@ next_by refers_to a (Some (defined d)) =
 next_by refers_to a (Some (imported i)) = Some (record { home = i.source.octets; name = a.name })
 next_by refers_to a (Some (root n)) = None
 
--- what decides a name, if it has a meaning
+-- what decides the meaning of the name `a`, if it has one
 abbrev pub decided : List Module → QualifiedName → Option Decision
 decided ms a = option_and_then (λ m. decision m a.name) (module_named ms a.home)
 
@@ -34,8 +35,9 @@ pub record IsOwn (ms : List Module) (a : QualifiedName) (i k : ℕ) (d : Def) : 
   pub at_module : slice_get ms i ≡ Some home
   pub there : slice_get home.defs k ≡ Some d
 
--- a name means this: the least relation with these five rules. `means` says it of definitions, by
--- what the name means that they refer to.
+-- `Comes ms refers_to means a x`: the name `a` means `x`. This is the least relation with these
+-- five rules. `means` returns what a definition means, from the meaning of the name that the
+-- definition refers to.
 pub data Comes {X : Type 0} (ms : List Module) (refers_to : Def → Option (List ℕ))
     (means : ℕ × ℕ → Def → Option X → Option X) : QualifiedName → Option X → Type 0 where
   -- a name that nothing decides, or of a module that isn't loaded, means nothing
@@ -48,16 +50,18 @@ pub data Comes {X : Type 0} (ms : List Module) (refers_to : Def → Option (List
       → module_named ms a.home ≡ Some m → decision m a.name ≡ Some (imported i)
       → Comes ms refers_to means (record { home = i.source.octets; name = a.name }) x
       → Comes ms refers_to means a x
-  -- a definition that refers to no name
+  -- if the definition of a name refers to no name, the name means what `means` returns for the
+  -- definition and `None`
   at_end : {a : QualifiedName} {i k : ℕ} {d : Def} {x : Option X} → IsOwn ms a i k d
       → refers_to d ≡ None → x ≡ means (i, k) d None → Comes ms refers_to means a x
-  -- a definition that refers to a name of its own module, which may be imported there
+  -- if the definition of a name refers to the name `y` in its own module, which may be imported
+  -- there, the name means what `means` returns for the definition and the meaning of `y`
   after : {a : QualifiedName} {i k : ℕ} {d : Def} {y : List ℕ} {far x : Option X}
       → IsOwn ms a i k d → refers_to d ≡ Some y
       → Comes ms refers_to means (record { home = a.home; name = y }) far
       → x ≡ means (i, k) d far → Comes ms refers_to means a x
 
--- a name means this; nothing if its chain has no end, as in a ring
+-- the name `a` means `x`; if its chain has no end, as in a ring of imports, `x` is `None`
 abbrev pub IsMeant : {X : Type 0} → List Module → (Def → Option (List ℕ))
     → (ℕ × ℕ → Def → Option X → Option X) → QualifiedName → Option X → Type 0
 IsMeant ms refers_to means a x =
@@ -70,7 +74,8 @@ AreMeant k refers_to means found =
     (p : ℕ) (a : QualifiedName) → slice_get k.names p ≡ content_named k.modules a
     → IsMeant k.modules refers_to means a (option_at found p)
 
--- with the index of a definition as its meaning, it refers to no name
+-- no definition refers to a name: the references for `source_as_meaning`, which returns the
+-- indices of a definition's module and of the definition in it
 abbrev pub refers_to_nothing : Def → Option (List ℕ)
 refers_to_nothing d = None
 
@@ -79,7 +84,8 @@ source_as_meaning at d far = Some at
 
 -- ---- for private functions
 
--- each name at index `p` (past the end: each without a meaning) refers to one at `to`, or to none
+-- The name at index `p` refers to the name at index `to`, or to no name if `to` is `None`. An
+-- index past the end represents every name without a meaning.
 abbrev pub IsNext : KnownNames → (Def → Option (List ℕ)) → ℕ → Option ℕ → Type 0
 IsNext k refers_to p to =
     (a : QualifiedName) → slice_get k.names p ≡ content_named k.modules a
@@ -87,13 +93,13 @@ IsNext k refers_to p to =
     (λ q. (b : QualifiedName) × (next_name k.modules refers_to a ≡ Some b)
     × (slice_get k.names q ≡ content_named k.modules b))
 
--- `next` has for each name the index that it refers to
+-- `next` has for each name the index of the name that it refers to, if it refers to one
 pub record AreNext (k : KnownNames) (refers_to : Def → Option (List ℕ))
     (next : List (Option ℕ)) : Type 0 where
   pub long : length next ≡ length k.names
   pub each : (p : ℕ) → IsNext k refers_to p (next_at next p)
 
--- each name at index `p` means `x`
+-- the name at index `p` means `x`; if `p` is past the end, each name without a meaning means `x`
 abbrev pub MeansAt : {X : Type 0} → KnownNames → (Def → Option (List ℕ))
     → (ℕ × ℕ → Def → Option X → Option X) → ℕ → Option X → Type 0
 MeansAt k refers_to means p x =

@@ -4,7 +4,8 @@ use Rattle.smi_text.specs.trees.Mark.{same_text}
 use Rattle.smi_names.specs.declared.meaning.base.TypeBase.{TypeBase}
 use Rattle.smi_names.specs.declared.meaning.base.TypeBase.TheVariants as T
 
--- the base type of this name, whatever a module defines (RFC 2578, section 7.1)
+-- the base type of this name, even if a module defines the name too (RFC 2578, section 7.1);
+-- `None` for any other text, and for words of the grammar such as INTEGER, which aren't names
 unfoldable pub base_named : List ℕ → Option TypeBase
 base_named x =
     if same_text x (codes "Integer32") then Some T.Integer else

@@ -12,8 +12,8 @@ use Rattle.smi_names.specs.declared.meaning.entry.Entry.{Entry}
 use Rattle.smi_names.specs.declared.meaning.directory.Directory.{Directory}
 use Rattle.smi_names.specs.declared.meaning.directory.Found.{Found}
 
--- the index of a name in the module at `at`; the number of entries if there is no such module, or
--- the name has no meaning
+-- the index of the entry of the name `x` in the module at index `at`; the number of entries if no
+-- such module exists, or `x` has no meaning in it
 abbrev pub index_at : Directory → Option ℕ → List ℕ → ℕ
 index_at d at x =
     unwrap_or (option_and_then (λ i. option_and_then (λ scope. index_in scope x)
@@ -22,31 +22,32 @@ index_at d at x =
 abbrev pub index_by : Directory → QualifiedName → ℕ
 index_by d p = index_at d (index_in d.homes p.home) p.name
 
--- the index of the name that the name of an entry refers to, if it refers to one
+-- the index of the entry that entry `e` refers to, if its name refers to a name; the number of
+-- entries if that name has no meaning
 abbrev pub next_index : Directory → (Def → Option (List ℕ)) → Entry → Option ℕ
 next_index d refers_to e = option_map (index_by d)
     (next_by refers_to (qualified (content_of e)) (Some (content_of e).decided))
 
--- the maps of the directory have one key
+-- all maps of the directory have the same hash key
 abbrev pub HaveOneKey : Directory → Type 0
 HaveOneKey d = All (λ scope. hasher_of scope ≡ hasher_of d.homes) d.scopes.items
 
 -- ---- for private functions
 
--- if parents are stored, that of an import is the index of the same name in the module after FROM
+-- a stored parent of an imported name is the index of the same name in the module after FROM
 abbrev pub KeepsImports : Directory → Type 0
 KeepsImports d =
     (p : ℕ) (e : Entry) (i : Import) (to : Option ℕ) → slice_get d.entries.items p ≡ Some e
     → decision_of e.decider ≡ imported i → slice_get d.parents.items p ≡ Some to
     → to ≡ Some (index_by d (record { home = i.source.octets; name = e.name.now }))
 
--- the name that was looked up last, if any, is stored with the indices of its module and its entry
+-- nothing was looked up, or `f` holds a name with the indices of its module and its entry
 abbrev pub IsFound : Directory → Option Found → Type 0
 IsFound d None = ⊤
 IsFound d (Some f) = (f.at ≡ index_in d.homes f.home.now)
     × (f.index ≡ index_by d (record { home = f.home.now; name = f.name.now }))
 
--- the entry is that of the name `x` in the module at index `i`
+-- the entry exists, and belongs to the name `x` in the module at index `i`
 abbrev pub is_entry_of : Option Entry → ℕ → List ℕ → Bool
 is_entry_of None i x = false
 is_entry_of (Some e) i x = (e.source.0 == i) && same_text e.name.now x

@@ -10,7 +10,7 @@ use Rattle.smi_text.specs.declared.trees.tree.Import.{Import}
 use Rattle.smi_text.specs.declared.trees.tree.Part.TheVariants as P
 use Rattle.smi_text.specs.trees.Lookup.{definition_of, import_of, identifier_value_of, part_number}
 
--- a name in a module
+-- a name in the module named `home`
 pub record QualifiedName : Type 0 where
   pub home : List ℕ
   pub name : List ℕ
@@ -20,25 +20,26 @@ abbrev pub root_label : ℕ → List ℕ
 root_label n = if n == 0 then codes "ccitt" else
     (if n == 1 then codes "iso" else codes "joint-iso-ccitt")
 
--- the number of the root of this name
+-- the number of the root of this name, if it is the name of one
 abbrev pub root_arc : List ℕ → Option ℕ
 root_arc x =
     if same_text (root_label 0) x then Some 0 else
     (if same_text (root_label 1) x then Some 1 else
     (if same_text (root_label 2) x then Some 2 else None))
 
--- what decides what a name means in a module
+-- what decides what a name means in a module: a definition, an import, or the list of roots
 pub data Decision : Type 0 where
   defined : Def → Decision
   imported : Import → Decision
   root : ℕ → Decision
 
--- the first of the two that isn't `None`
+-- the first of the two that isn't `None`; `None` if both are
 abbrev pub or_else : {A : Type 0} → Option A → Option A → Option A
 or_else None d = d
 or_else (Some x) d = Some x
 
--- the module's own definition decides, otherwise the first import of the name, otherwise a root
+-- what decides the meaning of the name `x` in module `m`, if anything does: the module's own
+-- definition, otherwise the first import of the name, otherwise the list of roots
 abbrev pub decision : Module → List ℕ → Option Decision
 decision m x =
     or_else (or_else (option_map defined (definition_of m x)) (option_map imported (import_of m x)))
@@ -48,7 +49,7 @@ abbrev pub both : Option ℕ → Option (List ℕ) → Option (List ℕ)
 both (Some n) (Some ns) = Some (n ∷ ns)
 both _ _ = None
 
--- the numbers of parts; a name without a number has none
+-- the numbers of the parts of an identifier value; `None` if a part has none
 abbrev pub arcs : List Part → Option (List ℕ)
 arcs [] = Some []
 arcs (p ∷ ps) = both (part_number p) (arcs ps)
@@ -61,8 +62,10 @@ abbrev pub after_name : QualifiedName → Option (List ℕ) → Origin Qualified
 after_name a None = nowhere
 after_name a (Some ns) = after a ns
 
--- the origin of an identifier value: a name as the first part has its meaning, a number or a name
--- with a number stands for the number, and a name without one as a later part has none
+-- the origin of an identifier value. If the first part is a name without a number, the identifier
+-- is the identifier of that name followed by the numbers of the other parts; otherwise it is the
+-- numbers of all parts. If there are no parts, or one of those numbers is missing, the origin is
+-- `nowhere`.
 abbrev pub origin_of_parts : List ℕ → List Part → Origin QualifiedName
 origin_of_parts home [] = nowhere
 origin_of_parts home (P.Name x ∷ rest) = after_name (record { home = home; name = x.octets })
@@ -74,8 +77,9 @@ abbrev pub origin_of_value : List ℕ → Option (List Part) → Origin Qualifie
 origin_of_value home None = nowhere
 origin_of_value home (Some parts) = origin_of_parts home parts
 
--- a definition has the origin of its value; an import means what its name means in the module after
--- FROM
+-- the origin of the name `a`, by what decides its meaning: a definition has the origin of its
+-- identifier value, an import has the identifier of the same name in the module after FROM, and a
+-- root has its number; if nothing decides it, the origin is `nowhere`
 abbrev pub origin_by : QualifiedName → Option Decision → Origin QualifiedName
 origin_by a None = nowhere
 origin_by a (Some (defined d)) = origin_of_value a.home (identifier_value_of d.kind)
@@ -83,16 +87,16 @@ origin_by a (Some (imported i)) = after
     (record { home = i.source.octets; name = a.name }) []
 origin_by a (Some (root n)) = numbers (n ∷ [])
 
--- the first loaded module of a name
+-- the first of the modules `ms` that is named `x`, if one is
 abbrev pub module_named : List Module → List ℕ → Option Module
 module_named ms x = find (λ m. same_text m.name.octets x) ms
 
--- the origin of a name in its module; if that isn't loaded, no name has a meaning
+-- the origin of the name `a` in its module; `nowhere` if that module isn't loaded
 abbrev pub origin_in : QualifiedName → Option Module → Origin QualifiedName
 origin_in a None = nowhere
 origin_in a (Some m) = origin_by a (decision m a.name)
 
--- the origin of a name's numbers
+-- the origin of the name `a`, if `ms` are the loaded modules
 abbrev pub origin : List Module → QualifiedName → Origin QualifiedName
 origin ms a = origin_in a (module_named ms a.home)
 

@@ -1,4 +1,4 @@
--- The entries of the names of modules.
+-- Entries: each name that has a meaning in a module has one, with what decides the meaning.
 use Rattle.std.specs.Prelude.{◌≡◌, ℕ, List, length, Option, Some, All}
 use Rattle.std.specs.{List.slice_get, List.position_from}
 use Rattle.smi_text.specs.{trees.Mark.same_text, declared.trees.tree.Module.Module}
@@ -7,20 +7,22 @@ use Rattle.smi_names.specs.meaning.Scopes.{NameIndices, known, decided_as, IsWit
 use Rattle.smi_names.specs.meaning.Scopes.{IsDefinedAt, IsDecided}
 use Rattle.smi_names.specs.{declared.hash.NameHash.NameHash, declared.meaning.entry.Entry.Entry}
 
--- the names of these modules, found by maps that have this key
+-- the names of these modules, found by maps that hash names with `key`
 pub record KeyedNames : Type 0 where
   pub modules : List Module
   pub key : NameHash
 
--- the index of the first module of a name
+-- the index of the first of the modules `ms` that is named `x`, if one is
 abbrev pub module_index : List Module → List ℕ → Option ℕ
 module_index ms x = position_from (λ m. same_text m.name.octets x) 0 ms
 
--- the module of the entry, and the definition if one decides, are at the indices in its source
+-- the module of entry `e` is at index `e.source.0` of the modules; if a definition decides the
+-- entry's name, then that definition is at index `e.source.1` of the module's definitions
 abbrev pub IsSourced : List Module → Entry → Type 0
 IsSourced ms e = (slice_get ms e.source.0 ≡ Some e.«module».now) × IsDefinedAt e
 
--- each name with a meaning in a module has an entry
+-- each name with a meaning in a module has an entry, found by the module's map in `scopes`, and no
+-- other name has one
 pub record AreEach (ms : List Module) (scopes : List NameIndices) (entries : List Entry)
     : Type 0 where
   pub long : length scopes ≡ length ms

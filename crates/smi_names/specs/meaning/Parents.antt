@@ -8,8 +8,9 @@ use Rattle.smi_names.specs.declared.chains.shared.Resolution.{Resolution}
 use Rattle.smi_names.specs.meaning.Meaning.{QualifiedName, origin, origin_by, origin_of_value}
 use Rattle.smi_names.specs.meaning.Scopes.{Content, qualified, KnownNames, content_named}
 
--- The name of its own module that a definition's identifier value begins with, if each part after
--- it has a number. The home doesn't matter here: only the name is taken.
+-- The name without a number that a definition's identifier value begins with, if it begins with
+-- one and each part after it has a number. The module is passed as `[]`, since only the name is
+-- taken from the origin.
 abbrev pub parent_of : Def → Option (List ℕ)
 parent_of d = option_map (λ a. a.name) (next_of (origin_of_value [] (identifier_value_of d.kind)))
 
@@ -21,7 +22,7 @@ pub record AreResolved (k : KnownNames) (rs : List Resolution) : Type 0 where
 
 -- ---- for private functions
 
--- the origin of a name's numbers, by its entry
+-- the origin of the name of an entry; `nowhere` without an entry
 abbrev pub origin_here : Option Content → Origin QualifiedName
 origin_here None = nowhere
 origin_here (Some c) = origin_by (qualified c) (Some c.decided)

@@ -7,13 +7,14 @@ use Rattle.smi_names.specs.{meaning.Scopes.KnownNames, meaning.Parents.parent_of
 use Rattle.smi_names.specs.meaning.Directory.{next_index}
 use Rattle.smi_names.specs.declared.meaning.directory.Directory.{Directory}
 
--- the directory has the index of each module, an entry for each name that has a meaning, and the
--- index that each entry refers to for its identifier
+-- `d` is the directory of the modules `ms`: it has the index of the first module of each name, an
+-- entry for each name that has a meaning in a module, and for each entry the index of the entry
+-- that it refers to for its identifier, if it refers to one
 pub record IsDirectory (ms : List Module) (d : Directory) : Type 0 where
   pub placed : (x : List ℕ) → index_in d.homes x ≡ module_index ms x
   pub named : AreEach ms d.scopes.items d.entries.items
   pub parents : d.parents.items ≡ map (next_index d parent_of) d.entries.items
 
--- the names that have entries
+-- the modules `ms`, and the names that have entries in directory `d`
 abbrev pub known_names : List Module → Directory → KnownNames
 known_names ms d = record { modules = ms; names = map content_of d.entries.items }

@@ -1,4 +1,4 @@
--- The names of modules with the indices of their entries.
+-- Scopes: the map of a module from the names that have a meaning in it to their entries' indices.
 use Rattle.std.specs.Prelude.{◌≡◌, ℕ, ◌<◌, List, ◌++◌, length, Option, Some, option_map, All}
 use Rattle.std.specs.{List.slice_get, Option.option_and_then, Str.bytes_eq}
 use Rattle.indexmap.specs.IndexMap.{IndexMap, get, hasher_of}
@@ -9,27 +9,27 @@ use Rattle.smi_names.specs.meaning.Meaning.{or_else, decision, module_named}
 use Rattle.smi_names.specs.declared.meaning.entry.Decider.{Decider}
 use Rattle.smi_names.specs.declared.meaning.entry.Decider.TheVariants as D
 
--- names with their indices
+-- a map from names to indices
 abbrev pub NameIndices : Type 0
 NameIndices = IndexMap (List ℕ) ℕ NameHash
 
--- the index of a name in a map
+-- the index of a name in a map, if the map has the name
 abbrev pub index_in : NameIndices → List ℕ → Option ℕ
 index_in scope x = get bytes_eq scope x
 
--- what decides a name: a definition, an import, or a root
+-- what a `Decider` of the code says: a definition, an import, or the list of roots decides a name
 abbrev pub decision_of : Decider → Decision
 decision_of (D.Definition d) = defined d.now
 decision_of (D.Import i) = imported i.now
 decision_of (D.Root n) = root n
 
--- the value of an entry: in the module `home`, `decided` decides the meaning of the name
+-- the value of an entry: in the module `home`, `decided` decides the meaning of `name`
 pub record Content : Type 0 where
   pub home : Module
   pub name : List ℕ
   pub decided : Decision
 
--- the value of an entry of the code
+-- what an `Entry` of the code says: its module, its name, and what decides the name
 abbrev pub content_of : Entry → Content
 content_of e = record { home = e.«module».now; name = e.name.now; decided = decision_of e.decider }
 
@@ -37,7 +37,7 @@ content_of e = record { home = e.«module».now; name = e.name.now; decided = de
 abbrev pub qualified : Content → QualifiedName
 qualified c = record { home = c.home.name.octets; name = c.name }
 
--- the entry that a scope has for a name
+-- the entry that a scope has for the name `x`, if it has one
 abbrev pub known : List Entry → NameIndices → List ℕ → Option Content
 known entries scope x =
     option_and_then (λ p. option_map content_of (slice_get entries p)) (index_in scope x)
@@ -48,33 +48,35 @@ decided_as m x d = option_map (λ v. record { home = m; name = x; decided = v })
 abbrev pub IsWithin : List Entry → NameIndices → Type 0
 IsWithin entries scope = (x : List ℕ) (p : ℕ) → index_in scope x ≡ Some p → p < length entries
 
--- if a definition decides, then it is in the module at the entry's index
+-- if a definition decides the name of entry `e`, then it is at index `e.source.1` of its module
 abbrev pub IsDefinedAt : Entry → Type 0
 IsDefinedAt e = (d : Def) → decision_of e.decider ≡ defined d
     → slice_get e.«module».now.defs e.source.1 ≡ Some d
 
--- the entry has what decides its name in its module
+-- entry `e` has what decides the meaning of its name in its module
 abbrev pub IsDecided : Entry → Type 0
 IsDecided e = decision e.«module».now e.name.now ≡ Some (decision_of e.decider)
 
--- names by their indices, with their modules
+-- the loaded modules, and the names that have a meaning in them, by their indices
 pub record KnownNames : Type 0 where
   pub modules : List Module
   pub names : List Content
 
--- the entry of a name, if it has a meaning
+-- the entry of the name `a`, if `a` has a meaning
 abbrev pub content_named : List Module → QualifiedName → Option Content
 content_named ms a =
     option_and_then (λ m. decided_as m a.name (decision m a.name)) (module_named ms a.home)
 
 -- ---- for private functions
 
--- the entry is one of module `m`, which has the index `i`
+-- entry `e` belongs to module `m`, which has the index `i`; if a definition decides the entry's
+-- name, then that definition is at index `e.source.1` of the definitions of `m`
 abbrev pub IsEntryOf : Module → ℕ → Entry → Type 0
 IsEntryOf m i e = (e.«module».now ≡ m) × (e.source.0 ≡ i) × IsDefinedAt e
 
--- the scope has more names: if it had no entry for a name, it has what `more` decides; it is hashed
--- as before
+-- `scope` has for each name the entry that `before` has or, if that has none, the entry of what
+-- `more` decides, if anything; the entries added belong to module `m`, which has the index `i`;
+-- the names are hashed as before
 pub record KnowsMore (old : List Entry) (before : NameIndices) (new : List Entry)
     (scope : NameIndices) (m : Module) (i : ℕ) (more : List ℕ
     → Option Decision) : Type 0 where

@@ -1,4 +1,4 @@
--- The value of what the code gathers, as nodes.
+-- The nodes and warnings that a value of the code's type `Gathered` represents.
 use Rattle.std.specs.Prelude.{◌≡◌, ℕ, List, [], ◌∷◌, ◌++◌, length, Option, Some, None}
 use Rattle.std.specs.List.{slice_get}
 use Rattle.smi_names.specs.declared.chains.shared.Resolution.{Resolution}
@@ -18,20 +18,22 @@ abbrev pub def_of_module : Option Module → ℕ → Option Def
 def_of_module None k = None
 def_of_module (Some m) k = slice_get m.defs k
 
--- the node of a source
+-- the node with source `s`, a root or a definition, and identifier `o`
 abbrev pub node_from : List Module → Source → List ℕ → Node
 node_from ms (S.Root n) o = record { home = None; label = root_label n; oid = o; definition = None }
 node_from ms (S.Definition i k) o =
     let d = def_of_module (slice_get ms i) k in
     record { home = slice_get ms i; label = label_of d; oid = o; definition = d }
 
--- the nodes of sources, each with its identifier
+-- the nodes whose sources are in one list, and whose identifiers are at the same indices in the
+-- other
 abbrev pub nodes_of : List Module → List Source → List (List ℕ) → List Node
 nodes_of ms [] os = []
 nodes_of ms (s ∷ ss) [] = []
 nodes_of ms (s ∷ ss) (o ∷ os) = node_from ms s o ∷ nodes_of ms ss os
 
--- `g` holds the nodes of the roots and then those of the modules `before`, and their warnings
+-- `g` holds the nodes of the roots, then the nodes of the modules `before`, and the warnings about
+-- these modules; `ms` are all modules
 pub record AreGathered (ms : List Module) (g : Gathered) (before : List Module) : Type 0 where
   pub ns : List Node
   pub long : length g.sources.items ≡ length g.oids.items
@@ -48,7 +50,8 @@ abbrev pub oids_by : Resolution → List (List ℕ)
 oids_by (R.Numbers o) = o ∷ []
 oids_by _ = []
 
--- the node or the warning of definition `d`, whose name resolves to `r`, is appended
+-- `new` is `old` with one node or one warning appended: if `r` is an identifier, the node of
+-- definition `d`, with source `s`; otherwise the warning that `d` has none, for the reason `r`
 pub record GrowsByDefinition (old new : Gathered) (s : Source) (m : Module) (d : Def)
     (r : Resolution) : Type 0 where
   pub sources : new.sources.items ≡ old.sources.items ++ sources_by s r
@@ -59,7 +62,7 @@ pub record GrowsByDefinition (old new : Gathered) (s : Source) (m : Module) (d :
 abbrev pub IsSourceOf : List Module → Source → Module → Def → Type 0
 IsSourceOf ms s m d = (o : List ℕ) → node_from ms s o ≡ node_of m d o
 
--- the nodes `ns` and the warnings `ws` are appended
+-- `new` is `old` with the nodes `ns` and the warnings `ws` appended
 pub record AddsNodes (ms : List Module) (old new : Gathered) (ns : List Node)
     (ws : List Warning) : Type 0 where
   pub long : length new.sources.items ≡ length new.oids.items
@@ -67,7 +70,7 @@ pub record AddsNodes (ms : List Module) (old new : Gathered) (ns : List Node)
       old.oids.items ++ ns
   pub warnings : new.warnings.items ≡ old.warnings.items ++ ws
 
--- nodes and warnings of which `are_returned` holds are appended
+-- `new` is `old` with some nodes `ns` and warnings `ws` appended, and `are_returned ns ws` holds
 pub record Adds (ms : List Module) (old new : Gathered)
     (are_returned : List Node → List Warning → Type 0) : Type 0 where
   pub ns : List Node

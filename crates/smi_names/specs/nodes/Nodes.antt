@@ -28,20 +28,21 @@ roots = node_of_root 0 ∷ node_of_root 1 ∷ node_of_root 2 ∷ []
 abbrev pub node_of : Module → Def → List ℕ → Node
 node_of m d o = record { home = Some m; label = d.label.octets; oid = o; definition = Some d }
 
--- the node of a definition, by what its name resolves to
+-- the nodes of definition `d` of module `m`: one if its name resolves to an identifier, or none
 abbrev pub nodes_by : Module → Def → Resolution → List Node
 nodes_by m d (R.Numbers o) = node_of m d o ∷ []
 nodes_by m d _ = []
 
--- the warning about a definition, by what its name resolves to
+-- the warnings about definition `d` of module `m`: none if its name resolves to an identifier,
+-- otherwise the reason why it doesn't
 abbrev pub warnings_by : Module → Def → Resolution → List Warning
 warnings_by m d (R.Numbers o) = []
 warnings_by m d R.Cycle = W.Cycle m.name.octets d.label.octets ∷ []
 warnings_by m d R.Unresolved = W.Unresolved m.name.octets d.label.octets ∷ []
 warnings_by m d R.TooLong = W.TooLong m.name.octets d.label.octets ∷ []
 
--- a definition has the nodes `ns` and the warnings `ws`: a type or a macro none, any other by what
--- its name resolves to
+-- definition `d` of module `m` has the nodes `ns` and the warnings `ws`: none if it has no
+-- identifier value, as a type or a macro; otherwise by what its name resolves to
 abbrev pub GivesNodesBy : List Module → Module → Def → Option (List Part) → List Node → List Warning
     → Type 0
 GivesNodesBy ms m d None ns ws = (ns ≡ []) × (ws ≡ [])
@@ -53,7 +54,7 @@ GivesNodesBy ms m d (Some value) ns ws =
 abbrev pub GivesNodes : List Module → Module → Def → List Node → List Warning → Type 0
 GivesNodes ms m d ns ws = GivesNodesBy ms m d (identifier_value_of d.kind) ns ws
 
--- definitions of a module have these nodes and warnings, one after the other
+-- the definitions in a list, all of module `m`, have these nodes and these warnings, in order
 pub data Gathers (ms : List Module) (m : Module) : List Def → List Node → List Warning
     → Type 0 where
   none : Gathers ms m [] [] []
@@ -61,12 +62,13 @@ pub data Gathers (ms : List Module) (m : Module) : List Def → List Node → Li
       → Gathers ms m ds ns ws → GivesNodes ms m d more_nodes more_warnings
       → Gathers ms m (ds ++ d ∷ []) (ns ++ more_nodes) (ws ++ more_warnings)
 
--- one of the modules has this name
+-- one of the modules `ms` is named `name`
 abbrev pub is_loaded : List Module → List ℕ → Bool
 is_loaded ms name = is_some (module_named ms name)
 
--- module `m`, loaded after the modules `before`, has these nodes and warnings: only a warning if
--- one of them has its name, otherwise the warnings about its imports and what its definitions have
+-- module `m`, loaded after the modules `before`, has these nodes and warnings. If a module of
+-- `before` has the name of `m`, there is only the warning that `m` is left out; otherwise there
+-- are the warnings about its imports, and then the nodes and warnings of its definitions.
 pub data Contributes (ms before : List Module) (m : Module) : List Node → List Warning
     → Type 0 where
   left_out : is_loaded before m.name.octets ≡ true
@@ -74,7 +76,7 @@ pub data Contributes (ms before : List Module) (m : Module) : List Node → List
   loaded : (ns : List Node) (ws : List Warning) → is_loaded before m.name.octets ≡ false
       → Gathers ms m m.defs ns ws → Contributes ms before m ns (import_warnings ms m ++ ws)
 
--- modules have these nodes and warnings, one after the other
+-- the modules in a list, loaded in this order, have these nodes and these warnings
 pub data Loads (ms : List Module) : List Module → List Node → List Warning → Type 0 where
   none_yet : Loads ms [] [] []
   then_module : (before : List Module) (m : Module) (ns more_nodes : List Node)

@@ -1,4 +1,5 @@
--- The state of the search for indices whose chains end, for private clauses.
+-- The state of the search for the indices whose chains end, for private clauses. Index `p` refers
+-- to the index `next_at next p`, if any; its chain continues there.
 use Rattle.std.specs.Prelude.{◌≡◌, ℕ, ◌<◌, List, [], ◌∷◌, length, slice_index_or, All, Contains}
 use Rattle.std.specs.Prelude.{Option, Some}
 use Rattle.smi_names.specs.{chains.Chain.HasEnd, declared.chains.order.Mark.Mark}
@@ -8,23 +9,27 @@ use Rattle.smi_names.specs.declared.chains.order.Mark.TheVariants as M
 abbrev pub mark_at : List Mark → ℕ → Mark
 mark_at marks p = slice_index_or marks p M.New
 
--- `path` begins with `from`, each of its indices refers to the next one, and the last one to `to`
+-- `path` begins with `from`, each of its indices refers to the next one, and the last one to `to`;
+-- if `path` is empty, `from` is `to`
 abbrev pub Follows : List (Option ℕ) → List ℕ → Option ℕ → Option ℕ → Type 0
 Follows next [] from to = from ≡ to
 Follows next (p ∷ rest) from to = (from ≡ Some p) × Follows next rest (next_at next p) to
 
--- the chain from `to` has an end, and `to` is in the order if it is an index
+-- `to` is `None`, or its chain has an end, and it is in `order` or past the end of `next`
 abbrev pub IsSettled : List (Option ℕ) → List ℕ → Option ℕ → Type 0
 IsSettled next order to =
     (q : ℕ) → to ≡ Some q → HasEnd (next_at next) q × (q < length next → Contains order q)
 
--- the path ends at an index that is settled, or at nothing
+-- `path` follows a chain (see `Follows`) up to `None`, or up to an index whose chain has an end
+-- and which is in `order` or past the end of `next`
 pub record ReachesSettled (next : List (Option ℕ)) (order path : List ℕ) : Type 0 where
   pub from : Option ℕ
   pub to : Option ℕ
   pub refers_to : Follows next path from to
   pub settled : IsSettled next order to
 
+-- the invariant of the search: `order` has the indices marked as settled, and `path` each index
+-- marked as met whose chain has an end
 pub record Keeps (next : List (Option ℕ)) (marks : List Mark) (order path : List ℕ) : Type 0 where
   pub long : length marks ≡ length next
   pub within : All (λ p. p < length next) order

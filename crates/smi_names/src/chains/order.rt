@@ -1,4 +1,4 @@
-//! The indices whose chains end, in an order in which each comes after the one that it refers to.
+//! The indices whose chains end, in an order: each comes after the index that it refers to.
 ghost use Rattle.std.specs.Prelude.{◌≡◌, ◌≢◌, ◌⊎◌, ℕ, ◌<◌, ◌↔◌, List, [], ◌∷◌, length, All};
 ghost use Rattle.std.specs.Prelude.{Contains, Option, IfOk, IsTrue, Some, true, false, vec_len};
 ghost use Rattle.smi_names.specs.chains.Chain.{HasEnd};
@@ -10,9 +10,9 @@ use std::alloc::{AllocError, Global};
 /// The state of an index in the search.
 #[derive(Clone, Copy, Debug)]
 enum Mark {
-    /// Not reached.
+    /// Not reached yet.
     New,
-    /// Reached by a climb.
+    /// Reached by `Search::climb`, but not part of the order.
     Met,
     /// Part of the order.
     Settled,
@@ -25,7 +25,7 @@ struct Search {
     marks: Vec<Mark>,
     /// The indices found so far whose chains end, each after the one that it refers to.
     order: Vec<usize>,
-    /// The indices of a climb, from its start on.
+    /// The indices of the chain that is being followed, from its start on, that were new.
     path: Vec<usize>,
 }
 
@@ -51,8 +51,9 @@ pub fn topological_order(alloc: Global, next: &[Option<usize>]) -> Result<Vec<us
 }
 
 impl Search {
-    /// Follows the chain from `start` as long as its indices are new, and returns the one at which
-    /// it stops, if any.
+    /// Follows the chain from `start` as long as its indices are new, marks them as met and
+    /// appends them to the path. Returns the first index of the chain that isn't new, perhaps one
+    /// past the end of `next`, or `None` if the chain ends at a new index.
     fn climb(&mut self, next: &[Option<usize>], start: usize) -> Result<Option<usize>, AllocError>
         requires kept { Keeps next.now self.old.marks.items self.old.order.items
             self.old.path.items }
@@ -81,7 +82,7 @@ impl Search {
         Ok(to)
     }
 
-    /// Adds `index`, which refers to nothing, to the order unless it is in it.
+    /// Adds `index`, which refers to nothing, to the order unless the order has it already.
     fn settle(&mut self, next: &[Option<usize>], index: usize) -> Result<(), AllocError>
         requires kept { Keeps next.now self.old.marks.items self.old.order.items
             self.old.path.items }
@@ -103,7 +104,7 @@ impl Search {
         Ok(())
     }
 
-    /// Returns whether there is such an index, and it is new.
+    /// Returns whether `index` is within the list and marked as new.
     fn is_new(&self, index: usize) -> bool
         ensures new { IsTrue result
             ↔ ((index < vec_len self.now.marks) × (mark_at self.now.marks.items index ≡ Mark.New)) }
@@ -111,7 +112,8 @@ impl Search {
         matches!(self.marks.get(index), Some(Mark::New))
     }
 
-    /// Returns whether the chain of a climb that stopped at `to` ends, and doesn't enter a ring.
+    /// Returns whether the chain ends, if `climb` returned `to`. It doesn't if `to` is marked as
+    /// met: then it is on the path, which enters a ring, or on an earlier path that entered one.
     fn has_ended(&self, to: Option<usize>) -> bool
         ensures met { result ≡ false → (p : ℕ) × (to ≡ Some p)
             × (mark_at self.now.marks.items p ≡ Mark.Met) }
@@ -124,8 +126,8 @@ impl Search {
         }
     }
 
-    /// Climbs from `start`, and adds the indices of the path to the order, the last one first, if
-    /// their chain ends.
+    /// Follows the chain from `start`. If it ends, adds its new indices to the order, the last one
+    /// first.
     fn visit(&mut self, next: &[Option<usize>], start: usize) -> Result<(), AllocError>
         requires kept { Keeps next.now self.old.marks.items self.old.order.items
             self.old.path.items }
@@ -139,7 +141,7 @@ impl Search {
             → mark_at self.old.marks.items p ≢ Mark.New
             → mark_at self.new.marks.items p ≢ Mark.New) }
     {
-        // An index that refers to nothing, as most do, is settled at once.
+        // An index that refers to nothing needs no path: it is added to the order at once.
         if next[start].is_none() {
             return self.settle(next, start);
         }

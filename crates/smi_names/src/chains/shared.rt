@@ -1,5 +1,4 @@
-//! What names resolve to. Each resolution is stored once: an import shares the resolution of the
-//! name that it imports.
+//! What names resolve to. An imported name shares the resolution of the name that it imports.
 ghost use Rattle.std.specs.Prelude.{◌≡◌, ◌<◌, ◌∷◌, [], length, option_map, IfOk};
 ghost use Rattle.std.specs.List.{slice_get};
 ghost use Rattle.smi_names.specs.chains.Resolution.{extend_identifier, extend_resolution_by};
@@ -12,27 +11,27 @@ use std::alloc::{AllocError, Global};
 /// What a name resolves to: its identifier, or the reason why it has none.
 #[derive(Debug, Drop)]
 pub enum Resolution {
-    /// Its identifier, of at most 128 numbers.
+    /// The name's identifier, of at most 128 numbers.
     Numbers(StoredOid),
-    /// Its chain has no end.
+    /// Its chain, from name to name, has no end.
     Cycle,
-    /// Its chain ends at a name without a meaning.
+    /// Its chain ends at a name that isn't defined, or whose definition yields no identifier.
     Unresolved,
-    /// It has more than 128 numbers.
+    /// The name's identifier would have more than 128 numbers (RFC 2578, section 3.5).
     TooLong,
 }
 
-/// The index of `Unresolved` in the list.
+/// The index of `Unresolved` in the list of a `Shared`.
 pub(crate) const UNRESOLVED: usize = 0;
 
-/// The index of `Cycle` in the list.
+/// The index of `Cycle` in the list of a `Shared`.
 pub(crate) const CYCLE: usize = 1;
 
-/// The index of `TooLong` in the list.
+/// The index of `TooLong` in the list of a `Shared`.
 const TOO_LONG: usize = 2;
 
-/// What names resolve to, by the index of the name. Each resolution is stored once: an import
-/// shares the one of its definition, and all names without an identifier share three.
+/// What names resolve to, by the index of the name. An imported name shares the resolution of the
+/// name that it imports, and all names without an identifier share three, one for each reason.
 #[derive(Drop)]
 pub(crate) struct Shared {
     /// The resolutions.
@@ -42,7 +41,7 @@ pub(crate) struct Shared {
 }
 
 impl Shared {
-    /// Returns what the name at `index` resolves to, or `None` if there is no such name.
+    /// Returns what the name at `index` resolves to, or `None` if no name has that index.
     pub(crate) fn get(&self, index: usize) -> Option<&Resolution>
         requires { AreWithin self.now.list.items self.now.indices.items }
         ensures { slice_get (resolutions_at self.now.list.items self.now.indices.items) index
@@ -53,8 +52,7 @@ impl Shared {
     }
 }
 
-/// Returns a list of the three resolutions without an identifier, with memory reserved for `more`
-/// others.
+/// Returns a list of the three reasons for having no identifier, with room for `more` resolutions.
 pub(crate) fn reasons(alloc: Global, more: usize) -> Result<Vec<Resolution>, AllocError>
     ensures { IfOk result (λ list. list.items
         ≡ Resolution.Unresolved ∷ Resolution.Cycle ∷ Resolution.TooLong ∷ []) }
@@ -68,9 +66,10 @@ pub(crate) fn reasons(alloc: Global, more: usize) -> Result<Vec<Resolution>, All
 
 /// Resolves a name that is defined as another name followed by `numbers`, and returns the index of
 /// its resolution in `list`. `to` is the index of the other name, and `indices[to]` is the index
-/// of its resolution. If that is no identifier, the two names share it. A new identifier is
-/// appended to `list`, unless it is too long: then this is the index of `TooLong`. Returns the
-/// index of `Unresolved` if there is no other name.
+/// of its resolution. The two names share that resolution if it isn't an identifier or `numbers`
+/// is empty. Otherwise the new identifier is appended to `list`, unless it is too long: then the
+/// result is the index of `TooLong`. Returns the index of `Unresolved` if `to` is `None` or past
+/// the end of `indices`.
 pub(crate) fn resolve_through(
     alloc: Global,
     list: &mut Vec<Resolution>,
@@ -92,9 +91,10 @@ pub(crate) fn resolve_through(
     }
 }
 
-/// Returns the index in `list` of the identifier at index `at` followed by `numbers`. A new
-/// identifier is appended. If the resolution at `at` is no identifier, this is `at`; if the
-/// identifier would be too long, it is the index of `TooLong`.
+/// Appends the identifier at index `at` of `list`, followed by `numbers`, to `list`, and returns
+/// the index of what was appended. Returns `at` and appends nothing if the resolution there isn't
+/// an identifier or `numbers` is empty. If the new identifier would be too long, appends nothing
+/// and returns the index of `TooLong`.
 fn extend_resolution(
     alloc: Global,
     list: &mut Vec<Resolution>,
@@ -110,7 +110,7 @@ fn extend_resolution(
         return Ok(at);
     };
     let prefix = oid.as_slice();
-    // An import has the identifier of what it imports.
+    // Without more numbers, as for an import, the identifier is the same.
     if numbers.is_empty() {
         return Ok(at);
     }
@@ -121,8 +121,8 @@ fn extend_resolution(
     push(list, longer)
 }
 
-/// Appends the identifier of these numbers to the list, and returns its index. If it would be too
-/// long, appends nothing and returns the index of `TooLong`.
+/// Appends the identifier `numbers` to `list`, and returns its index. If it would be too long,
+/// appends nothing and returns the index of `TooLong`.
 pub(crate) fn push_extended(
     alloc: Global,
     list: &mut Vec<Resolution>,

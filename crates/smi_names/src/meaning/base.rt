@@ -30,7 +30,9 @@ pub enum TypeBase {
 }
 
 impl TypeBase {
-    /// Returns the base type of this name, whatever a module defines (RFC 2578, section 7.1).
+    /// Returns the base type of this name, even if a module defines it too (RFC 2578, section
+    /// 7.1). Returns `None` for any other text, and for words of the grammar such as INTEGER,
+    /// which aren't names.
     #[tactic(auto, unfolding(crate::specs::meaning::Base::base_named))]
     pub fn from_name(name: &[u8]) -> Option<TypeBase>
         ensures { result ≡ base_named name.now }

@@ -1,4 +1,4 @@
-//! The indices of names: which entry a name of a module has, and which one that refers to.
+//! The indices of names: which entry a name of a module has, and which entry that one refers to.
 ghost use Rattle.std.specs.Prelude.{◌≡◌, ℕ, List, [], map, IfOk, Some, All};
 ghost use Rattle.indexmap.specs.IndexMap.{hasher_of};
 ghost use Rattle.smi_names.specs.meaning.Scopes.{index_in};
@@ -20,18 +20,18 @@ use std::alloc::{AllocError, Global};
 /// The modules and their names, each with its index.
 #[derive(Drop)]
 pub(crate) struct Directory<'a> {
-    /// The index of each module, by its name.
+    /// The index of the first module of each name.
     pub(crate) homes: NameIndices<'a>,
     /// For each module, the index of the entry of each of its names.
     pub(crate) scopes: Vec<NameIndices<'a>>,
     /// What decides each name of each module.
     pub(crate) entries: Vec<Entry<'a>>,
-    /// The index of the entry that each entry refers to for its identifier; empty until they are
-    /// found. That of an import holds for every meaning.
+    /// For each entry, the index of the entry that it refers to for its identifier; empty until
+    /// these are found. An import refers to the same entry for every other meaning.
     pub(crate) parents: Vec<Option<usize>>,
 }
 
-/// A name of a module that was looked up, with its index.
+/// A name of a module that was looked up, with the index that was found.
 #[derive(Clone, Copy, Debug)]
 struct Found<'a> {
     /// The name of the module.
@@ -40,11 +40,12 @@ struct Found<'a> {
     at: Option<usize>,
     /// The name.
     name: &'a [u8],
-    /// The index of its entry.
+    /// The index of its entry, or the number of entries if it has none.
     index: usize,
 }
 
-/// Returns the index of each module by its name: of several with one name, that of the first.
+/// Returns a map from the names of modules to their indices. A name of several modules has the
+/// index of the first.
 pub(crate) fn homes<'a>(
     alloc: Global,
     hash: NameHash,
@@ -61,8 +62,8 @@ pub(crate) fn homes<'a>(
     Ok(homes)
 }
 
-/// Appends an entry for each name that has a meaning in a module, and returns their indices, by
-/// module.
+/// Appends an entry for each name that has a meaning in a module. Returns for each module a map
+/// from these names to the indices of their entries.
 pub(crate) fn scopes<'a>(
     alloc: Global,
     hash: NameHash,
@@ -91,7 +92,7 @@ impl<'a> Directory<'a> {
     }
 
     /// Returns the index of the entry of `name` in the module at index `at`, or the number of
-    /// entries if there is none.
+    /// entries if it has no meaning there or `at` is `None`.
     fn index_in(&self, at: Option<usize>, name: &'a [u8]) -> usize
         ensures { result ≡ index_at self.now at name.now }
     {
@@ -107,7 +108,7 @@ impl<'a> Directory<'a> {
         }
     }
 
-    /// Returns whether the entry at `index` is that of `name` in the module at index `home`.
+    /// Returns whether the entry at `index` belongs to `name` in the module at index `home`.
     pub(crate) fn is_entry(&self, index: usize, home: usize, name: &[u8]) -> bool
         ensures { result ≡ is_entry_of (slice_get self.now.entries.items index) home name.now }
     {
@@ -117,8 +118,9 @@ impl<'a> Directory<'a> {
         }
     }
 
-    /// Does what [`Directory::index`] does, faster after `last`, the name that was looked up last:
-    /// names that follow one another are mostly of one module, and often the same parent.
+    /// Returns what [`Directory::entry_index`] does. `last` is the name that was looked up last;
+    /// it makes the search faster, since names that follow one another are mostly of one module,
+    /// and often have the same parent.
     fn cached_index(&self, home: &'a [u8], name: &'a [u8], last: &mut Option<Found<'a>>) -> usize
         requires { IsFound self.now last.old }
         ensures index { result ≡ index_by self.now (record { home = home.now; name = name.now }) }
@@ -143,8 +145,8 @@ impl<'a> Directory<'a> {
         index
     }
 
-    /// Returns the index of the entry that the entry at `index` refers to. `last` is the name that
-    /// was looked up last.
+    /// Returns the index of the entry that the entry at `index` refers to, if it refers to one.
+    /// `last` is the name that was looked up last.
     fn next<M: References>(
         &self,
         index: usize,
@@ -163,7 +165,8 @@ impl<'a> Directory<'a> {
                 let name = M::reference(def)?;
                 Some(self.cached_index(home, name.as_bytes(), last))
             }
-            // An import refers to one entry in every meaning, and is looked up only for parents.
+            // An import refers to the same entry in every meaning. It is looked up only for
+            // parents.
             Decider::Import(import) => match self.parents.get(index) {
                 Some(to) => *to,
                 None => Some(self.cached_index(import.source.as_bytes(), entry.name, last)),
@@ -172,8 +175,8 @@ impl<'a> Directory<'a> {
         }
     }
 
-    /// Returns the index of the entry that each entry refers to. Parents are found first, in a
-    /// directory that has none.
+    /// Returns for each entry the index of the entry that it refers to, if it refers to one. The
+    /// indices for identifiers are found first, while `parents` is empty.
     pub(crate) fn next_indices<M: References>(
         &self,
         alloc: Global,

@@ -59,7 +59,7 @@ impl<'s, 'a> Entries<'s, 'a> {
         self.directory.entry_index(home, name)
     }
 
-    /// Returns the name at an index.
+    /// Returns the name at `index`, with what decides its meaning; `None` past the end.
     pub fn get(&self, index: usize) -> Option<Entry<'a>>
         ensures found { option_map content_of result ≡ slice_get self.now.names index }
         ensures source { (e : Entry) → result ≡ Some e → IsSourced self.now.modules e }
@@ -67,8 +67,9 @@ impl<'s, 'a> Entries<'s, 'a> {
         self.directory.entries.get(index).copied()
     }
 
-    /// Returns what each name means: `None` for a root, for a definition without a meaning, for an
-    /// import of a name without one, and for a chain that has no end, as in a ring of imports.
+    /// Returns what each name means: `None` for a root, for a definition that means nothing, for
+    /// an import of a name that means nothing, and for a chain that has no end, as in a ring of
+    /// imports.
     /// Visits each name once, without recursion. Fails only if memory runs out.
     pub fn along<M: Meaning>(&self, alloc: Global) -> Result<Vec<Option<M>>, AllocError>
         ensures { IfOk result (λ found. AreMeant self.now M.refers_to M.means found.items) }
@@ -83,7 +84,7 @@ impl<'s, 'a> Entries<'s, 'a> {
         Ok(found)
     }
 
-    /// Returns the index of the name that each name refers to.
+    /// Returns for each name the index of the name that it refers to, if it refers to one.
     fn next_indices<M: References>(&self, alloc: Global) -> Result<Vec<Option<usize>>, AllocError>
         ensures { IfOk result (λ next. AreNext self.now M.refers_to next.items) }
     {
@@ -132,7 +133,8 @@ impl<'s, 'a> Entries<'s, 'a> {
         Ok(Shared { list, indices })
     }
 
-    /// Returns the index of the name that each name refers to for its identifier.
+    /// Returns for each name the index of the name that it refers to for its identifier, if it
+    /// refers to one.
     #[tactic(auto, using(crate::proofs::ReferenceChains::are_next))]
     fn parents(&self) -> &[Option<usize>]
         ensures { AreNext self.now parent_of result.now }
@@ -140,7 +142,8 @@ impl<'s, 'a> Entries<'s, 'a> {
         &self.directory.parents
     }
 
-    /// Returns how many identifiers the list can get at most.
+    /// Returns an upper bound of the number of identifiers in the list: the number of names that a
+    /// root, or a definition with an identifier value, decides.
     fn most(&self) -> usize {
         let mut count = 0_usize;
         'entries: for entry in &self.directory.entries {
@@ -157,7 +160,8 @@ impl<'s, 'a> Entries<'s, 'a> {
     }
 
     /// Returns the index in `list` of what the name at `index` resolves to; a new identifier is
-    /// appended. `indices[i]` is the index in `list` for the name `i`, if that came before.
+    /// appended. `to` is the index of the name that it refers to, and `indices[to]` the index in
+    /// `list` of what that name resolves to.
     fn resolve_entry(
         &self,
         alloc: Global,
@@ -186,7 +190,7 @@ impl<'s, 'a> Entries<'s, 'a> {
     }
 }
 
-/// Returns what `found` has at the index `to`, if there is one.
+/// Returns what `found` has at index `to`; `None` if `to` is `None` or past the end.
 fn far_meaning<T: Copy>(found: &[Option<T>], to: Option<usize>) -> Option<T>
     ensures { result ≡ option_and_then (λ p. option_at found.now p) to }
 {

@@ -7,9 +7,9 @@ use smi_text::{Def, Import, Module};
 pub enum Decider<'a> {
     /// The module's own definition.
     Definition(&'a Def),
-    /// The first FROM clause that imports it.
+    /// The first FROM clause that imports the name.
     Import(&'a Import),
-    /// The list of roots, which has the name with this number.
+    /// The list of roots. Holds the root's number, from 0 to 2.
     Root(u32),
 }
 

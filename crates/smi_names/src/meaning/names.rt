@@ -1,4 +1,4 @@
-//! The names of modules, resolved.
+//! The names of modules, with what decides each and what it resolves to.
 ghost use Rattle.std.specs.Prelude.{◌≡◌, IfOk, MatchOption, Some, is_some, option_map};
 ghost use Rattle.std.specs.{List.slice_get, Option.option_and_then};
 ghost use Rattle.smi_names.specs.{chains.Chain.nowhere, chains.Resolution.ComesTo};
@@ -46,7 +46,7 @@ impl<'a> Model for Names<'a> {
 }
 
 impl<'a> Names<'a> {
-    /// Resolves the names of these modules, each once. The maps that find them have this key.
+    /// Resolves the names of `modules`, each once. `hash` is for the maps that find the names.
     pub fn new(
         alloc: Global,
         hash: NameHash,
@@ -86,8 +86,9 @@ impl<'a> Names<'a> {
     /// Returns what `name` resolves to in the module named `home`, or `None` if it has no meaning
     /// there.
     pub fn resolution(&self, home: &'a [u8], name: &'a [u8]) -> Option<&Resolution>
-        // The module's own definition decides, otherwise an import, by the meaning of the name
-        // there, otherwise a root. The result is one identifier, or one reason for none.
+        // The module's own definition decides, otherwise an import, by what the name means in the
+        // module after FROM, otherwise a root. The result is one identifier, or one reason for
+        // none.
         ensures { let qualified : QualifiedName = record { home = home.now; name = name.now } in
             MatchOption result (origin self.now.modules qualified ≡ nowhere)
             (λ resolution. ComesTo (origin self.now.modules) qualified resolution.now) }
@@ -96,8 +97,9 @@ impl<'a> Names<'a> {
         self.resolutions.get(index)
     }
 
-    /// Returns what `name` resolves to in `module`, which is the first of its name and has the
-    /// index `source.0`, or `None` if it has no meaning there.
+    /// Returns what `name` resolves to in `module`, or `None` if it has no meaning there. The
+    /// module must be the first of its name. `source` has its index, and the index of a definition
+    /// in it, which should be the one of `name`.
     ///
     /// `from` is a guess at the index of the module's first name. The names of its definitions
     /// follow one another from there, unless one is defined twice. A wrong guess is corrected, and
@@ -131,7 +133,7 @@ impl<'a> Names<'a> {
         self.resolutions.list.len()
     }
 
-    /// Returns what decides the meaning of `name` in the module named `home`.
+    /// Returns what decides the meaning of `name` in the module named `home`, if anything does.
     pub fn decider(&self, home: &'a [u8], name: &'a [u8]) -> Option<Decider<'a>>
         ensures { option_map decision_of result ≡ option_and_then (λ m. decision m name.now)
             (module_named self.now.modules home.now) }
@@ -151,7 +153,7 @@ impl<'a> Names<'a> {
         }
     }
 
-    /// Returns the index of the first module named `name`.
+    /// Returns the index of the first module named `name`, if one is loaded.
     pub fn module_index(&self, name: &'a [u8]) -> Option<usize>
         ensures { result ≡ module_index self.now.modules name.now }
     {

@@ -1,5 +1,5 @@
-//! What names resolve to: the identifier of a definition is that of the name with which its value
-//! begins, followed by the numbers of the value.
+//! What names resolve to: if the identifier value of a definition begins with a name without a
+//! number, the definition has that name's identifier followed by the numbers of the other parts.
 ghost use Rattle.std.specs.Prelude.{◌≡◌, ℕ, List, IfOk, is_some, option_map};
 ghost use Rattle.smi_names.specs.chains.Resolution.{far_at, resolution_by, resolutions_at};
 ghost use Rattle.smi_names.specs.chains.Resolution.{AreWithin};
@@ -11,8 +11,8 @@ use crate::meaning::along::References;
 use smi_text::{Def, Name, Part};
 use std::alloc::{AllocError, Global};
 
-/// A definition refers to the name with which its identifier value begins, if each part after that
-/// has a number (RFC 2578, section 7.10).
+/// For its identifier, a definition refers to the name at the start of its identifier value, if
+/// the name has no number and each part after it has one (RFC 2578, section 7.10).
 pub(crate) struct Parents;
 
 impl References for Parents {
@@ -51,7 +51,9 @@ fn arcs(alloc: Global, parts: &[Part]) -> Result<Option<Vec<u32>>, AllocError>
 }
 
 /// Returns the index in `list` of what a name with the identifier value `parts` resolves to; a new
-/// identifier is appended. No `Vec` is made for one number after a name, which most values are.
+/// identifier is appended. `to` is the index of the name that `parts` begins with, and
+/// `indices[to]` the index in `list` of what that name resolves to. No `Vec` is made for the usual
+/// value, a name and one number.
 pub(crate) fn by_parts(
     alloc: Global,
     list: &mut Vec<Resolution>,

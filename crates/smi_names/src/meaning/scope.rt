@@ -19,7 +19,8 @@ use indexmap::IndexMap;
 use smi_text::{Import, Module};
 use std::alloc::{AllocError, Global};
 
-/// Enters a name with its entry, unless the scope has the name.
+/// Appends `entry`, and enters its name with the entry's index into `scope`. Does nothing if
+/// `scope` has the name.
 fn enter<'a>(
     entries: &mut Vec<Entry<'a>>,
     scope: &mut NameIndices<'a>,
@@ -41,7 +42,7 @@ fn enter<'a>(
     Ok(())
 }
 
-/// Enters the labels of the definitions of a module.
+/// Enters the labels of the definitions of `module`, except those that `scope` has.
 fn enter_definitions<'a>(
     entries: &mut Vec<Entry<'a>>,
     scope: &mut NameIndices<'a>,
@@ -66,7 +67,7 @@ fn enter_definitions<'a>(
     Ok(())
 }
 
-/// Enters the symbols of a FROM clause.
+/// Enters the symbols of a FROM clause, except those that `scope` has.
 fn enter_symbols<'a>(
     entries: &mut Vec<Entry<'a>>,
     scope: &mut NameIndices<'a>,
@@ -92,7 +93,7 @@ fn enter_symbols<'a>(
     Ok(())
 }
 
-/// Enters the symbols of FROM clauses.
+/// Enters the symbols of the FROM clauses `imports`, except those that `scope` has.
 fn enter_imports<'a>(
     entries: &mut Vec<Entry<'a>>,
     scope: &mut NameIndices<'a>,
@@ -111,7 +112,8 @@ fn enter_imports<'a>(
     Ok(())
 }
 
-/// Returns the label of the root with a number from 0 to 2 (RFC 2578, section 3.5).
+/// Returns the label of the root with a number from 0 to 2; any greater number counts as 2 (RFC
+/// 2578, section 3.5).
 pub fn root_label(number: u32) -> &'static [u8]
     ensures { result.now ≡ meaning.root_label number }
 {
@@ -122,7 +124,7 @@ pub fn root_label(number: u32) -> &'static [u8]
     }
 }
 
-/// Returns the number of the root with this label (RFC 2578, section 3.5).
+/// Returns the number of the root with this label, if one has it (RFC 2578, section 3.5).
 pub fn root_arc(label: &[u8]) -> Option<u32>
     ensures { result ≡ meaning.root_arc label.now }
 {
@@ -137,7 +139,7 @@ pub fn root_arc(label: &[u8]) -> Option<u32>
     }
 }
 
-/// Returns the entry of a root.
+/// Returns the entry of the root `number` in `module`, which has the index `index`.
 fn root_entry<'a>(module: &'a Module, index: usize, number: u32) -> Entry<'a>
     ensures entry { (result.«module».now ≡ «module».now)
         × (result.name.now ≡ meaning.root_label number)
@@ -152,7 +154,7 @@ fn root_entry<'a>(module: &'a Module, index: usize, number: u32) -> Entry<'a>
     }
 }
 
-/// Enters the roots (RFC 2578, section 3.5).
+/// Enters the names of the roots (RFC 2578, section 3.5), except those that `scope` has.
 fn enter_roots<'a>(
     entries: &mut Vec<Entry<'a>>,
     scope: &mut NameIndices<'a>,
@@ -180,7 +182,8 @@ pub fn import_clauses(module: &Module) -> &[Import]
     }
 }
 
-/// Enters the names that have a meaning in a module, and returns the indices of their entries.
+/// Appends an entry for each name that has a meaning in `module`, and returns a map from these
+/// names to the indices of their entries. `index` is the index of the module.
 pub(crate) fn scope<'a>(
     alloc: Global,
     hash: NameHash,

@@ -14,21 +14,21 @@ use smi_text::{Def, Module, Text};
 use snmp_oid::StoredOid;
 use std::alloc::{AllocError, Global};
 
-/// Where a node comes from.
+/// What a node was made from: a root or a definition.
 #[derive(Clone, Copy, Debug)]
 pub enum Source {
     /// The node is a root: `ccitt`, `iso` or `joint-iso-ccitt` (RFC 2578, section 3.5). Holds its
     /// number, from 0 to 2.
     Root(u32),
-    /// The node is that of a definition. Holds the index of its module, and its index in the
-    /// module.
+    /// The node belongs to a definition. Holds the index of the module, and the index of the
+    /// definition in it.
     Definition(usize, usize),
 }
 
 /// The nodes of modules, and the warnings about the modules.
 #[derive(Drop)]
 pub struct Gathered {
-    /// Where each node comes from, in order of loading: the roots first.
+    /// What each node was made from, in order of loading: the roots first.
     pub sources: Vec<Source>,
     /// The identifier of each node.
     pub oids: Vec<StoredOid>,
@@ -79,7 +79,7 @@ impl Gathered {
 
     /// Appends the node of `def`, a definition of `module`, or the warning about it; nothing if it
     /// has no identifier value. `at` has the index of the module, and the index of the definition
-    /// in it. `from` is a guess at the index of the module's first name.
+    /// in it. `from` is a guess at the index of the module's first name; no result depends on it.
     fn add_definition<'a>(
         &mut self,
         alloc: Global,
@@ -199,7 +199,7 @@ impl Gathered {
     }
 }
 
-/// Returns the nodes of the roots, followed by those of each module in order, and the warnings
+/// Returns the nodes of the roots, followed by the nodes of each module in order, and the warnings
 /// about the modules.
 pub fn gather_nodes<'a>(
     alloc: Global,
@@ -210,7 +210,7 @@ pub fn gather_nodes<'a>(
     requires { names.now.modules ≡ modules.now }
     ensures { IfOk result (λ gathered. AreGathered modules.now gathered modules.now) }
 {
-    // Reserves memory for a node for each resolution, since most resolutions are those of nodes.
+    // Reserves memory for a node for each resolution, since most resolutions belong to a node.
     let mut gathered = Gathered::roots(alloc, names.identifiers())?;
     'modules: for (i, module) in modules.iter().enumerate() {
         gathered.add_module(alloc, names, module, i)?;

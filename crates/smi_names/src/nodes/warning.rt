@@ -12,9 +12,11 @@ pub enum Warning {
     /// A module imports a symbol that the module after FROM neither defines nor imports. Holds the
     /// module, the symbol and the module after FROM.
     MissingImport(Text, Text, Text),
-    /// The chain of parents of a definition has no end. Holds its module and label.
+    /// The chain of parents of a definition has no end. Holds the module and label of the
+    /// definition.
     Cycle(Text, Text),
-    /// A definition's chain ends at a name without a meaning. Holds its module and label.
+    /// The chain of parents of a definition ends at a name that isn't defined, or whose definition
+    /// yields no identifier. Holds the module and label of the definition.
     Unresolved(Text, Text),
     /// A definition's identifier would have more than 128 numbers (RFC 2578, section 3.5). Holds
     /// its module and label.

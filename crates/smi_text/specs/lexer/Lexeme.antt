@@ -37,7 +37,8 @@ begins test (c ∷ cs) = test c
 
 -- ---- lexemes
 
--- whether these are letters, digits, `_`, and hyphens that one of the others follows
+-- whether these are letters, digits, `_`, and hyphens that each have a letter, a digit or `_`
+-- after them
 abbrev pub is_word_rest : List ℕ → Bool
 is_word_rest [] = true
 is_word_rest (c ∷ cs) = (is_word_octet c ||
@@ -53,7 +54,7 @@ abbrev pub IsNumber : List ℕ → Type 0
 IsNumber text = (sign digits : List ℕ) × (text ≡ sign ++ digits)
     × ((sign ≡ []) ⊎ (sign ≡ codes "-")) × (digits ≢ []) × IsTrue (list_all is_ascii_digit digits)
 
--- octets other than `"` between two of them
+-- octets other than `"` between two `"`
 abbrev pub IsString : List ℕ → Type 0
 IsString text = (body : List ℕ) × (text ≡ codes "\"" ++ body ++ codes "\"")
     × IsTrue (list_all (λ c. not (c == 34)) body)
@@ -105,8 +106,8 @@ abbrev pub is_remark : List ℕ → Bool
 is_remark [] = true
 is_remark (c ∷ cs) = not (is_newline c) && not (is_hyphen c && begins is_hyphen cs) && is_remark cs
 
--- A run of hyphens, a remark, and the next run or nothing. If no other run follows on the line,
--- the longest comment ends before the line does.
+-- A run of hyphens, a remark (see `is_remark`), and another run of hyphens or nothing. If no other
+-- run follows on the line, the longest comment extends to the newline or the end of the text.
 abbrev pub IsComment : List ℕ → Type 0
 IsComment text = (opening remark closing : List ℕ) × (text ≡ opening ++ remark ++ closing)
     × IsRunOfHyphens opening × IsTrue (is_remark remark) × ((closing ≡ []) ⊎ IsRunOfHyphens closing)
@@ -117,7 +118,7 @@ IsGap text = ((c : ℕ) × (text ≡ c ∷ []) × IsTrue (is_blank c)) ⊎ IsCom
 
 -- ---- lexemes and gaps
 
--- what a piece of the text is
+-- what a piece of the text is: a gap, or a lexeme of some kind
 pub data Part : Type 0 where
   gap : Part
   lexeme : TokenKind → Part
@@ -126,7 +127,7 @@ abbrev pub IsPart : Part → List ℕ → Type 0
 IsPart gap text = IsGap text
 IsPart (lexeme kind) text = IsLexeme kind text
 
--- whether the text begins with a `"` or `'` that isn't followed by another of its kind
+-- whether the text begins with a `"` or `'`, and doesn't contain the same quote again
 abbrev pub is_open_string : List ℕ → Bool
 is_open_string [] = false
 is_open_string (c ∷ cs) = (c == 34 || c == 39) && list_all (λ d. not (d == c)) cs

@@ -20,19 +20,21 @@ lexeme_after before kind text = record {
   line = line_after before;
 }
 
--- the fault of a text on line `line` at whose start no token or gap begins
+-- the fault if neither a lexeme nor a gap (a blank octet or a comment) begins at the start of
+-- `text`, which is on line `line`
 abbrev pub fault_on : ℕ → List ℕ → LexError
 fault_on line text = if is_open_string text then OpenString line else BadByte line
 
--- the first n octets of the text are the part, and no longer prefix is a part
+-- the first n octets of the text are a gap or a lexeme, as `part` says, and no longer prefix is
+-- one
 pub record IsLongest (part : Part) (n : ℕ) (text : List ℕ) : Type 0 where
   pub within : n ≤ length text
   pub is_one : IsPart part (take n text)
   pub longest : (other : Part) (m : ℕ) → n < m → m ≤ length text → IsPart other (take m text) → ⊥
 
 -- After the octets `before`, the text is a sequence of lexemes and gaps (blank octets and
--- comments), each the longest that can begin there. The items are its tokens, and last the fault
--- if the text breaks off before its end.
+-- comments), each the longest that can begin there. The items are its tokens, and last a fault if
+-- at some octet neither begins.
 pub data Lexes : List ℕ → List ℕ → List Item → Type 0 where
   ends : {before : List ℕ} → Lexes before [] []
   passes : {before text : List ℕ} {items : List Item} (n : ℕ) → IsLongest gap n text

@@ -1,5 +1,6 @@
 -- The tokens of a text, computed in the plain, slow way: every prefix of what is left is tried,
--- the longest first. Contracts see a `Lexer` as these. The law that this agrees with `Lexes` is in
+-- the longest first. A part is a prefix that is a lexeme or a gap (a blank octet or a comment).
+-- Contracts see a `Lexer` as the list of its items. The law that this agrees with `Lexes` is in
 -- proofs/.
 use Rattle.std.specs.Prelude.{◌≡◌, ℕ, zero, suc, pred, ◌+◌, ◌<◌, ◌≤◌, ◌⊎◌, not, get_or, Bool, true}
 use Rattle.std.specs.Prelude.{false, if◌then◌else◌, ◌&&◌, ◌||◌, ◌==◌, Option, Some, None, Ok, Err}
@@ -29,7 +30,7 @@ symbol_among [] c = C.Other
 symbol_among (symbol ∷ others) c =
     if c == symbol.0 then C.Symbol symbol.1 else symbol_among others c
 
--- what can begin with an octet
+-- the class of an octet: what can begin with it
 abbrev pub class_of : ℕ → Class
 class_of c =
     if is_blank c then C.Blank
@@ -98,7 +99,7 @@ symbol_part K.Colon (c ∷ cs) = then_some (c == 58 && is_sole (λ d. d == 61) c
 symbol_part K.Dot (c ∷ cs) = then_some (c == 46 && is_nothing cs) (lexeme K.Range)
 symbol_part _ (c ∷ cs) = None
 
--- the part that an octet of the class and the octets after it make, if they make one
+-- the part that an octet of the class and the octets `cs` after it are together, if they are one
 abbrev pub part_in : Class → List ℕ → Option Part
 part_in C.Blank cs = then_some (is_nothing cs) gap
 part_in C.Lowercase cs = then_some (is_word_rest cs) (lexeme K.Lower)
@@ -116,12 +117,13 @@ part_of (c ∷ cs) = part_in (class_of c) cs
 
 -- ---- the longest prefix
 
--- the part of this length if there is one, otherwise the shorter one
+-- the part with its length `n`, if it isn't `None`; otherwise `shorter`
 abbrev pub part_or_shorter : ℕ → Option Part → Option (Part × ℕ) → Option (Part × ℕ)
 part_or_shorter n None shorter = shorter
 part_or_shorter n (Some part) shorter = Some (part, n)
 
--- the part that the longest prefix of at most n octets makes, and its length
+-- the longest prefix of at most n octets that is a part, of a text with at least n octets: which
+-- part, and its length
 abbrev pub longest_prefix : ℕ → List ℕ → Option (Part × ℕ)
 longest_prefix zero text = None
 longest_prefix (suc n) text = part_or_shorter (suc n) (part_of (take (suc n) text))
@@ -140,25 +142,25 @@ lexeme_at at lines kind text = record {
   line = lines + 1;
 }
 
--- the items of a part, before those of the rest
+-- the items of a part (one for a lexeme, none for a gap), followed by the items `rest`
 abbrev pub part_items : ℕ → ℕ → Part → List ℕ → List Item → List Item
 part_items at lines gap octets rest = rest
 part_items at lines (lexeme kind) octets rest = Ok (lexeme_at at lines kind octets) ∷ rest
 
--- the items of the longest prefix that is a part, before those of the rest; or the fault, if no
--- prefix is one
+-- the items of a text whose longest prefix that is a part is this one, followed by the items
+-- `rest`; or only the fault, if no prefix is a part
 abbrev pub prefix_items : ℕ → ℕ → List ℕ → Option (Part × ℕ) → List Item → List Item
 prefix_items at lines text None rest = Err (fault_on (lines + 1) text) ∷ []
 prefix_items at lines text (Some prefix) rest =
     part_items at lines prefix.0 (take prefix.1 text) rest
 
--- the number of octets of the prefix after its first
+-- the number of octets of the prefix after its first octet; 0 for `None`
 abbrev pub prefix_rest_len : Option (Part × ℕ) → ℕ
 prefix_rest_len None = 0
 prefix_rest_len (Some prefix) = pred prefix.1
 
--- the items of a text of which the first `skipped` octets are read already; `at` octets, in which
--- `lines` lines end, are before it
+-- the items of a text without its first `skipped` octets, which are read already; the text comes
+-- after `at` octets, and `lines` of these are newlines
 unfoldable pub items_at : ℕ → ℕ → ℕ → List ℕ → List Item
 items_at skipped at lines [] = []
 items_at (suc skipped) at lines (c ∷ cs) = items_at skipped (at + 1) (lines + newlines (c ∷ [])) cs
@@ -170,7 +172,7 @@ items_at zero at lines (c ∷ cs) =
 
 -- ---- for private functions
 
--- the kind of literal that the digits and the letter make, if they make one
+-- the literal, by its kind, that the digits and the letter make, if they make one
 abbrev pub literal_of : List ℕ → ℕ → Option Part
 literal_of digits letter =
     if list_all is_ascii_hexdigit digits && is_hex_letter letter then Some (lexeme K.Hex)
@@ -182,14 +184,14 @@ pub record IsLongestPassing (test : List ℕ → Bool) (text : List ℕ) (n : �
   pub passes : test (take n text) ≡ true
   pub longest : (m : ℕ) → n < m → m ≤ length text → test (take m text) ≡ false
 
--- the prefix of n octets reads as the part, and no longer prefix reads as a part
+-- by `reading`, the prefix of n octets is `part`, and no longer prefix is a part
 pub record IsPartPrefix (reading : List ℕ
     → Option Part) (text : List ℕ) (part : Part) (n : ℕ) : Type 0 where
   pub within : n ≤ length text
   pub reads : reading (take n text) ≡ Some part
   pub longest : (m : ℕ) → n < m → m ≤ length text → reading (take m text) ≡ None
 
--- no prefix reads as a lexeme, and no prefix is a gap
+-- by `reading`, no prefix is a lexeme; `HasNoGap`: no prefix is a gap
 abbrev pub HasNoLexeme : (List ℕ → Option Part) → List ℕ → Type 0
 HasNoLexeme reading text = (kind : TokenKind) (m : ℕ)
     → reading (take m text) ≡ Some (lexeme kind) → ⊥
@@ -197,18 +199,19 @@ HasNoLexeme reading text = (kind : TokenKind) (m : ℕ)
 abbrev pub HasNoGap : List ℕ → Type 0
 HasNoGap text = (m : ℕ) → part_of (take m text) ≡ Some gap → ⊥
 
--- the result is the kind and the length of the lexeme that the longest prefix makes, or None if no
--- prefix makes a lexeme
+-- the result is the kind and the length of the longest prefix that is a part by `reading`, if that
+-- is a lexeme; `None` if no prefix is a lexeme
 abbrev pub IsLexemePrefix : (List ℕ → Option Part) → List ℕ → Option (TokenKind × ℕ) → Type 0
 IsLexemePrefix reading text None = HasNoLexeme reading text
 IsLexemePrefix reading text (Some prefix) = IsPartPrefix reading text (lexeme prefix.0) prefix.1
 
--- the first n octets, in which `lines` lines end, add no item
+-- the first n octets, with `lines` newlines among them, add no item
 abbrev pub Skips : List ℕ → ℕ → ℕ → Type 0
 Skips text n lines = (at before : ℕ)
     → items_at 0 at before text ≡ items_at 0 (at + n) (before + lines) (drop n text)
 
--- the first n octets make no difference to the test of a prefix of n octets or more
+-- the first n octets make no difference to the test of a prefix of n octets or more: it passes if
+-- and only if its octets after these do
 pub record GoesOn (test : List ℕ → Bool) (text : List ℕ) (n : ℕ) : Type 0 where
   pub within : n ≤ length text
   pub same : (k : ℕ) → test (take (n + k) text) ≡ test (take k (drop n text))
@@ -222,7 +225,8 @@ IsRemarkEnd (c ∷ d ∷ cs) = (c ≡ 10) ⊎ ((c ≡ 45) × (d ≡ 45))
 abbrev pub is_space_or_tab : ℕ → Bool
 is_space_or_tab c = c == 32 || c == 9
 
--- the index of the lowest bit that is set in the mask of a load, or 16, the number of its octets
+-- the index of the lowest bit that is set in `mask`; if none is, 16, the number of octets in a
+-- vector load
 abbrev pub first_set : ℕ → ℕ
 first_set mask = if mask == 0 then 16 else trailing_zeros w64 mask
 
@@ -251,7 +255,7 @@ pub record IsRunBetween (test : ℕ → Bool) (text : List ℕ) (from to : ℕ) 
 abbrev pub is_other : ℕ → ℕ → Bool
 is_other octet c = not (c == octet)
 
--- the result is the offset of the first such octet, or None if it doesn't occur
+-- the result is the offset of the first `octet` in the text, or None if it doesn't occur
 abbrev pub IsFirstIndex : ℕ → List ℕ → Option ℕ → Type 0
 IsFirstIndex octet text None = list_all (is_other octet) text ≡ true
 IsFirstIndex octet text (Some i) = (i < length text) × (get_or text i 0 ≡ octet)

@@ -1,4 +1,4 @@
--- Tokens as contracts see them: what a token says, without where its text is in memory.
+-- Tokens as contracts see them: with their octets, and not the address of these in memory.
 use Rattle.std.specs.Prelude.{ℕ, List, [], ◌∷◌, Option, Some, None, Result, Ok, Err}
 use Rattle.smi_text.specs.{declared.lexer.token.TokenKind.TokenKind, declared.lexer.token.Span.Span}
 use Rattle.smi_text.specs.{declared.lexer.token.Token.Token, declared.lexer.token.LexError.LexError}
@@ -14,7 +14,7 @@ pub record Lexeme : Type 0 where
 abbrev pub lexeme_of : Token → Lexeme
 lexeme_of t = record { kind = t.kind; span = t.span; text = t.text.now; line = t.line }
 
--- what one call of a lexer returns: a token, or the fault at which the text breaks off
+-- what one call of a lexer returns: a token, or the fault if it can't read one
 abbrev pub Item : Type 0
 Item = Result Lexeme LexError
 

@@ -12,8 +12,8 @@ use Rattle.smi_text.specs.{trees.Reserved.is_reserved, declared.trees.names.Name
 use Rattle.smi_text.specs.trees.Mark.{Mark, same_kind, same_text, MarksToken}
 use Rattle.smi_text.specs.lexer.Lexeme.{sign_text}
 
--- a condition on the token ahead: it is this word of the grammar, a name that begins with an
--- upper-case letter, or of this kind; or it isn't this word, or isn't of this kind
+-- a condition on the token ahead, the next to be read: it is this word of the grammar, a name that
+-- begins with an upper-case letter, or of this kind; or it isn't this word, or isn't of this kind
 pub data Ahead : Type 0 where
   a_word : List ℕ → Ahead
   a_name : Ahead
@@ -31,7 +31,7 @@ meets t (a_kind k) = same_kind t.kind k
 meets t (no_word w) = not (is_this_word w t)
 meets t (no_kind k) = not (same_kind t.kind k)
 
--- the token ahead, unless the text ends or breaks off here
+-- the token ahead; None at the end of the text, and at a fault
 abbrev pub token_ahead : List Item → Option Lexeme
 token_ahead [] = None
 token_ahead (Ok t ∷ items) = Some t
@@ -45,14 +45,14 @@ meets_any cs (Some t) = list_any (meets t) cs
 unfoldable pub begins : List Ahead → List Item → Bool
 begins cs items = meets_any cs (token_ahead items)
 
--- the items are the tokens that the marks say, followed by `rest`
+-- the items are one token for each mark, as that mark describes it, followed by `rest`
 abbrev pub ItemsMatch : List Mark → List Item → List Item → Type 0
 ItemsMatch [] items rest = items ≡ rest
 ItemsMatch (m ∷ ms) [] rest = ⊥
 ItemsMatch (m ∷ ms) (Ok t ∷ items) rest = MarksToken m t × ItemsMatch ms items rest
 ItemsMatch (m ∷ ms) (Err fault ∷ items) rest = ⊥
 
--- whether no token meets both conditions; those of different forms are compared in one order only
+-- true only if no token meets both conditions; some pairs are compared only the other way round
 abbrev pub half_apart : Ahead → Ahead → Bool
 half_apart (a_word v) (a_word w) = not (same_text v w)
 half_apart (a_word v) a_name = is_reserved v
@@ -64,21 +64,21 @@ half_apart (a_kind j) (no_kind k) = same_kind j k
 half_apart (a_kind j) (no_word w) = false
 half_apart _ _ = false
 
--- whether no token meets a condition of each of the two lists
+-- true only if no token meets both a condition of `cs` and a condition of `ds`
 abbrev pub apart : List Ahead → List Ahead → Bool
 apart cs ds = list_all (λ c. list_all (λ d. half_apart c d || half_apart d c) ds) cs
 
--- what is read, and the tokens after it
+-- what is read, and the items after it; None if the part can't be read
 abbrev pub Parsed : Type 0 → Type 0
 Parsed A = Option (A × List Item)
 
 pub record Format (A : Type 0) : Type 0 where
   pub read : List Item → Parsed A
-  -- what it begins with
+  -- what the part begins with: a token that meets one of these conditions
   pub first : List Ahead
-  -- what must not follow it
+  -- what must not follow the part: a token that meets one of these conditions
   pub stop : List Ahead
-  -- whether it may be read from no token
+  -- whether the part may be read from no token
   pub empty : Bool
 
 -- one token: what `pick` takes from it, if anything, and the items after it
@@ -95,7 +95,7 @@ abbrev pub exact : Ahead → TokenKind → List ℕ → Format (Unit {0})
 exact c k x =
     one (c ∷ []) (λ t. if same_kind t.kind k && same_text t.text x then Some tt else None)
 
--- a word of the grammar, and a sign
+-- a word of the grammar; `token`: a sign, which has only one text
 unfoldable pub word : List ℕ → Format (Unit {0})
 word w = exact (a_word w) Upper w
 
@@ -145,7 +145,7 @@ pair f g = record {
   empty = f.empty && g.empty;
 }
 
--- a part of the tree, made of its pieces
+-- a part of the tree that `to` makes of what `f` reads
 unfoldable pub shaped : {A B : Type 0} → (A → B) → Format A → Format B
 shaped to f = record {
   read = λ ts. option_map (λ p. (to p.0, p.1)) (f.read ts);
@@ -154,7 +154,7 @@ shaped to f = record {
   empty = f.empty;
 }
 
--- a part after tokens that aren't stored, and a part before such tokens
+-- a part after tokens that aren't stored; `before`: a part before such tokens
 unfoldable pub preceded : {A : Type 0} → Format (Unit {0}) → Format A → Format A
 preceded {A} w f = shaped (λ (p : (Unit {0}) × A). p.1) (pair w f)
 
@@ -181,7 +181,7 @@ either f g = record {
   empty = false;
 }
 
--- any number of one part, read as long as one begins; the number bounds the recursion
+-- any number of one part, read as long as the token ahead begins one; `n` bounds the recursion
 unfoldable pub read_many : {A : Type 0} → Format A → ℕ → List Item → Parsed (List A)
 read_many f zero ts = Some ([], ts)
 read_many f (suc n) ts =

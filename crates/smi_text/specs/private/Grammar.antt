@@ -1,5 +1,5 @@
--- The productions of the grammar as formats: each reads the part of the tree that its case of the
--- spelling spells.
+-- The productions of the grammar as formats: each reads back the part of a module tree that its
+-- case in `Spelling.antt` writes.
 use Rattle.std.specs.Prelude.{ℕ, ◌+◌, ◌-◌, ◌==◌, Bool, true, false, ◌&&◌, not, List, [], ◌∷◌, ◌++◌}
 use Rattle.std.specs.Prelude.{length, Option, Some, None, Ok, Err, codes, map, if◌then◌else◌}
 use Rattle.std.specs.Prelude.{option_and_then, option_map}
@@ -38,7 +38,7 @@ use Rattle.smi_text.specs.declared.trees.tree.Base.TheVariants as B
 use Rattle.smi_text.specs.declared.trees.tree.Refinement.{Refinement}
 use Rattle.smi_text.specs.declared.trees.tree.Refinement.TheVariants as R
 
--- pieces and parts
+-- ---- formats that productions share
 
 -- a clause: its word, and the string after it
 unfoldable pub clause : List ℕ → Format (List ℕ)
@@ -52,14 +52,14 @@ braced f = preceded (token K.OpenBrace) (before f (token K.CloseBrace))
 unfoldable pub parenthesized : {A : Type 0} → Format A → Format A
 parenthesized f = preceded (token K.OpenParen) (before f (token K.CloseParen))
 
--- a token that is stored unchanged, and passes a test
+-- a token, stored unchanged; `kept`: a token that is stored unchanged, if it passes a test
 abbrev pub kept_text : Lexeme → TokenText
 kept_text t = record { kind = t.kind; text = t.text }
 
 abbrev pub kept : List Ahead → (TokenKind → List ℕ → Bool) → Format TokenText
 kept cs ok = one cs (λ t. if ok t.kind t.text then Some (kept_text t) else None)
 
--- identifiers
+-- ---- identifiers
 
 unfoldable pub arc : Format (List ℕ)
 arc = text_where K.Number is_arc
@@ -84,11 +84,11 @@ later_part = shaped to_later_part (either arc (pair lower (parenthesized arc)))
 unfoldable pub identifier : Format (List Part)
 identifier = braced (some_of part later_part)
 
--- what a definition ends with
+-- what most definitions end with: `::=` and an identifier value
 unfoldable pub value : Format (List Part)
 value = preceded (token K.Assign) identifier
 
--- types
+-- ---- types
 
 unfoldable pub bound : Format TokenText
 bound = kept (a_kind K.Number ∷ a_kind K.Hex ∷ a_kind K.Binary ∷ []) is_bound
@@ -101,7 +101,7 @@ range =
 unfoldable pub ranges : Format (List Range)
 ranges = separated K.Bar range
 
--- a name with a number of any sign
+-- a name with a number in parentheses, which may be negative
 unfoldable pub named_number : Format NamedNumber
 named_number =
     shaped (λ p. record { name = p.0; number = p.1 })
@@ -156,7 +156,7 @@ syntax_type = shaped to_syntax (either (preceded (word
 unfoldable pub field : Format Field
 field = shaped (λ p. record { label = p.0; syntax = p.1 }) (pair lower syntax_type)
 
--- clauses
+-- ---- clauses
 
 unfoldable pub names : Format (List Name)
 names = braced (separated K.Comma lower)
@@ -177,7 +177,7 @@ index_parts xs implied = record { names = xs; implied = implied }
 unfoldable pub with_names : List Name → Parsed IndexParts → Parsed IndexParts
 with_names xs r = option_map (λ p. (index_parts (xs ++ p.0.names) p.0.implied, p.1)) r
 
--- the names one after the other; the number bounds the recursion
+-- the names of an INDEX, the last one with or without IMPLIED; `n` bounds the recursion
 unfoldable pub read_index : ℕ → List Item → Parsed IndexParts
 read_index zero ts = None
 read_index (suc n) ts =
@@ -210,7 +210,7 @@ index =
     (codes "AUGMENTS"))
     (braced lower)))
 
--- raw runs
+-- ---- tokens that are stored as they are
 
 unfoldable pub before_assign : Format TokenText
 before_assign = kept (no_kind K.Assign ∷ []) (λ k x. not (same_kind k K.Assign))
@@ -244,7 +244,7 @@ balanced_tokens = record {
   empty = true;
 }
 
--- definitions
+-- ---- definitions
 
 unfoldable pub revision : Format Revision
 revision =
@@ -412,7 +412,7 @@ definition =
     (either (pair (lined lower) lower_definition)
     (either (pair (lined name) upper_definition) (pair (lined macro_name) macro_definition)))
 
--- modules
+-- ---- modules
 
 unfoldable pub imported_symbol : Format TokenText
 imported_symbol = kept (a_kind K.Lower ∷ a_name ∷ macro_words) is_symbol
@@ -428,7 +428,7 @@ imports = preceded (word (codes "IMPORTS")) (before (many import_clause) (token 
 unfoldable pub heading : Format (List Part)
 heading = braced (many part)
 
--- what opens the body of a module
+-- the tokens `DEFINITIONS ::= BEGIN`
 unfoldable pub opening : Format (Unit {0})
 opening = preceded (word (codes "DEFINITIONS")) (preceded (token K.Assign) (word (codes "BEGIN")))
 

@@ -1,4 +1,4 @@
--- A set of names, each after a number that is computed from it.
+-- A set of names. Each is stored as a pair: a number that is computed from it, and the name.
 use Rattle.std.specs.Prelude.{◌+◌, ◌-◌, ℕ, Bool, List, [], ◌∷◌, get_or, length, nat_lt}
 use Rattle.std.specs.Prelude.{if◌then◌else◌}
 use Rattle.std.specs.{Int.w64, Int.from_le_bytes, Borrow.Bor, Cmp.Lexicographic.slice_cmp}

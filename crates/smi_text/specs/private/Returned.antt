@@ -19,13 +19,13 @@ abbrev pub is_memory : Stop → Bool
 is_memory Memory = true
 is_memory _ = false
 
--- the step returns the part that is read, and leaves the tokens after it; or it stops, because no
--- part can be read or memory ran out
+-- If the grammar reads `r` from the tokens, a step of the parser returns the part of the tree in
+-- `r` and leaves the items `rest` after it. It stops only if `r` is None or memory ran out.
 abbrev pub ReturnsReading : {A : Type 0} → Result A Stop → List Item → Parsed A → Type 0
 ReturnsReading (Ok x) rest r = r ≡ Some (x, rest)
 ReturnsReading (Err e) rest r = is_memory e ≡ false → r ≡ None
 
--- the error that reports a stop
+-- the error that a stop of the parser is reported as
 abbrev pub error_of : Stop → ParseError
 error_of (Syntax line) = E.Syntax line
 error_of (Lex fault) = E.Lex fault
@@ -33,11 +33,11 @@ error_of Memory = E.Memory
 
 -- ---- reading a whole module, step by step
 
--- the text of the token ahead
+-- the text of the token ahead; empty if no token is ahead
 abbrev pub text_ahead : List Item → List ℕ
 text_ahead items = unwrap_or (option_map (λ t. t.text) (token_ahead items)) []
 
--- the result is the name of the definition that is ahead, or None if no definition is
+-- the result is the text of the token ahead if that begins a definition, otherwise None
 abbrev pub IsLabelAhead : Option (Bor (List ℕ)) → List Item → Type 0
 IsLabelAhead None tokens = begins definition.first tokens ≡ false
 IsLabelAhead (Some x) tokens = (begins definition.first tokens ≡ true) × (x.now ≡ text_ahead tokens)
@@ -59,7 +59,8 @@ pub record IsDefinitionOn (line : ℕ) (tokens : List Item) : Type 0 where
   pub read : definition.read tokens ≡ Some (def, rest)
   pub on_line : def.line ≡ line
 
--- why no new definition is ahead; `defined` says that its name is defined already
+-- the error of a step that reads a new definition: its name is defined already, which `defined`
+-- says, or no definition can be read, or memory ran out
 abbrev pub NewDefinitionFault : ParseError → (defined : Bool) → List Item → Type 0
 NewDefinitionFault (E.DoubleName line) defined tokens =
     (defined ≡ true) × IsDefinitionOn line tokens
@@ -98,14 +99,15 @@ ModulesFault (E.DoubleName line) tokens = DefinesAgain line (tokens_of tokens)
 ModulesFault E.Memory tokens = Unit {0}
 ModulesFault _ tokens = (ms : List Module) → file.read tokens ≡ Some (ms, []) → ⊥
 
--- what may be reported if the reading stopped at a fault of the lexer: the fault at which the text
--- breaks off, or wrong syntax
+-- the error may be reported if the parser stopped at a fault of the lexer: it is the fault with
+-- which the lexer stops in the text, or it is wrong syntax
 abbrev pub IsLexFault : ParseError → List ℕ → Type 0
 IsLexFault (E.Lex fault) text = BreaksOff fault text
 IsLexFault (E.Syntax line) text = Unit {0}
 IsLexFault _ text = ⊥
 
--- what may be reported for the error with which the reading stopped: any other error as it is
+-- `error` may be reported if the parser stopped with this error: a fault of the lexer as above,
+-- and any other error as it is
 abbrev pub IsCauseOf : ParseError → ParseError → List ℕ → Type 0
 IsCauseOf (E.Lex fault) error text = IsLexFault error text
 IsCauseOf stop error text = error ≡ stop

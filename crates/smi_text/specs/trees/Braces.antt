@@ -1,5 +1,6 @@
--- Balanced braces, as X.208 and RFC 2578 mean them for a value or a type between braces that is
--- stored as tokens; and the same by counting, as the law `balanced_braces` says.
+-- Balanced braces, for a value or a type between braces that is stored as tokens (X.208, RFC
+-- 2578): as a relation, `IsBalanced`, and by counting. The law `balanced_braces` says that both
+-- agree.
 use Rattle.std.specs.Prelude.{◌≡◌, ◌≢◌, ℕ, ◌==◌, Bool, ◌&&◌, nat_le, List, [], ◌∷◌, ◌++◌, map}
 use Rattle.std.specs.{Prelude.count_by, List.list_all}
 use Rattle.smi_text.specs.declared.lexer.token.TokenKind.TheVariants.{OpenBrace, CloseBrace}
@@ -15,7 +16,7 @@ pub data IsBalanced : List TokenText → Type 0 where
       → last.kind ≡ CloseBrace → IsBalanced inner → IsBalanced rest
       → IsBalanced (first ∷ (inner ++ last ∷ rest))
 
--- the number of tokens that open a brace, and of those that close one
+-- the number of tokens that open a brace; `closing_braces` counts those that close one
 abbrev pub opening_braces : List TokenText → ℕ
 opening_braces xs = count_by (λ x. same_kind x.kind OpenBrace) xs
 

@@ -1,10 +1,10 @@
--- Module trees and their spelling without lines.
+-- Module trees, and the marks that describe their tokens, without lines.
 use Rattle.std.specs.Prelude.{map, option_map}
 use Rattle.smi_text.specs.{trees.Mark.Mark, trees.Mark.spelled, trees.Mark.on_line}
 use Rattle.smi_text.specs.{declared.trees.tree.Module.Module, declared.trees.tree.Def.Def}
 use Rattle.smi_text.specs.declared.trees.tree.Import.{Import}
 
--- what the mark says of a token, without its line
+-- the mark without the line that it requires
 abbrev pub plain : Mark → Mark
 plain (spelled k x ok) = spelled k x ok
 plain (on_line n m) = plain m

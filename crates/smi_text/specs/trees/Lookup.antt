@@ -9,11 +9,11 @@ use Rattle.smi_text.specs.declared.trees.tree.DefKind.{DefKind}
 use Rattle.smi_text.specs.declared.trees.tree.DefKind.TheVariants as D
 use Rattle.smi_text.specs.declared.trees.tree.Part.TheVariants as P
 
--- whether the definition is of the name
+-- whether definition `d` defines `name`
 abbrev pub defines : List ℕ → Def → Bool
 defines name d = same_text d.label.octets name
 
--- whether the name is one of the symbols of the clause
+-- whether `name` is one of the symbols of clause `i`
 abbrev pub is_imported_by : List ℕ → Import → Bool
 is_imported_by name i = list_any (λ s. same_text s.text name) i.symbols
 
@@ -21,7 +21,7 @@ is_imported_by name i = list_any (λ s. same_text s.text name) i.symbols
 abbrev pub import_clauses : Module → List Import
 import_clauses m = unwrap_or m.imports []
 
--- the first of the definitions that defines the name, and the first of the clauses that imports it
+-- the first definition of `ds` that defines `name`, and the first clause of `is` that imports it
 abbrev pub first_definition : List ℕ → List Def → Option Def
 first_definition name ds = find (defines name) ds
 
@@ -32,7 +32,7 @@ first_import name is = find (is_imported_by name) is
 abbrev pub definition_of : Module → List ℕ → Option Def
 definition_of m name = first_definition name m.defs
 
--- the FROM clause by which a module imports a name: the first in the text
+-- the FROM clause that imports `name` into module `m`: the first in the text
 abbrev pub import_of : Module → List ℕ → Option Import
 import_of m name = first_import name (import_clauses m)
 

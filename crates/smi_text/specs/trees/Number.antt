@@ -6,12 +6,12 @@ use Rattle.smi_text.specs.{declared.lexer.token.TokenKind.TokenKind, trees.Mark.
 use Rattle.smi_text.specs.{trees.Mark.same_kind, trees.Reserved.is_reserved, trees.Reserved.macros}
 use Rattle.smi_text.specs.declared.lexer.token.TokenKind.TheVariants as K
 
--- the value of a digit to a base up to 16, in either case
+-- the value of the digit `c` in a base up to 16; a letter may be in either case
 abbrev pub digit_value : ℕ → ℕ
 digit_value c = if nat_le c 57 then c - 48 else (if nat_le c 70 then c - 55 else c - 87)
 
--- the number that the digits stand for, each with its weight, a power of the base; no digits stand
--- for zero
+-- the number that digits write: the sum of their values, each times a power of the base; 0 for an
+-- empty list
 unfoldable pub number_value : ℕ → List ℕ → ℕ
 number_value base [] = 0
 number_value base (c ∷ cs) = digit_value c * base ^ length cs + number_value base cs
@@ -28,7 +28,8 @@ magnitude x = number_value 10 (if is_negative x then drop 1 x else x)
 unfoldable pub is_arc : List ℕ → Bool
 is_arc x = nat_le (magnitude x) (if is_negative x then 0 else 4294967295)
 
--- whether it can be any other number: -9223372036854775808 to 18446744073709551615
+-- whether a number token can be a number outside identifiers: -9223372036854775808 to
+-- 18446744073709551615
 unfoldable pub is_number : List ℕ → Bool
 is_number x = nat_le (magnitude x)
     (if is_negative x then 9223372036854775808 else 18446744073709551615)
@@ -50,7 +51,8 @@ is_bound k x =
 
 -- ---- values
 
--- the value of a number token, subtracted from 0 if a hyphen is before its digits
+-- the value of a number token: the number that its digits write, subtracted from 0 if a hyphen is
+-- before them
 abbrev pub signed_value : List ℕ → ℤ
 signed_value x = if is_negative x then pos 0 -ℤ pos (magnitude x) else pos (magnitude x)
 
@@ -60,15 +62,15 @@ bound_value K.Hex x = pos (number_value 16 (literal_digits x))
 bound_value K.Binary x = pos (number_value 2 (literal_digits x))
 bound_value _ x = signed_value x
 
--- the number of an identifier that the token writes, or None if it writes none
+-- the number that a number token writes, if it can be a number of an identifier
 abbrev pub arc_in : List ℕ → Option ℕ
 arc_in x = then_some (is_arc x) (magnitude x)
 
--- the number outside identifiers that the token writes, or None if it writes none
+-- the number that a number token writes, if it can be a number outside identifiers
 abbrev pub stated_number : List ℕ → Option ℤ
 stated_number x = then_some (is_number x) (signed_value x)
 
--- the end of a range that the token writes, or None if it writes none
+-- the value that a token writes, if it can be an end of a range
 abbrev pub bound_in : TokenKind → List ℕ → Option ℤ
 bound_in k x = then_some (is_bound k x) (bound_value k x)
 

@@ -1,6 +1,6 @@
--- The spelling of a list of module trees: one case for each production of the grammar, with the
--- marks of its tokens in order. In the comments a word stands for itself, and UPPER, LOWER, NUM,
--- HEX, BIN and STR for a token of that kind (RFC 2578, sections 3 to 8; RFC 2579; RFC 2580).
+-- The spelling of a list of module trees, as marks: each describes one token. There is one case
+-- for each production of the grammar. In the comments a word stands for itself, and UPPER, LOWER,
+-- NUM, HEX, BIN and STR for a token of that kind (RFC 2578, sections 3 to 8; RFC 2579; RFC 2580).
 use Rattle.std.specs.Prelude.{ℕ, Bool, true, false, ◌&&◌, not, List, [], ◌∷◌, ◌++◌, Option, Some}
 use Rattle.std.specs.Prelude.{None, codes, map, if◌then◌else◌}
 use Rattle.std.specs.List.{flat_map}
@@ -33,12 +33,12 @@ use Rattle.smi_text.specs.declared.trees.tree.Base.TheVariants as B
 use Rattle.smi_text.specs.declared.trees.tree.Refinement.{Refinement}
 use Rattle.smi_text.specs.declared.trees.tree.Refinement.TheVariants as R
 
--- tokens
+-- ---- tokens
 
 abbrev pub word : List ℕ → Mark
 word w = spelled K.Upper w true
 
--- an UPPER that is not a reserved word
+-- an UPPER that isn't a reserved word
 abbrev pub upper : Name → Mark
 upper x = spelled K.Upper x.octets (not (is_reserved x.octets))
 
@@ -52,11 +52,11 @@ lower_text x = spelled K.Lower x true
 abbrev pub string : List ℕ → Mark
 string x = spelled K.Text x true
 
--- NUM of an identifier
+-- NUM in an identifier, from 0 to 4294967295
 abbrev pub arc : List ℕ → Mark
 arc x = spelled K.Number x (is_arc x)
 
--- any other NUM
+-- NUM outside identifiers, from -9223372036854775808 to 18446744073709551615
 abbrev pub number : List ℕ → Mark
 number x = spelled K.Number x (is_number x)
 
@@ -64,7 +64,7 @@ number x = spelled K.Number x (is_number x)
 abbrev pub bound : TokenText → Mark
 bound x = spelled x.kind x.text (is_bound x.kind x.text)
 
--- marks that no tokens meet, for a part that has no spelling
+-- a list of a mark that no token matches, for a part of a tree that can't be written
 abbrev pub nothing : List Mark
 nothing = spelled K.Upper [] false ∷ []
 
@@ -88,7 +88,7 @@ of_some f g (x ∷ xs) = f x ++ flat_map g xs
 abbrev pub of_list : {A : Type 0} → Mark → (A → List Mark) → List A → List Mark
 of_list m f = of_some f (λ y. m ∷ f y)
 
--- identifiers
+-- ---- identifiers
 
 -- LOWER "(" NUM ")"
 abbrev pub of_named_arc : NamedNumber → List Mark
@@ -109,7 +109,7 @@ of_later_part (P.NamedNumber n) = of_named_arc n
 abbrev pub of_value : List Part → List Mark
 of_value ps = sign K.Assign ∷ braces (of_some of_part of_later_part ps)
 
--- types
+-- ---- types
 
 -- bound [ ".." bound ]
 abbrev pub of_range : Range → List Mark
@@ -145,7 +145,7 @@ of_syntax (T.Simple t) = of_simple_type t
 abbrev pub of_field : Field → List Mark
 of_field f = lower f.label ∷ of_syntax f.syntax
 
--- clauses
+-- ---- clauses
 
 abbrev pub of_clause : List ℕ → List ℕ → List Mark
 of_clause w x = word w ∷ string x ∷ []
@@ -172,7 +172,7 @@ abbrev pub of_index : Index → List Mark
 of_index (I.Own p) = word (codes "INDEX") ∷ braces (of_index_names p.names p.implied)
 of_index (I.Augments x) = word (codes "AUGMENTS") ∷ braces (lower x ∷ [])
 
--- tokens stored as they are, between braces
+-- tokens stored as they are, between braces; `nothing` if their own braces aren't balanced
 abbrev pub of_balanced : List TokenText → List Mark
 of_balanced xs = if has_balanced_braces xs then map
     (λ x. spelled x.kind x.text true) xs else nothing
@@ -186,7 +186,7 @@ abbrev pub of_raw_body : List TokenText → List Mark
 of_raw_body xs = flat_map (λ x. spelled x.kind x.text (not
     (same_kind x.kind K.Upper && same_text x.text (codes "END"))) ∷ []) xs
 
--- definitions
+-- ---- definitions
 
 abbrev pub of_revision : Revision → List Mark
 of_revision r = word (codes "REVISION") ∷ string r.date ∷ word
@@ -248,7 +248,7 @@ label x (D.Macro xs) =
     spelled K.Upper x.octets (if is_macro x.octets then true else not (is_reserved x.octets))
 label x _ = lower x
 
--- what a name is defined as
+-- a definition without its name
 abbrev pub of_kind : DefKind → List Mark
 of_kind (D.ObjectIdentifier v) = word (codes "OBJECT") ∷ word (codes "IDENTIFIER") ∷ of_value v
 of_kind (D.ModuleIdentity d) = of_module_identity d
@@ -272,7 +272,7 @@ of_kind (D.Macro xs) =
 abbrev pub of_def : Def → List Mark
 of_def d = on_line d.line (label d.label d.kind) ∷ of_kind d.kind
 
--- modules
+-- ---- modules
 
 -- LOWER | UPPER | macro
 abbrev pub imported_symbol : TokenText → Mark

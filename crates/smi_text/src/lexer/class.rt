@@ -22,7 +22,7 @@ pub enum Class {
     Quote,
     /// A hexadecimal or binary literal.
     Apostrophe,
-    /// The symbol, or a longer one.
+    /// This symbol, or a longer one that begins with it.
     Symbol(TokenKind),
     /// Nothing.
     Other,

@@ -5,10 +5,10 @@ ghost use Rattle.smi_text.specs.lexer.LongestMatch.{IsRunIn, first_set, is_space
 
 use std::simd::prelude::*;
 
-/// The number of octets in one load.
+/// The number of octets that one vector load reads.
 pub const LANES: usize = 16;
 
-/// Returns the index of the lowest bit that is set in the mask of a load, or `LANES` if none is.
+/// Returns the index of the lowest bit that is set in `mask`, or `LANES` if none is.
 #[inline(always)]
 fn first_set(mask: u64) -> usize
     ensures { result ≡ first_set mask }
@@ -28,7 +28,8 @@ pub fn word_run(text: &[u8], at: usize) -> usize
     ensures { IsRunIn is_word_octet text.now at result }
 {
     let octets = u8x16::from_slice(&text[at..]);
-    // With bit 0x20 set, a letter minus `a` is below 26; a digit minus `0` is below 10.
+    // With bit 0x20 set and `a` subtracted, letters and no other octets are below 26. With `0`
+    // subtracted, digits and no other octets are below 10.
     let letters = (octets | u8x16::splat(0x20)) - u8x16::splat(b'a');
     let digits = octets - u8x16::splat(b'0');
     let neither = letters.simd_ge(u8x16::splat(26)) & digits.simd_ge(u8x16::splat(10));

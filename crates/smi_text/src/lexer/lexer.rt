@@ -1,5 +1,5 @@
-//! The lexer: it returns the tokens of a text one after the other. If the text breaks off, the
-//! fault comes last.
+//! The lexer: it returns the tokens of a text one after the other. If it can't read the text to
+//! its end, the fault comes last.
 ghost use Rattle.std.specs.Prelude.{◌≡◌, ℕ, List, []};
 ghost use Rattle.smi_text.specs.lexer.Lexes.{AreInOrder, Lexes, fault_on};
 ghost use Rattle.smi_text.specs.lexer.Token.{Item, tokens_of};
@@ -8,15 +8,15 @@ use crate::lexer::scan::{gaps_at, is_open, lexeme_at, lines_in};
 use crate::lexer::token::{LexError, Span, Token};
 use std::marker::Model;
 
-/// An iterator over the tokens of a module text. At an octet that isn't blank and at which neither
-/// a token nor a comment begins, it returns the fault and then ends. It doesn't allocate.
+/// An iterator over the tokens of a module text. If neither a token, a blank nor a comment begins
+/// at an octet, it returns the fault there, and then ends. It doesn't allocate.
 #[derive(Drop)]
 pub struct Lexer<'a> {
     /// The octets that aren't read yet.
     rest: &'a [u8],
-    /// The number of octets read.
+    /// The number of octets before `rest`, unless that is empty.
     at: usize,
-    /// The number of lines that have ended in them.
+    /// The number of newlines among those octets.
     lines: usize,
 }
 
@@ -36,8 +36,8 @@ impl<'a> Model for Lexer<'a> {
 impl<'a> Lexer<'a> {
     /// Returns the lexer of `text`, a whole module text.
     pub fn new(text: &'a [u8]) -> Self
-        // The lexer returns the text's tokens, and then the fault if the text breaks off before
-        // its end.
+        // The lexer returns the text's tokens, and then the fault if it can't read the text to its
+        // end.
         ensures tokens { Lexes [] text.now result }
         // A text has no other list of tokens.
         ensures only { (items : List Item) → Lexes [] text.now items → items ≡ result }
@@ -105,7 +105,7 @@ fn fault_at(text: &[u8], line: usize) -> LexError
     }
 }
 
-/// A text has one list of tokens, and at most one fault.
+/// A text has only one list of items: its tokens, and perhaps a fault.
 ///
 /// A law: the call does nothing, and its caller may use what it ensures.
 #[tactic(auto, using(crate::proofs::LexerLaws::one_list))]

@@ -33,13 +33,14 @@ fn is_word_octet(octet: u8) -> bool
     octet.is_ascii_alphanumeric() || octet == b'_'
 }
 
-/// Returns the offset at which the run of letters, digits and `_` from offset `from` on ends.
+/// Returns the offset after the run of letters, digits and `_`, perhaps empty, that begins at
+/// offset `from`.
 fn word_run_end(text: &[u8], from: usize) -> usize
     requires { from ≤ length text.now }
     ensures { IsRunBetween is_word_octet text.now from result }
 {
     let mut n = from;
-    // Most words are shorter than a load.
+    // Most runs end within the first load of `LANES` octets.
     'loads: while text.len() - n >= LANES {
         let run = word_run(text, n);
         n += run;
@@ -69,14 +70,14 @@ fn word_rest_len(text: &[u8]) -> usize
     n
 }
 
-/// Returns the offset at which the run of letters, digits and `_` after a hyphen ends. The run
-/// begins at offset `from`.
+/// Returns what `word_run_end` does, faster if one octet and then a hyphen follow. `from` is the
+/// offset after a hyphen.
 #[inline(always)]
 fn part_end(text: &[u8], from: usize) -> usize
     requires { from ≤ length text.now }
     ensures { IsRunBetween is_word_octet text.now from result }
 {
-    // If the run is one octet before the next hyphen, a load would take twice as long.
+    // A run of one octet before the next hyphen needs no load, which would take twice as long.
     if from + 1 < text.len() && text[from + 1] == b'-' && is_word_octet(text[from]) {
         return from + 1;
     }
@@ -246,12 +247,14 @@ pub fn lexeme_at(text: &[u8]) -> Option<(TokenKind, usize)>
     Some((kind, len + 1))
 }
 
-/// Returns an offset up to which there are only spaces and tabs from `from` on. More may follow.
+/// Skips spaces and tabs from offset `from` on, and returns the offset after those skipped. More
+/// spaces and tabs may follow.
 fn blanks_end(text: &[u8], from: usize) -> usize
     requires { from ≤ length text.now }
     ensures { ArePassedBetween is_space_or_tab text.now from result }
 {
-    // A single space is mostly followed by a lexeme; more spaces mostly come after a newline.
+    // After a single space mostly a lexeme follows, and a load would skip nothing; after a newline
+    // mostly more spaces follow.
     if from < text.len() && text[from] != b' ' {
         return from;
     }
@@ -316,7 +319,7 @@ fn newlines_in(text: &[u8]) -> usize
     Iterator::count(memchr_iter(b'\n', text))
 }
 
-/// Returns whether `text` begins with a `"` or `'` that isn't followed by another of its kind.
+/// Returns whether `text` begins with a `"` or `'`, and doesn't contain the same quote again.
 pub fn is_open(text: &[u8]) -> bool
     ensures { result ≡ is_open_string text.now }
 {

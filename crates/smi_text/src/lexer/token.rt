@@ -61,7 +61,7 @@ pub struct Span {
     pub end: usize,
 }
 
-/// A lexeme of the source, which it borrows.
+/// A token of a source text. It borrows its octets from the text.
 #[derive(Clone, Copy, Debug, PartialEq, Eq)]
 pub struct Token<'a> {
     pub kind: TokenKind,
@@ -77,7 +77,8 @@ pub struct Token<'a> {
 /// Why the lexer stopped. `line` is the line, from 1, on which the faulty lexeme begins.
 #[derive(Clone, Copy, Debug, PartialEq, Eq, Error)]
 pub enum LexError {
-    /// No lexeme begins with the octet, or it is a `'` whose literal is malformed.
+    /// An octet isn't blank and begins neither a lexeme nor a comment. It may be the first `'` of
+    /// a malformed literal.
     #[error("line {line}: no token begins here")]
     BadByte { line: usize },
     /// A `"` or `'` has no closing one.

@@ -78,7 +78,7 @@ pub struct Items<T> {
     items: Vec<T>,
 }
 
-// Written by hand, as for `Text`.
+// Written by hand, for the same reason as the `drop` of `Text`.
 impl<T: Drop> Drop for Items<T> {
     fn drop(self) {
         let Items { items: _items } = self;

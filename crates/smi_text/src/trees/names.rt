@@ -4,8 +4,8 @@ ghost use Rattle.smi_text.specs.trees.Word.{is_word};
 
 use crate::trees::items::Text;
 
-/// A name: a letter, and then letters, digits, `_`, and hyphens that one of the others follows
-/// (RFC 2578, section 3.1).
+/// A name: a letter, and then letters, digits, `_`, and hyphens that each have a letter, a digit
+/// or `_` after them (RFC 2578, section 3.1).
 #[derive(Debug, Drop)]
 pub struct Name {
     /// Its octets.

@@ -7,7 +7,7 @@ ghost use Rattle.smi_text.specs.trees.Number as number;
 
 use crate::lexer::TokenKind;
 
-/// Returns the value of a digit to a base up to 16, in either case.
+/// Returns the value of a digit in a base up to 16; a letter may be in either case.
 fn digit_value(digit: u8) -> u8
     ensures value { result ≡ number.digit_value digit }
     ensures octet { result < 256 }
@@ -21,7 +21,7 @@ fn digit_value(digit: u8) -> u8
     }
 }
 
-/// Returns the number that `digits` write to the base `base`, if it is at most `most`.
+/// Returns the number that `digits` write in base `base`, if it is at most `most`.
 #[tactic(auto, using(crate::proofs::Digits::worths, std::proofs::lemmas::Grind::common_steps))]
 fn value_up_to(base: u64, digits: &[u8], most: u64) -> Option<u64>
     requires { 0 < base }
@@ -49,8 +49,8 @@ fn digits(text: &[u8]) -> &[u8]
     if is_negative(text) { &text[1..] } else { text }
 }
 
-/// Returns the number of an identifier that a number token writes, 0 to 4294967295 (RFC 2578,
-/// section 3.5), or `None` if it writes none. `-0` is 0.
+/// Returns the number that a number token writes, if it can be a number of an identifier: 0 to
+/// 4294967295 (RFC 2578, section 3.5). `-0` is 0.
 #[tactic(auto, unfolding(crate::specs::trees::Number::is_arc))]
 pub fn arc(text: &[u8]) -> Option<u32>
     ensures { result ≡ number.arc_in text.now }

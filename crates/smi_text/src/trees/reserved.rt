@@ -93,7 +93,7 @@ fn has_upper_second(text: &[u8]) -> bool
 pub fn is_reserved(text: &[u8]) -> bool
     ensures { result ≡ words.is_reserved text.now }
 {
-    // Each reserved word has such a letter there, and most names don't.
+    // Each reserved word has an upper-case second letter, and most names don't.
     if !has_upper_second(text) {
         return false;
     }

@@ -24,7 +24,7 @@ pub struct Module {
     pub defs: Items<Def>,
 }
 
-// Written by hand, as for `Text`: an owner of a module calls this `drop`, and that of no part.
+// Written by hand, so that an owner of a module calls this `drop`, and not one for each field.
 impl Drop for Module {
     fn drop(self) {
         let Module {
@@ -99,9 +99,9 @@ pub enum DefKind {
     ObjectGroup(Group),
     /// NOTIFICATION-GROUP (RFC 2580, section 4).
     NotificationGroup(Group),
-    /// MODULE-COMPLIANCE (RFC 2580, section 5), its clauses raw.
+    /// MODULE-COMPLIANCE (RFC 2580, section 5), its clauses stored as tokens.
     ModuleCompliance(RawDefinition),
-    /// AGENT-CAPABILITIES (RFC 2580, section 6), its clauses raw.
+    /// AGENT-CAPABILITIES (RFC 2580, section 6), its clauses stored as tokens.
     AgentCapabilities(RawDefinition),
     /// TEXTUAL-CONVENTION (RFC 2579, section 3).
     TextualConvention(TextualConvention),
@@ -109,9 +109,9 @@ pub enum DefKind {
     TypeAssignment(TypeAssignment),
     /// The columns of a row, SEQUENCE (RFC 2578, section 7.1.12).
     Sequence(Items<Field>),
-    /// CHOICE, raw.
+    /// CHOICE, stored as tokens.
     Choice(Items<TokenText>),
-    /// MACRO, raw.
+    /// MACRO, stored as tokens.
     Macro(Items<TokenText>),
 }
 
@@ -243,7 +243,7 @@ pub struct ObjectType {
 pub enum Index {
     /// INDEX.
     Own(IndexParts),
-    /// AUGMENTS, by the row whose INDEX is used.
+    /// AUGMENTS. Holds the name of the row whose INDEX is used.
     Augments(Name),
 }
 
@@ -289,7 +289,7 @@ pub struct TextualConvention {
     pub syntax: Syntax,
 }
 
-/// A type, with a tag before it if it has one, as the base types of RFC 2578's own module do.
+/// A type that is assigned a name, and its tag if it has one, as some base types in RFC 2578 have.
 #[derive(Debug, Drop)]
 pub struct TypeAssignment {
     /// The number of `[APPLICATION n] IMPLICIT`.
@@ -331,7 +331,7 @@ pub enum Base {
     ObjectIdentifier,
     /// BITS.
     Bits,
-    /// Any other type, by its name: `Counter32` too, as modules import it.
+    /// Any other type, by its name; this includes `Counter32`, which modules import.
     Named(Name),
 }
 

@@ -8,7 +8,7 @@ use Rattle.smi_text.proofs.names.add.Goals as goal
 cond-or : (b r : Bool) → cond b true r ≡ (b || r)
 cond-or b r = grind (arith, common_steps)
 
--- if the numbers are equal whenever the texts are, then they make no difference to whether the texts are equal
+-- if equal texts have equal numbers, then numbers and texts together are equal if and only if the texts are
 same_then : (first texts : Ordering) → (is_eq texts ≡ true → is_eq first ≡ true) → is_eq (ordering_then first texts) ≡ is_eq texts
 same_then first texts agree = grind (arith, common_steps)
 

@@ -1,4 +1,4 @@
--- If the scope has the name already, its meaning stays; otherwise the name is entered.
+-- If the scope has the name already, its entry stays; otherwise the name is entered with the new entry.
 use Rattle.std.proofs.Common.{rules, ◌≡◌, [], ◌∷◌, ◌++◌, length, refl}
 use Rattle.smi_names.specs.meaning.Scopes.{index_in, decision_of}
 use Rattle.smi_names.proofs.Scopes.{KnowsMore-there, KnowsMore-entered, had_index, had_none, put_absent}

@@ -1,4 +1,4 @@
--- What decides a name, if anything does, says whether the module has it.
+-- If something decides the name's meaning, then the module defines or imports the name if and only if a definition or an import decides it.
 use Rattle.std.proofs.Common.{Some, ◌∙◌}
 use Rattle.smi_names.specs.{meaning.Meaning.module_named, meaning.Scopes.decision_of}
 use Rattle.smi_names.proofs.Imports.{defines_or_imports_by}

@@ -3,7 +3,7 @@ use Rattle.std.specs.{List.list_all, Char.is_ascii_digit}
 use Rattle.smi_text.specs.lexer.LongestMatch.{GoesOn}
 use Rattle.smi_text.proofs.lexer.scan.digits_len.Given as goal
 
--- the octets before n make no difference
+-- the first n octets, all of them digits, make no difference to the test of a longer prefix
 abbrev pub invariant-octets : goal.invariant-octets
 invariant-octets l = GoesOn (list_all is_ascii_digit) l.text l.n
 

@@ -1,4 +1,4 @@
--- One index more is marked as met and put on the path, so that fewer indices are new.
+-- Each step of the loop marks one index more as met and appends it to the path, so that fewer indices are new and the invariant still holds.
 use Rattle.std.proofs.{lemmas.Grind.common_steps, lemmas.List.get_or-set_same}
 use Rattle.std.proofs.Common.{refl, rules, ◌≡◌, ◌<◌, inl, inr, [], ◌∷◌, ◌++◌, Some, set, length, arith, sym}
 use Rattle.smi_names.specs.{private.Search.Follows, private.Search.mark_at}

@@ -1,4 +1,4 @@
--- A new index is settled; one that was reached stays so.
+-- If the index is new, then the invariant still holds after it is added to the order and marked as settled.
 use Rattle.std.proofs.Common.{rules, ◌≡◌, [], ◌∷◌, ◌++◌}
 use Rattle.smi_names.proofs.Search.{Keeps-alone}
 use Rattle.smi_names.proofs.chains.order.Search.settle.Goals as goal

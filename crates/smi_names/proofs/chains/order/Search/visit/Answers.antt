@@ -1,4 +1,4 @@
--- The indices of a path are settled from the last to the first. A path that enters a ring is dropped.
+-- The invariant holds after each index of a path is added to the order, from the last to the first. It holds after a path that enters a ring is dropped.
 use Rattle.std.proofs.Common.{refl, rules, ◌≡◌, ◌<◌, [], ◌∷◌, ◌++◌, Some, length, arith}
 use Rattle.std.proofs.lemmas.List.Elements.{All-contains, Contains-push}
 use Rattle.smi_names.specs.declared.chains.order.Mark.TheVariants as M

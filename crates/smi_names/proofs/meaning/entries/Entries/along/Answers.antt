@@ -1,4 +1,4 @@
--- The indices of the order are filled in one after the other.
+-- The meanings are filled in along the order: before an index is filled in, the index that it refers to has been.
 use Rattle.std.proofs.Common.{rules, ◌≡◌, ◌<◌, length, get_or, replicate, None, refl, ◌∙◌}
 use Rattle.std.proofs.lemmas.List.{length-set, take_all, length-replicate, get_or_default}
 use Rattle.std.proofs.lemmas.List.Elements.{All-get_or}

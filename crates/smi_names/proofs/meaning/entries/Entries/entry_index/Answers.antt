@@ -1,4 +1,4 @@
--- The entry at the index of a name has what decides it.
+-- The entry at the index of a name has what decides the name's meaning.
 use Rattle.std.proofs.{Common.◌≡◌, Common.sym, Common.◌∙◌, lemmas.Option.slice_get-map}
 use Rattle.smi_names.specs.{meaning.Meaning.QualifiedName, meaning.Directory.index_by, meaning.Scopes.content_of}
 use Rattle.smi_names.proofs.Directory.{entry_at}

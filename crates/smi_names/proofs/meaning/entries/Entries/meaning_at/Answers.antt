@@ -1,4 +1,4 @@
--- What a name means, if a definition, an import or a root decides it, and if nothing does.
+-- A name means what its definition means or what the imported name means. It means nothing if it is a root, or if nothing decides its meaning.
 use Rattle.std.proofs.Common.{sym, refl}
 use Rattle.smi_names.specs.meaning.Scopes.{content_of}
 use Rattle.smi_names.proofs.ReferenceChains.{means_none, means_root, means_import, means_defined}

@@ -1,4 +1,4 @@
--- The indices of the order are filled in one after the other, each by a resolution of the list.
+-- The resolutions are filled in along the order: before an index is filled in, the index that it refers to has been. All other indices stay at `Cycle`.
 use Rattle.std.proofs.Common.{rules, inl, ◌≡◌, ◌<◌, ◌∷◌, [], length, replicate, get_or, refl, sym, ◌∙◌, arith}
 use Rattle.std.proofs.lemmas.List.{length-set, length-map, take_all, length-replicate}
 use Rattle.std.proofs.{lemmas.Bool.eqb-true, lemmas.List.Elements.All-get_or, lemmas.List.Elements.All-replicate}

@@ -1,4 +1,4 @@
--- The entry at the index of a name decides it. If there is no such entry, nothing does.
+-- The entry at the index of a name has what decides the name's meaning. If the index is past the last entry, nothing decides it.
 use Rattle.std.proofs.Common.{rules, ◌≡◌, Some, None, ◌∙◌}
 use Rattle.smi_names.specs.meaning.Meaning.{module_named}
 use Rattle.smi_names.proofs.Directory.{decided_at}

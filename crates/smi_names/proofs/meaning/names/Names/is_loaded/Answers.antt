@@ -1,4 +1,4 @@
--- A module of the name is found if and only if the name has an index.
+-- A module of this name is loaded if and only if the map has an index for the name.
 use Rattle.std.proofs.Common.{rules, ◌≡◌, is_some, sym, ap, ◌∙◌}
 use Rattle.smi_text.specs.trees.Mark.{same_text}
 use Rattle.smi_names.specs.meaning.Scopes.{index_in}

@@ -23,7 +23,7 @@ returns-then-is_none c =
           (rw (none_of (identifier_value_of c.args.def.now.kind) none) (refl, refl));
     }
 
--- there is a value, and the name resolves to what was stored
+-- if the definition has an identifier value, and its name has a resolution, then the node or the warning for that resolution is added
 pub returns-in-Some : goal.returns-in-Some
 returns-in-Some c = grind (arith, common_steps, is_some, some_of, GivesNodes-added)
 

@@ -21,6 +21,6 @@ returns c =
       };
     }
 
--- no module before it has its name
+-- no earlier module has the name of this module, so it is the first of its name
 pub add_definitions-requires-clause-first : goal.add_definitions-requires-clause-first
 add_definitions-requires-clause-first c = grind (arith, common_steps, named_first)

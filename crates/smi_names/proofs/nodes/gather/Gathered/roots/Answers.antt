@@ -1,4 +1,4 @@
--- The nodes are those of the three roots, in order.
+-- The lists hold the nodes of the three roots, in order, and no warnings.
 use Rattle.std.proofs.Common.{rules, ◌≡◌, [], ◌∷◌, ◌++◌, refl}
 use Rattle.smi_names.specs.declared.nodes.gather.Source.TheVariants as S
 use Rattle.smi_names.specs.nodes.Nodes.{none_yet}
