@@ -1,4 +1,4 @@
--- The decimal digits of a number.
+-- The decimal digits of a number of four or more digits are the digits of its thousands and then three more.
 use Rattle.std.proofs.{lemmas.Grind.common_steps, lemmas.Fmt.decimal_digit, lemmas.Fmt.decimal_step}
 use Rattle.std.proofs.Common.{◌≡◌, ℕ, ◌+◌, ◌/◌, ◌%◌, ◌^◌, ◌<◌, ◌≤◌, List, [], ◌∷◌, ◌++◌, decimal, refl, append_assoc, arith}
 use Rattle.smi_show.specs.private.index.Digits.{three_digits}
@@ -13,7 +13,7 @@ two_digits n above below = rw (decimal_step n above (omega arith), decimal_digit
 pub digits_of_three : (n : ℕ) → 100 ≤ n → n < 1000 → decimal n ≡ (48 + n / 10 / 10) ∷ (48 + n / 10 % 10) ∷ (48 + n % 10) ∷ []
 digits_of_three n above below = grind (arith, common_steps, decimal_step, two_digits)
 
--- if `x` ends with the thousands of `n`, with three digits it ends with `n`
+-- if `x` is `a`, a dot and the thousands of `n`, then `x` and the last three digits of `n` are `a`, a dot and `n`
 pub after : (a x y : List ℕ) (n : ℕ) → 1000 ≤ n → n < 2 ^ 64 → x ≡ a ++ 46 ∷ decimal (n / 1000) → y ≡ x ++ three_digits (n % 1000)
     → y ≡ a ++ 46 ∷ decimal n
 after a x y n long small prefix end = grind (arith, common_steps, last_three, append_assoc)

@@ -1,5 +1,5 @@
--- `value_and_rest` returns the value of an index part if and only if the numbers begin with its encoding (`part_found`, `part_only`), and `values_of` returns
--- the values of all parts if and only if the numbers are their encodings, one after the other (`all_found`, `all_only`).
+-- `value_and_rest` returns the value of an index part and the rest if and only if `ReadsValue` holds of them (`part_found`, `part_only`), and `values_of`
+-- returns the values of all parts if and only if `ReadValues` holds of them (`all_found`, `all_only`).
 use Rattle.std.proofs.{lemmas.Grind.common_steps, Math.Seq.take-append_seam, Math.Seq.drop-append_seam, lemmas.Bool.leb-true, lemmas.Bool.le-leb}
 use Rattle.std.proofs.{lemmas.Bool.false_from_ne_true, lemmas.List.take-append-drop, lemmas.List.length-take-le, lemmas.List.append-nil}
 use Rattle.std.proofs.Common.{◌≡◌, ◌≢◌, ℕ, Bool, true, false, cond, List, [], ◌∷◌, ◌++◌, length, Option, Some, None, option_map, option_and_then}
@@ -16,7 +16,7 @@ Pair = List ℕ × List ℕ
 same_pair : (p q : Pair) → Some p ≡ Some q → (p.0 ≡ q.0) × (p.1 ≡ q.1)
 same_pair p q h = let e : p ≡ q = cc in (ap (λ (r : Pair). r.0) e, ap (λ (r : Pair). r.1) e)
 
--- if a value was returned on the condition `b`, then `b` is true
+-- if `Some y` was returned on the condition `b`, then `b` is true and `y` is what was to be returned
 pub chosen : {A : Type 0} (b : Bool) (x y : A) → cond b (Some x) None ≡ Some y → (b ≡ true) × (x ≡ y)
 chosen true x y h = (refl, cc)
 chosen false x y h = let no : ⊥ = cc in absurd no
@@ -47,7 +47,7 @@ octets_found : (read : Option Pair) (value rest : List ℕ) → of_octets read �
 octets_found None value rest h = let no : ⊥ = cc in absurd no
 octets_found (Some (first, more)) value rest h = grind (arith, common_steps, chosen)
 
--- if a value is read, then each of its numbers is an octet, if only octets are allowed
+-- if a value is read and only octets are allowed, then each of its numbers is an octet
 either_found : (octets : Bool) (read : Option Pair) (value rest : List ℕ) → cond octets (of_octets read) read ≡ Some (value, rest)
     → (read ≡ Some (value, rest)) × OnTrue octets (AreOctetNumbers value)
 either_found true read value rest h = octets_found read value rest h
@@ -58,7 +58,7 @@ either_only : (octets : Bool) (read : Option Pair) (value rest : List ℕ) → r
 either_only true read value rest is are = ap of_octets is ∙ rw are refl
 either_only false read value rest is are = is
 
--- a string
+-- `numbers` are an encoding of `value` in this extent, and then `rest`
 pub record IsSplit (extent : Extent) (numbers value rest : List ℕ) : Type 0 where
   pub here : List ℕ
   pub whole : numbers ≡ here ++ rest
@@ -91,7 +91,7 @@ pub one_prefix : (part : IndexPart) (numbers value rest other left : List ℕ) �
 one_prefix part numbers value rest other left h g =
     same_pair (value, rest) (other, left) (sym (part_only part numbers value rest h) ∙ part_only part numbers other left g)
 
--- if the values of all parts are computed, then so are those after the first
+-- if `values` is `value` before the values that were read, then `read` is `Some` of the values after the first
 pub first_value : (value : List ℕ) (read : Option (List (List ℕ))) (values : List (List ℕ)) → option_map (λ vs. value ∷ vs) read ≡ Some values
     → (more : List (List ℕ)) × (read ≡ Some more) × (values ≡ value ∷ more)
 first_value value None values h = let no : ⊥ = cc in absurd no
@@ -126,7 +126,7 @@ pub one_reading_of_all : (parts : List IndexPart) (numbers : List ℕ) (values o
     → ReadValues parts numbers others → values ≡ others
 one_reading_of_all parts numbers values others h g = grind (arith, common_steps, all_only)
 
--- the values of all parts are computed if and only if the numbers encode them
+-- if the numbers encode values of all parts, then these values are computed; `if_read` says the converse
 pub read_if : (parts : List IndexPart) (numbers : List ℕ) → ((values : List (List ℕ)) × ReadValues parts numbers values)
     → is_some (values_of parts numbers) ≡ true
 read_if parts numbers h = ap is_some (all_only parts numbers h.0 h.1)
@@ -139,7 +139,7 @@ pub if_read : (parts : List IndexPart) (numbers : List ℕ) → is_some (values_
     → (values : List (List ℕ)) × ReadValues parts numbers values
 if_read parts numbers h = let e = some_of (values_of parts numbers) h in (e.0, all_found parts numbers e.0 e.1)
 
--- a `Bool` that says whether the values of all parts are computed says whether the numbers encode values
+-- if `b` is whether the values of all parts are computed, then `b` is true if and only if the numbers encode values of the parts
 pub as_stated : (b : Bool) (parts : List IndexPart) (numbers : List ℕ) → b ≡ is_some (values_of parts numbers)
     → IsTrue b ↔ ((values : List (List ℕ)) × ReadValues parts numbers values)
 as_stated b parts numbers h = (λ t. if_read parts numbers (sym h ∙ t), λ read. h ∙ read_if parts numbers read)

@@ -90,7 +90,8 @@ module _ (tree : Contents) where
   scope_only scope rest result (inl missing) = rw missing.0 missing.1
   scope_only scope rest result (inr (there, (parts, are, h))) = grind (arith, common_steps, parts_only, only_parts)
 
-  -- a text has a scope, in which its meaning is computed
+  -- a text that isn't empty and has no `::` outside quotes has a scope and a rest, and what `plain_meaning` computes for it is the meaning of the rest in
+  -- this scope
   plain_at : (octet : ℕ) (more : List ℕ) (dotted : Bool) → eqb octet 46 ≡ dotted → module_after None (octet ∷ more) ≡ None
       → (scope : Scope) × (rest : List ℕ) × IsScoped (octet ∷ more) scope rest
       × (scope_meaning tree scope rest ≡ cond dotted (scope_meaning tree among_roots more) (scope_meaning tree anywhere (octet ∷ more)))

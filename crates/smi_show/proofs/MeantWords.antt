@@ -1,4 +1,4 @@
--- The computed word of a part is the one that `Meant` defines.
+-- What a part is by `word_of` (a number, a text in quotes, a label or a fault) is what it is by the definitions of `Meant`.
 use Rattle.std.proofs.{lemmas.Grind.common_steps, lemmas.List.take_more, Math.Seq.take-length}
 use Rattle.std.proofs.Common.{◌≡◌, ◌≢◌, ℕ, Bool, true, false, eqb, cond, List, [], ◌∷◌, ◌++◌, Option, Some, None, Result, Ok, Err, refl, sym, ◌∙◌, ap}
 use Rattle.std.proofs.Common.{inl, inr, arith}
@@ -32,7 +32,7 @@ number_fails (octet ∷ more) h =
 
 -- ---- texts in quotes
 
--- the last octet is the quote, and those before it may appear between quotes
+-- if `octets` were read from `rest` as the text before a quote, then `rest` is `octets` and the quote, and each of `octets` may appear between quotes
 pub quoted_of : (quote : ℕ) (rest octets : List ℕ) → quoted_in quote rest ≡ Some octets → (rest ≡ octets ++ quote ∷ []) × (list_all is_quotable octets ≡ true)
 quoted_of quote rest octets h = grind (arith, common_steps, chosen, and_parts, ltb-true, take_more, eqb-true, take-length)
 
@@ -54,7 +54,7 @@ number_is : (octet : ℕ) (more : List ℕ) (read : Option ℕ) → is_ascii_dig
 number_is octet more None digit is = (digit, λ n h. let e = sym (numeral_is (octet ∷ more) n h) ∙ is in let w : ⊥ = cc in w)
 number_is octet more (Some n) digit is = numeral_states (octet ∷ more) n (λ e. (let w : ⊥ = cc in w)) is
 
--- a part with the fault `BadIndex` isn't a text in quotes
+-- if `word_of` returns `BadIndex` for a part that begins with a quote, then the part isn't the text of any piece
 fails_as : (quote : ℕ) (more : List ℕ) (piece : Piece) → word_of (quote ∷ more) ≡ Err BadIndex → StatesPiece (quote ∷ more) piece → ⊥
 fails_as quote more piece e s = let no : Err BadIndex ≡ Ok (a_piece piece) = sym e ∙ states_word (quote ∷ more) piece s in let w : ⊥ = cc in w
 
@@ -79,7 +79,7 @@ pub word_is : (part : List ℕ) → WordIs part (word_of part)
 word_is [] = tt
 word_is (octet ∷ more) = word_at octet more (is_ascii_digit octet) (eqb octet 34) (eqb octet 39) refl refl refl
 
--- a part with a bad index has no other word
+-- if a part begins with a quote and isn't a text in quotes, then what it is by `WordIs` is the fault `BadIndex`
 bad_index : (octet : ℕ) (more : List ℕ) (read : Result Word NameError) → IsBadIndex (octet ∷ more) → WordIs (octet ∷ more) read → read ≡ Err BadIndex
 bad_index octet more (Ok (a_piece piece)) h is = absurd (h.1 piece is)
 bad_index octet more (Ok (a_label label)) h is = absurd (elim h.0 [ inl double ↦ is.1.1 double | inr single ↦ is.1.2 single ])

@@ -1,4 +1,5 @@
--- The loop of `cut_later_module`: what holds after an octet at which no `::` was found (`module_later`), and what is returned at a `::` (`module_here`).
+-- In the loop of `cut_later_module`, `IsModuleAt` holds before each octet. If no `::` outside quotes begins at the octet, then it holds after the octet too
+-- (`module_later`); if one does, then it is the first one, and the loop returns the texts before and after it (`module_here`).
 use Rattle.std.proofs.Common.{◌≡◌, ℕ, ◌+◌, ◌<◌, true, false, List, [], ◌∷◌, length, take, drop, get_or, Option, Some, None, refl, sym, ◌∙◌, ap, subst, arith}
 use Rattle.std.proofs.lemmas.List.{drop_more, append-nil, drop-drop}
 use Rattle.snmp_io.specs.Quotes.{open_after}

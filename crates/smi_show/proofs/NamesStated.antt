@@ -1,4 +1,4 @@
--- The computed name is the one that `IsName` defines, and there is no other.
+-- An identifier has exactly one name as `IsName` defines it: the computed one.
 use Rattle.std.proofs.Common.{arith, ◌≡◌, ℕ, Bool, List, Option, Some, None, refl}
 use Rattle.std.proofs.lemmas.Grind.{common_steps}
 use Rattle.smi_value.specs.{declared.letters.NameForm.NameForm, declared.letters.NameForm.TheVariants.Numeric}

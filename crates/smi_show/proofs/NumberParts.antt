@@ -8,7 +8,8 @@ use Rattle.smi_show.specs.name.Meaning.{and_then, fitting, further_meaning, part
 use Rattle.smi_tree.specs.{Naming.oid_of_child, Tree.Contents}
 use Rattle.smi_show.proofs.{PlainOctets.plain_digits, ShownWords.IsWhole, ShownWords.cuts, ShownWords.plain_is_whole, Words.digits_word}
 
--- a number at the start is appended first, then the parts after it
+-- if a text begins with a number, which ends at a dot or with the text, then after `o` it means `TooLong` if `o` has no room for the number, otherwise what
+-- the parts after the dot mean after `o` and the number
 pub number_next : (tree : Contents) (look_up : List ℕ → Option (List ℕ)) (o text part : List ℕ) (n : ℕ) (after : Option (List ℕ)) → IsNumeral part n
     → MatchOption after (text ≡ part) (λ rest. text ≡ part ++ dot ∷ rest)
     → parts_meaning tree look_up o (name_parts text)

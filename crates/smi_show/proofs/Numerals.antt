@@ -35,7 +35,7 @@ at_tests part false small digits is some none = refl
 pub no_numeral : (part : List ℕ) → part ≢ [] → ((n : ℕ) → IsNumeral part n → ⊥) → numeral_of part ≡ None
 no_numeral part some none = at_tests part (all_ascii_digits part) (ltb (decimal_value part) 4294967296) refl refl some none
 
--- a reading that returns the number of each numeral, and nothing for other parts, is what `numeral_of` computes
+-- if `read` is the number of `part`, or None if `part` isn't a number in digits, then it is what `numeral_of` computes
 pub numeral_read : (part : List ℕ) (read : Option ℕ) → part ≢ [] → IfSome read (IsNumeral part) → IfNone read ((n : ℕ) → IsNumeral part n → ⊥)
     → read ≡ numeral_of part
 numeral_read part (Some n) some found none = sym (numeral_is part n found)

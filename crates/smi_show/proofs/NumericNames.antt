@@ -1,4 +1,4 @@
--- A text of numbers only means these numbers, whatever nodes the tree has.
+-- A text that consists of numbers means these numbers, whatever nodes the tree has.
 use Rattle.std.proofs.{lemmas.Grind.common_steps, lemmas.Bool.and_parts, lemmas.Bool.le-leb, lemmas.Bool.ne_eqb, lemmas.List.append-nil}
 use Rattle.std.proofs.Common.{◌≡◌, ◌≢◌, ℕ, ◌≤◌, true, false, eqb, List, [], ◌∷◌, ◌++◌, length, inl, inr, Option, Some, None, Result, Ok, refl, sym}
 use Rattle.std.proofs.Common.{◌∙◌, ap, subst, append_assoc, arith, length-append}
@@ -24,7 +24,7 @@ scoped tree [] some more = absurd (some refl)
 scoped tree (octet ∷ []) some more = rw (ne_eqb octet 46 (λ e. more (ap (λ (n : ℕ). n ∷ []) e))) refl
 scoped tree (octet ∷ next ∷ rest) some more = refl
 
--- parts that are numbers mean the identifier so far followed by these numbers, if that isn't too long
+-- parts that are the numbers `o`, after the identifier `so_far`, mean `so_far` and then `o`, if these are at most 128 numbers together
 dotted_parts : (tree : Contents) (look_up : List ℕ → Option (List ℕ)) (so_far text o : List ℕ) → IsDotted text o → length (so_far ++ o) ≤ 128
     → parts_meaning tree look_up so_far (name_parts text) ≡ Ok (so_far ++ o)
 dotted_parts tree look_up so_far text [] h low = absurd h
@@ -48,7 +48,7 @@ dotted_module text (n ∷ []) h =
 dotted_module text (n ∷ m ∷ more) (first, rest, is, numeral, dotted) =
     grind (arith, common_steps, dotted_module rest (m ∷ more) dotted, scopes, plain_is_whole, plain_digits, before_module, dot_module)
 
--- the first octet of digits isn't a dot
+-- if a text consists of digits, then its first octet isn't a dot
 digit_no_dot : (octet : ℕ) (more : List ℕ) → all_ascii_digits (octet ∷ more) ≡ true → eqb octet 46 ≡ false
 digit_no_dot octet more digits = apart is_ascii_digit octet 46 (and_parts (is_ascii_digit octet) (all_ascii_digits more) digits).0 refl
 

@@ -1,4 +1,4 @@
--- The computed parts of a text and its module are those that `Cut` defines, and there are no others.
+-- A text has exactly one list of parts and at most one module as `Cut` defines them: the computed ones.
 use Rattle.std.proofs.{lemmas.Grind.common_steps, lemmas.List.drop_at, lemmas.List.take_at}
 use Rattle.std.proofs.Common.{◌≡◌, ℕ, ◌+◌, ◌<◌, ◌≤◌, ◌⊎◌, inl, inr, suc, true, false, nat_eq, List, [], ◌∷◌, ◌++◌, take, drop, length}
 use Rattle.std.proofs.Common.{Option, Some, None, refl, sym, ◌∙◌, ap, subst, arith, length-append}
@@ -20,7 +20,8 @@ nothing : (octet : ℕ) (before after : List ℕ) → [] ≡ before ++ octet ∷
 nothing octet [] after e = cc
 nothing octet (o ∷ before) after e = cc
 
--- if a property holds wherever `stop` occurs outside quotes in `text`, then it holds with one octet more before the text, if it holds for `stop` at this octet
+-- if `P` holds wherever `stop` occurs outside quotes in `text`, then `Q` holds wherever it does in `octet` and `text`: `P before` implies `Q` with the octet
+-- more, and `Q []` holds if `stop` begins at `octet`
 later : (stop : List ℕ) (quote : Option ℕ) (octet : ℕ) (text : List ℕ) (P Q : List ℕ → Type 0)
     → ((after : List ℕ) → octet ∷ text ≡ stop ++ after → quote ≡ None → Q []) → ((before : List ℕ) → P before → Q (octet ∷ before))
     → Wherever stop (open_after quote octet) text P → Wherever stop quote (octet ∷ text) Q
@@ -44,7 +45,8 @@ nowhere_later : (quote : Option ℕ) (octet : ℕ) (text : List ℕ) → at_dot 
 nowhere_later quote octet text other = later (46 ∷ []) quote octet text (λ before. ⊥) (λ before. ⊥)
     (λ after e q. both_ways (at_dot quote (octet ∷ text)) other (is_dot quote (octet ∷ text) after q e)) (λ before no. no)
 
--- if a text has parts, then with one octet before it that isn't a dot outside quotes it has the same parts, the first one with this octet before it
+-- if `parts` are the parts of `text`, and `octet` isn't a dot outside quotes, then the parts of `octet` and `text` are `parts` with `octet` put before the
+-- first one
 parts_more : (quote : Option ℕ) (octet : ℕ) (text : List ℕ) (parts : List (List ℕ)) → at_dot quote (octet ∷ text) ≡ false
     → PartsFrom (open_after quote octet) text parts → PartsFrom quote (octet ∷ text) (with_prefix (octet ∷ []) parts)
 parts_more quote octet text [] other h = absurd h
@@ -52,7 +54,7 @@ parts_more quote octet text (part ∷ []) other h = (nowhere_later quote octet t
 parts_more quote octet text (part ∷ next ∷ more) other (rest, is, closed, first, h) =
     (rest, ap (λ (t : List ℕ). octet ∷ t) is, closed, nowhere_later quote octet part other first, h)
 
--- a dot at the start makes an empty first part
+-- if `parts` are the parts of `text`, then the parts of a dot and `text` are an empty part and `parts`
 parts_here : (octet : ℕ) (text : List ℕ) (parts : List (List ℕ)) → octet ≡ 46 → PartsFrom None text parts → PartsFrom None (octet ∷ text) ([] ∷ parts)
 parts_here octet text [] is h = absurd h
 parts_here octet text (part ∷ more) is h = grind (arith, common_steps, nothing)
@@ -104,7 +106,7 @@ one_part text none = only_parts text (text ∷ []) (none, refl)
 
 -- ---- the module
 
--- what is found in `text`, before which `quote` is open
+-- the pair is the text before and after the first `::` outside quotes in `text`, before which `quote` is open; it is None if there is none
 abbrev FoundFrom : Option ℕ → List ℕ → Option (List ℕ × List ℕ) → Type 0
 FoundFrom quote text None = Nowhere (58 ∷ 58 ∷ []) quote text
 FoundFrom quote text (Some (home, rest)) = (text ≡ home ++ 58 ∷ 58 ∷ rest) × (quote_after quote home ≡ None)
@@ -123,7 +125,7 @@ module_here : (quote : Option ℕ) (octet : ℕ) (more : List ℕ) → at_colons
 module_here None octet more e = (colons (octet ∷ more) e, refl, λ before after f q. omega arith)
 module_here (Some q) octet more e = let no : ⊥ = cc in absurd no
 
--- if no `::` outside quotes begins at an octet, then what is found from it on is what is found after it, with the octet before the module
+-- if no `::` outside quotes begins at `octet`, then what is found in `octet` and `more` is what is found in `more`, with `octet` put before the module
 module_more : (quote : Option ℕ) (octet : ℕ) (more : List ℕ) (read : Option (List ℕ × List ℕ)) → at_colons quote (octet ∷ more) ≡ false
     → FoundFrom (open_after quote octet) more read → FoundFrom quote (octet ∷ more) (before_module (octet ∷ []) read)
 module_more quote octet more read other = at read

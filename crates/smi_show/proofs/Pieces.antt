@@ -1,4 +1,5 @@
--- The pieces that show numbers: what one more value adds, and that they stand for the numbers shown.
+-- The pieces that show numbers stand for exactly these numbers (`whole`), and each may be a part of a name (`each`). `next_value` says what one more value of
+-- an index adds to the text.
 use Rattle.std.proofs.Common.{arith, ◌≡◌, ◌≢◌, ℕ, ◌+◌, ◌<◌, ◌^◌, Bool, true, false, not, cond, nat_eq, List, [], ◌∷◌, ◌++◌, length, drop, get_or}
 use Rattle.std.proofs.Common.{Option, Some, None, option_map, unwrap_or, All, inl, inr, refl, sym, ◌∙◌, ap, subst}
 use Rattle.std.proofs.{lemmas.Grind.common_steps, lemmas.Grind.flat_map-append, lemmas.List.at_drop_more, lemmas.List.append-nil}
@@ -14,7 +15,7 @@ use Rattle.smi_show.specs.index.Pieces.{Piece, plain_number, is_quotable, is_sho
 use Rattle.smi_show.specs.index.Pieces.{as_numbers, as_text, extent_numbers, value_numbers, value_pieces, index_pieces, AreInstancePieces}
 use Rattle.smi_show.proofs.IndexValues.{all_found, all_only, first_value}
 
--- `value` is the first of the values `ahead`
+-- `value`, a value of part `i`, is the first of the values `ahead`, and the parts after it read the other ones from `rest`
 pub record IsNextValue (parts : List IndexPart) (i : ℕ) (value rest : List ℕ) (ahead : List (List ℕ)) : Type 0 where
   pub more : List (List ℕ)
   pub left : values_of (drop (i + 1) parts) rest ≡ Some more
@@ -39,7 +40,7 @@ next_value parts i left value rest ahead low prefix h =
           ∙ flat_map-append dotted_text (value_pieces (get_or parts i Number) value) (index_pieces (drop (i + 1) parts) e.0);
     }
 
--- the numbers that pieces stand for are those shown
+-- the pieces of a list of numbers stand for these numbers (`whole` says so of the pieces by an index)
 pub numbers_of_numbers : (numbers : List ℕ) → flat_map piece_numbers (as_numbers numbers) ≡ numbers
 numbers_of_numbers [] = refl
 numbers_of_numbers (n ∷ more) = ap (λ (ns : List ℕ). n ∷ ns) (numbers_of_numbers more)
@@ -78,7 +79,7 @@ pub whole : (index : Option (List IndexPart)) (numbers : List ℕ) → flat_map 
 whole None numbers = numbers_of_numbers numbers
 whole (Some parts) numbers = either_whole parts numbers (values_of parts numbers) refl
 
--- each piece may be a part of a name
+-- the number has at most 32 bits; if all numbers do, then each piece that shows them may be a part of a name (`each`)
 abbrev pub IsNumber : ℕ → Type 0
 IsNumber n = n < 2 ^ 32
 
@@ -126,7 +127,8 @@ pub each : (index : Option (List IndexPart)) (numbers : List ℕ) → All IsNumb
 each None numbers all = are_numbers numbers all
 each (Some parts) numbers all = either_each parts numbers (values_of parts numbers) refl all
 
--- the computed pieces are those of the numbers, and there are no others
+-- the pieces by the values that were read, or each number by itself if none were; `AreInstancePieces` holds of these pieces and no others (`pieces_stated`,
+-- `pieces_only`)
 abbrev pieces_by : List IndexPart → List ℕ → Option (List (List ℕ)) → List Piece
 pieces_by parts numbers read = unwrap_or (option_map (index_pieces parts) read) (as_numbers numbers)
 

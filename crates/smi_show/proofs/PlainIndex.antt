@@ -1,4 +1,4 @@
--- An index of which no value is shown as a text is shown as its numbers.
+-- If no value of an index is shown as a text, then the index is shown as its numbers.
 use Rattle.std.proofs.Common.{arith, ◌≡◌, ℕ, true, false, ◌++◌, List, [], ◌∷◌, Option, Some, None, option_map, unwrap_or, refl, ap, ◌∙◌}
 use Rattle.std.proofs.{lemmas.Grind.common_steps, lemmas.Bool.and_parts, lemmas.Bool.or_from, lemmas.Bool.or_parts, lemmas.List.map-append}
 use Rattle.std.specs.List.{list_all}
@@ -29,7 +29,7 @@ pub numbers_alone : (parts : List IndexPart) (numbers : List ℕ) → has_text p
     → as_numbers numbers ≡ instance_pieces (Some parts) numbers
 numbers_alone parts numbers e = either_alone parts numbers (values_of parts numbers) refl e
 
--- no value of such parts is a text
+-- if a part isn't an OCTET STRING, then none of its values is shown as a text
 plain_value : (part : IndexPart) (value : List ℕ) → is_plain part ≡ true → is_text part value ≡ false
 plain_value (Text extent) value e = cc
 plain_value _ value e = refl

@@ -10,7 +10,7 @@ or_weaker true b d h = refl
 or_weaker false true d h = refl
 or_weaker false false d h = h
 
--- an octet that passes a test isn't one that fails it
+-- if `octet` passes a test and `bad` fails it, then they differ
 pub apart : (test : ℕ → Bool) (octet bad : ℕ) → test octet ≡ true → test bad ≡ false → eqb octet bad ≡ false
 apart test octet bad good fails = ne_eqb octet bad (λ e. both_ways (test bad) fails (sym (ap test e) ∙ good))
 
@@ -53,7 +53,7 @@ unfolding ArePlain is_letter
 plain_word [] h = tt
 plain_word (octet ∷ more) h = grind (arith, common_steps, and_parts, plain_by, is_letter, plain_rest)
 
--- a word begins with a letter, which is neither a digit nor a quote
+-- `octet` may begin a label: it is neither a digit, nor a quote, nor a dot
 pub record BeginsLabel (octet : ℕ) : Type 0 where
   pub digit : is_ascii_digit octet ≡ false
   pub double : eqb octet 34 ≡ false

@@ -19,7 +19,7 @@ use Rattle.smi_show.proofs.{NumericNames.fits, NumericNames.numeric_meaning, Num
 use Rattle.smi_show.proofs.{Pieces.each, Pieces.whole, PlainOctets.plain_word, PlainOctets.plain_word_begins, ShownWords.joined_module}
 use Rattle.smi_show.proofs.{ShownWords.joined_parts, ShownWords.plain_is_whole, ShownWords.scopes, Words.piece_word, Words.label_word}
 
--- reading pieces after parts that mean `so_far` appends the numbers of the pieces to it, if the identifier doesn't become too long
+-- pieces after parts that mean `so_far` mean `so_far` followed by the numbers of the pieces, if these are at most 128 numbers together
 further_pieces : (tree : Contents) (so_far : List ℕ) (pieces : List Piece) → All IsPiece pieces → length (so_far ++ flat_map piece_numbers pieces) ≤ 128
     → further_meaning tree so_far (map shown_piece pieces) ≡ Ok (so_far ++ flat_map piece_numbers pieces)
 further_pieces tree so_far [] all low = ap (λ (t : List ℕ). Ok t) (sym (append-nil so_far))
@@ -35,14 +35,14 @@ further_pieces tree so_far (piece ∷ pieces) all low =
     ∙ further_pieces tree next pieces (All-tail IsPiece piece pieces all) low_here
     ∙ ap (λ (t : List ℕ). Ok t) grouped
 
--- a label that refers to `prefix`, with pieces after it, means `prefix` followed by the numbers of the pieces, if that isn't too long
+-- a label that refers to `prefix`, with pieces after it, means `prefix` followed by the numbers of the pieces, if these are at most 128 numbers together
 label_and_pieces : (tree : Contents) (scope : Scope) (label prefix : List ℕ) (pieces : List Piece) → is_word label ≡ true
     → found_in tree scope label ≡ Some prefix → All IsPiece pieces → length (prefix ++ flat_map piece_numbers pieces) ≤ 128
     → meaning_in tree scope (name_parts (label ++ shown_pieces pieces)) ≡ Ok (prefix ++ flat_map piece_numbers pieces)
 label_and_pieces tree scope label prefix pieces word found all low =
     grind (arith, common_steps, label_word, joined_parts, plain_is_whole, plain_word, further_pieces)
 
--- a text that begins with a word is neither empty nor `.`
+-- a text that begins with a label isn't empty
 begins_some : (word rest : List ℕ) → is_word word ≡ true → word ++ rest ≢ []
 begins_some [] rest h same = let wrong : ⊥ = cc in absurd wrong
 begins_some (octet ∷ more) rest h same = let none : octet ∷ (more ++ rest) ≡ [] = same in let wrong : ⊥ = cc in absurd wrong
@@ -57,8 +57,8 @@ plain_label : (tree : Contents) (label rest : List ℕ) → is_word label ≡ tr
 plain_label tree [] rest h = let wrong : ⊥ = cc in absurd wrong
 plain_label tree (octet ∷ more) rest h = rw ((plain_word_begins octet more h).dot) refl
 
--- `MODULE::label`, or only the label of a root, with pieces after it, means the label's identifier followed by the numbers of the pieces, if that isn't too
--- long
+-- `MODULE::label`, or only the label of a root, with pieces after it, means the label's identifier followed by the numbers of the pieces, if these are at most
+-- 128 numbers together
 qualified_back : (tree : Contents) (home : Option (List ℕ)) (label prefix : List ℕ) (pieces : List Piece) → is_word label ≡ true
     → LabelRefersTo tree home label prefix → All IsPiece pieces → length (prefix ++ flat_map piece_numbers pieces) ≤ 128
     → meaning tree (qualified home label ++ shown_pieces pieces) ≡ Ok (prefix ++ flat_map piece_numbers pieces)

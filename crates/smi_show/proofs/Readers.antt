@@ -1,16 +1,17 @@
--- Functions that read a text octet by octet: its parts (`parts_reader`) and its module (`module_reader`).
+-- Functions that read a text octet by octet, as `IsReader` says: they return its parts (`parts_reader`) or its module (`module_reader`). What such a function
+-- reads ends at a dot or at `::`.
 use Rattle.std.proofs.Common.{arith, ◌≡◌, ℕ, ◌+◌, ◌<◌, Bool, false, ◌&&◌, nat_eq, List, [], ◌∷◌, ◌++◌, length, take, drop, get_or, Option, Some, None}
 use Rattle.std.proofs.Common.{option_map, refl, sym, ap, append_assoc}
 use Rattle.std.proofs.{lemmas.Grind.common_steps, lemmas.Bool.cond_both, lemmas.List.drop_more, lemmas.List.take_more}
 use Rattle.snmp_io.specs.{Quotes.open_after, QuoteLaws.quote_after}
 use Rattle.smi_show.specs.name.Cutting.{is_unquoted, with_prefix, parts_after, is_double_colon, longer_module, module_after}
 
--- a quote is open, or the octet is neither a dot nor a colon
+-- a quote is open, or the octet is neither a dot nor a colon: what is read doesn't end at the octet
 abbrev pub Passes : Option ℕ → ℕ → Type 0
 Passes None octet = (nat_eq octet 46 ≡ false) × (nat_eq octet 58 ≡ false)
 Passes (Some quote) octet = Unit {0}
 
--- `read` puts an octet at which nothing ends before what it reads of the rest
+-- `read` reads a text octet by octet: unless `ends` says that what is read ends here, it puts the octet before what it reads from the rest
 pub record IsReader {X : Type 0} (before : List ℕ → X → X) (read : Option ℕ → List ℕ → X) (ends : Option ℕ → List ℕ → Bool) : Type 0 where
   pub none : (state : Option ℕ) (text : List ℕ) → read state text ≡ before [] (read state text)
   pub twice : (a b : List ℕ) (x : X) → before a (before b x) ≡ before (a ++ b) x
@@ -18,7 +19,7 @@ pub record IsReader {X : Type 0} (before : List ℕ → X → X) (read : Option 
       → read state (octet ∷ more) ≡ before (octet ∷ []) (read (open_after state octet) more)
   pub passes : (state : Option ℕ) (octet : ℕ) (more : List ℕ) → Passes state octet → ends state (octet ∷ more) ≡ false
 
--- each octet passes
+-- `Passes` holds of each octet, with the quote that is open before it
 abbrev pub Passing : Option ℕ → List ℕ → Type 0
 Passing state [] = Unit {0}
 Passing state (octet ∷ more) = Passes state octet × Passing (open_after state octet) more
@@ -28,7 +29,7 @@ module _ {X : Type 0} {before : List ℕ → X → X} {read : Option ℕ → Lis
   all_pass state [] rest h = r.none state rest
   all_pass state (octet ∷ word) rest h = grind (arith, common_steps, all_pass (open_after state octet) word rest h.1, quote_after)
 
-  -- at an offset, before which the quote `state` is open
+  -- if `read` continues from the offset `at`, before which the quote `state` is open, and doesn't end there, then it continues from the next offset
   pub one_more : (text : List ℕ) (at : ℕ) (state : Option ℕ) → at < length text → ends state (drop at text) ≡ false
       → read None text ≡ before (take at text) (read state (drop at text))
       → read None text ≡ before (take (at + 1) text) (read (open_after state (get_or text at 0)) (drop (at + 1) text))

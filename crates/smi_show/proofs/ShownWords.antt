@@ -1,4 +1,4 @@
--- Shown words are cut where they were joined, and nowhere else.
+-- A label and pieces that are joined by dots are cut at these dots and nowhere else.
 use Rattle.std.proofs.Common.{arith, ◌≡◌, ℕ, true, false, eqb, List, [], ◌∷◌, ◌++◌, map, All, decimal, Option, Some, None, refl, ◌∙◌, ap}
 use Rattle.std.proofs.{lemmas.Grind.common_steps, lemmas.Bool.and_parts, lemmas.Bool.eq-eqb, lemmas.List.append-nil}
 use Rattle.std.specs.List.{list_all}
@@ -9,7 +9,7 @@ use Rattle.smi_show.specs.name.Cutting.{with_prefix, parts_after, name_parts, mo
 use Rattle.smi_show.proofs.{Numerals.written_numeral, PlainOctets.ArePlain, PlainOctets.apart, PlainOctets.plain_digits}
 use Rattle.smi_show.proofs.Readers.{Passing, all_pass, before_module, module_reader, no_colon, parts_reader}
 
--- no dot or colon is outside quotes, and no quote is open after `word`
+-- `word` has neither a dot nor a colon outside quotes, and no quote is open after it
 pub record IsWhole (word : List ℕ) : Type 0 where
   pub passing : Passing None word
   pub closed : quote_after None word ≡ None
@@ -25,7 +25,8 @@ unfolding ArePlain
 plain_is_whole [] h = record { passing = tt; closed = refl }
 plain_is_whole (octet ∷ more) h = grind (arith, common_steps, plain_is_whole more h.1)
 
--- octets that may appear between quotes, followed by the quote that was open, are passed, and then no quote is open
+-- if `quote` is open and octets that may appear between quotes follow and then `quote`, then nothing that is read ends at any of them (`Passing`), and no
+-- quote is open after them
 quoted : (quote : ℕ) (octets : List ℕ) → is_quotable quote ≡ false → list_all is_quotable octets ≡ true
     → Passing (Some quote) (octets ++ quote ∷ []) × (quote_after (Some quote) (octets ++ quote ∷ []) ≡ None)
 quoted quote [] bad h = ((tt, tt), rw (eq-eqb quote quote refl) refl)
@@ -57,7 +58,7 @@ joined_parts word (piece ∷ pieces) whole all = grind (
   All-tail,
 )
 
--- a text without a module has none with a dot before it
+-- if a text has no module, then with a dot before it it has none either
 pub dot_module : (rest : List ℕ) → module_after None rest ≡ None → module_after None (46 ∷ rest) ≡ None
 dot_module rest none = rw (no_colon 46 rest refl, none) refl
 

@@ -1,4 +1,4 @@
--- The table of small numbers, checked entry by entry.
+-- Each entry of the table `SMALL` begins with a dot and its number in digits (`small_entry`). The entries are checked one by one.
 use Rattle.std.proofs.{lemmas.Grind.common_steps, Math.Seq.take-append-add, lemmas.List.length-take-le, lemmas.List.take-take}
 use Rattle.std.proofs.{lemmas.Bool.Decides.Decides-below_and, lemmas.Slice.Eq.bytes_eq-Decides, lemmas.Fmt.decimal_digit}
 use Rattle.std.proofs.Common.{◌≡◌, ℕ, zero, suc, ◌+◌, ◌*◌, ◌/◌, ◌%◌, ◌<◌, Bool, true, ◌&&◌, ltb, leb, cond, List, [], ◌∷◌, ◌++◌, ◌≤◌, decimal, length}
@@ -9,7 +9,7 @@ use Rattle.std.proofs.lemmas.Bool.{cases_lt, lt-ltb, le-ltb, lt-leb, le-leb}
 use Rattle.smi_show.specs.declared.index.shown.TheConstants.{SMALL}
 use Rattle.smi_show.proofs.Digits.{two_digits, digits_of_three}
 
--- a number below 1000 after a dot
+-- a dot and the digits of `n`, if `n` is below 1000
 abbrev dotted : ℕ → List ℕ
 dotted n =
     46 ∷ cond (ltb n 10) ((48 + n) ∷ []) (cond (ltb n 100) ((48 + n / 10) ∷ (48 + n % 10) ∷ [])
@@ -18,12 +18,12 @@ dotted n =
 dotted_is : (n : ℕ) → n < 256 → dotted n ≡ 46 ∷ decimal n
 dotted_is n small = grind (arith, common_steps, cases_lt, lt-ltb, decimal_digit, le-ltb, two_digits, digits_of_three)
 
--- the octets of an entry
+-- the four octets of the entry of `n` in `SMALL`
 abbrev pub octets_of : ℕ → List ℕ
 octets_of n =
     get_or SMALL.now (n * 4) 0 ∷ get_or SMALL.now (n * 4 + 1) 0 ∷ get_or SMALL.now (n * 4 + 2) 0 ∷ get_or SMALL.now (n * 4 + 3) 0 ∷ []
 
--- as many of them as the dot and the number have
+-- the first octets of this entry, as many as a dot and the digits of `n`
 abbrev entry : ℕ → List ℕ
 entry n = take (length (dotted n)) (octets_of n)
 
@@ -42,11 +42,11 @@ matched =
 pub small_entry : (n : ℕ) → n < 256 → take (length (46 ∷ decimal n)) (octets_of n) ≡ 46 ∷ decimal n
 small_entry n small = ap (λ t. take (length t) (octets_of n)) (sym (dotted_is n small)) ∙ matched n small ∙ dotted_is n small
 
--- the length of a dot and a number below 256 is two, and one more for each of two tests that holds
+-- the length of a dot and a number below 256 is two, one more if the number is at least 10, and one more if it is at least 100
 pub small_len_is : (n a b : ℕ) → n < 256 → a ≡ bool_byte (leb 10 n) → b ≡ bool_byte (leb 100 n) → 2 + a + b ≡ length (46 ∷ decimal n)
 small_len_is n a b small tens hundreds = grind (arith, common_steps, cases_lt, lt-leb, decimal_digit, le-leb, two_digits, digits_of_three)
 
--- if octets were written after the first `a` of a buffer, then the buffer continues with each prefix of them
+-- if `now` begins with the first `a` octets of `room` and then `part`, then it also begins with these and the first `k` octets of `part`
 pub prefix_after : (a k m : ℕ) (room now part : List ℕ) → a ≤ length room → k ≤ length part → k ≤ m → take (a + m) now ≡ take a room ++ part
     → take (a + k) now ≡ take a room ++ take k part
 prefix_after a k m room now part within fits fewer is =

@@ -1,4 +1,4 @@
--- Texts that are appended one after the other.
+-- If `a` is appended and then `b`, then `a ++ b` is appended.
 use Rattle.std.proofs.{Common.arith, Common.ℕ, Common.List, Common.◌++◌, Common.append_assoc, lemmas.Grind.common_steps}
 use Rattle.snmp_io.specs.Draft.{Written, Adds}
 

@@ -1,4 +1,5 @@
--- The text of a type is that of its tokens in a module text, with blanks between them.
+-- The text of a type is the tokens that it has in a module text, with a blank between each two (`own_tokens`). A mark is what the grammar demands of one
+-- token.
 use Rattle.std.proofs.Common.{arith, ◌≡◌, ℕ, List, [], ◌∷◌, ◌++◌, codes, Option, Some, None, refl, sym, ◌∙◌, ap, append_assoc, append-nil}
 use Rattle.std.proofs.lemmas.Grind.{common_steps, flat_map-append}
 use Rattle.std.specs.List.{flat_map}
@@ -13,7 +14,7 @@ use Rattle.smi_show.specs.details.Syntax.{named_number_text, numbers_text, high_
 use Rattle.smi_show.specs.details.Syntax.{syntax_text}
 use Rattle.smi_show.specs.private.Tokens.{AreTokensOf, joined_by_blanks}
 
--- the text that a mark demands of its token
+-- the text that a token must have to match the mark
 abbrev text_of : Mark → List ℕ
 text_of (spelled k x ok) = x
 text_of (on_line n m) = text_of m
@@ -46,12 +47,12 @@ tokens_joined (m ∷ ms) (t ∷ ts) h = grind (arith, common_steps, token_text, 
 spaced_append : (ms ns : List Mark) → spaced (ms ++ ns) ≡ spaced ms ++ spaced ns
 spaced_append ms ns = flat_map-append (λ (m : Mark). codes " " ++ text_of m) ms ns
 
--- if `text` is what marks are written as, then with a sign before and after it, it is what the marks between these signs are written as
+-- if `text` is the text of `ms`, each mark after a blank, then `text` between the signs `opens` and `closes` is the text of `ms` between these signs
 enclosed : (opens closes : Mark) (ms : List Mark) (text : List ℕ) → text ≡ spaced ms
     → (codes " " ++ text_of opens) ++ (text ++ (codes " " ++ text_of closes)) ≡ spaced (opens ∷ (ms ++ closes ∷ []))
 enclosed opens closes ms text is = rw (is, spaced_append ms (closes ∷ []), append-nil (codes " " ++ text_of closes)) refl
 
--- if each element is written as a sign and its marks, then all of them are written as these, one after the other
+-- if the text of each element is the text of a sign and the element's marks, then the texts of all elements, joined, are the text of all these marks in order
 parts_spaced : {A : Type 0} (m : Mark) (marks : A → List Mark) (text : A → List ℕ) → ((x : A) → text x ≡ spaced (m ∷ marks x)) → (xs : List A)
     → flat_map text xs ≡ spaced (flat_map (λ x. m ∷ marks x) xs)
 parts_spaced m marks text is [] = refl

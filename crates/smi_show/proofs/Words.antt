@@ -1,4 +1,4 @@
--- A shown piece, or a label, is read as the word that it shows.
+-- The text of a piece is read as this piece (`piece_word`), and a label as this label (`label_word`).
 use Rattle.std.proofs.{lemmas.Grind.common_steps, lemmas.Bool.and_parts, lemmas.Bool.eq-eqb, lemmas.Bool.lt-ltb}
 use Rattle.std.proofs.Common.{◌≡◌, ◌≢◌, ℕ, true, ◌&&◌, eqb, ltb, cond, List, [], ◌∷◌, ◌++◌, length, take, get_or, decimal, Option, Some, None, Ok}
 use Rattle.std.proofs.Common.{refl, ◌∙◌, ap, arith, length-append}

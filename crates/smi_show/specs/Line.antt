@@ -1,4 +1,4 @@
--- The line of a variable binding: its name, ` = `, its value, and a newline.
+-- The line of a variable binding: by default its name, ` = `, its value, and a newline.
 use Rattle.std.specs.Prelude.{◌≡◌, ℕ, if◌then◌else◌, List, ◌++◌, codes}
 use Rattle.smi_value.specs.declared.letters.Letters.{Letters}
 use Rattle.smi_value.specs.declared.letters.TypeForm.{TypeForm}
@@ -8,13 +8,15 @@ use Rattle.smi_show.specs.{name.Name.IsName, private.name.Shown.name_text}
 use Rattle.smi_value.specs.Value.{ShowsValue}
 use Rattle.smi_tree.specs.{Naming.nearest_syntax, Tree.Contents}
 
--- the separator between name and value: a blank with the letter q
+-- the separator between name and value: a blank with the letter `q` of the option `-O`, otherwise
+-- ` = `
 abbrev pub separator : TypeForm → List ℕ
 separator Typed = codes " = "
 separator Untyped = codes " = "
 separator Quick = codes " "
 
--- the text before the value: the name and the separator, or nothing with the letter v
+-- the text before the value: the name and the separator, or nothing with the letter `v` of the
+-- option `-O`
 abbrev pub text_before_value : Letters → List ℕ → List ℕ
 text_before_value letters name = if letters.value_alone then codes "" else name
     ++ separator letters.types
@@ -27,7 +29,8 @@ pub record IsValueText (tree : Contents) (letters : Letters) (name : List ℕ) (
   pub are_names : (o : List ℕ) → IsName tree letters.names letters.numeric_index o (names o)
   pub shows : ShowsValue names letters (nearest_syntax tree name) value text
 
--- `text` is the line of a binding by `letters`: name and separator, `value`, and a newline
+-- `text` is the line of a binding by `letters`: name and separator, unless with the letter `v`,
+-- then `value`, and a newline
 pub record IsLine (tree : Contents) (letters : Letters) (name : List ℕ) (value : Datum)
     (text : List ℕ) : Type 0 where
   pub shown_name : List ℕ

@@ -19,9 +19,9 @@ use snmp_oid::Oid;
 use snmp_wire::ValueRef;
 use std::alloc::AllocError;
 
-/// Appends the text of `value`, the value of the instance `name`: its type, a colon, a blank and
-/// the value, as `letters` and the syntax of the object say. If memory runs out, `out` is
-/// unchanged.
+/// Appends the text of `value`, the value of the instance `name`, as `letters` and the syntax of
+/// the object say. With the default letters, a type, a colon and a blank precede most values. If
+/// memory runs out, `out` is unchanged.
 pub fn value_text(
     tree: &Tree,
     letters: &Letters,
@@ -60,7 +60,7 @@ pub fn line(
     draft.finish(out)
 }
 
-/// A value has only one text under given letters and the syntax of its object.
+/// The value of an instance has only one text for the same tree and letters.
 ///
 /// A law: the call does nothing, and its caller may use what it ensures.
 #[tactic(auto, using(crate::proofs::NamesStated::same_name))]
@@ -72,7 +72,7 @@ pub fn one_value()
     one_value_by_names();
 }
 
-/// A binding has only one line under given letters and the syntax of its object.
+/// A binding has only one line for the same tree and letters.
 ///
 /// A law: the call does nothing, and its caller may use what it ensures.
 pub fn one_line()
@@ -155,7 +155,7 @@ fn append_separator(types: TypeForm, draft: &mut Draft)
     }
 }
 
-/// Appends the text of the value.
+/// Appends the text of `value`, as `letters` and `syntax` say.
 fn append_shown(
     tree: &Tree,
     letters: &Letters,

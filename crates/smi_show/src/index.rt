@@ -13,8 +13,8 @@ pub use part::{one_part_reading, read_part};
 pub use shown::{index_text, is_quotable, numbers_text, pieces_represent_numbers};
 use smi_tree::IndexPart;
 
-/// Returns whether `numbers` consists of one encoded value for each of `parts`, one after the other
-/// (RFC 2578, section 7.7).
+/// Returns whether `numbers` consists of one encoded value for each of `parts`, one after the
+/// other (RFC 2578, section 7.7). A value after IMPLIED takes all numbers that remain.
 pub fn reads(parts: &[IndexPart], numbers: &[u32]) -> bool
     ensures { IsTrue result
         ↔ ((values : List (List ℕ)) × ReadValues parts.now numbers.now values) }
@@ -29,7 +29,7 @@ pub fn reads(parts: &[IndexPart], numbers: &[u32]) -> bool
     left.is_empty()
 }
 
-/// A list of numbers encodes at most one list of values.
+/// For the same `parts`, a list of numbers encodes at most one list of values.
 ///
 /// A law: the call does nothing, and its caller may use what it ensures.
 #[tactic(auto, using(crate::proofs::IndexValues::one_reading_of_all))]

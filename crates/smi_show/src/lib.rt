@@ -1,8 +1,8 @@
 //! The text of names, values, lines and details, appended to a `Vec<u8>`, by a tree of loaded
 //! modules; and the identifier that a name means.
 //!
-//! This is what the tools print of names and bindings. Each call appends its whole text, or leaves
-//! the `Vec<u8>` unchanged if memory runs out.
+//! The tools print names and bindings by these calls. A call that appends a text appends all of
+//! it, or leaves the `Vec<u8>` unchanged if memory runs out.
 //!
 //! # Examples
 //!
@@ -31,7 +31,7 @@ pub use smi_value::{Hint, HintValue, Letters, NameForm, StringForm, TypeForm, wr
 pub use text::{detail, name_text};
 pub use writer::LineWriter;
 
-// A single line, value or prefix of a text; no tool calls these.
+// Calls for a single line or value, or for a name at the start of a text; no tool uses them.
 pub use crate::name::resolve_front;
 pub use binding::{line, value_text};
 

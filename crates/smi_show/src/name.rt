@@ -29,7 +29,8 @@ use snmp_oid::Oid;
 
 /// Appends the name of `oid` in the form `form`.
 ///
-/// With `numeric_index`, the letter `b`, the numbers after a column are shown as numbers.
+/// If `numeric_index` is set (the letter `b` of the option `-O`), the numbers after a column are
+/// shown as numbers.
 pub fn name_text(tree: &Tree, form: NameForm, numeric_index: bool, oid: &Oid, draft: &mut Draft)
     ensures { Adds draft.old (name_text tree.now form numeric_index oid.now) draft.new }
 {
@@ -99,7 +100,8 @@ fn append_qualified(node: NearestNode<'_>, draft: &mut Draft)
     draft.octets(node.label);
 }
 
-/// Appends, for each number, a dot and the label of the node there, or the number if there is none.
+/// Appends, for each of `numbers`, a dot and the label of the node at the identifier that ends
+/// with this number, or the number if there is none.
 fn path(tree: &Tree, numbers: &[u32], draft: &mut Draft)
     requires { length numbers.now ≤ 128 }
     ensures { Adds draft.old (path_text tree.now numbers.now) draft.new }
@@ -124,7 +126,8 @@ fn arc(tree: &Tree, here: &Oid, number: u32, near: &mut Near, draft: &mut Draft)
     }
 }
 
-/// Appends the numbers after `node`: by its index, or as numbers if it has none or `numeric_index`.
+/// Appends the numbers after `node`: by its index, or as numbers if it has none, if the index
+/// doesn't read them all, or if `numeric_index` is set.
 fn instance_text(numeric_index: bool, oid: &Oid, node: NearestNode<'_>, draft: &mut Draft)
     requires { node.depth ≤ length oid.now }
     ensures { let text = instance_text numeric_index oid.now (view_of node.entry) in

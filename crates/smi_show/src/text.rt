@@ -29,8 +29,7 @@ pub fn name_text(
     draft.finish(out)
 }
 
-/// In a given tree, an identifier has only one name in each form, and with its index shown in each
-/// way.
+/// An identifier has only one name for the same tree, form and `numeric_index`.
 ///
 /// A law: the call does nothing, and its caller may use what it ensures.
 #[tactic(auto, using(crate::proofs::NamesStated::same_name))]
@@ -60,7 +59,7 @@ pub fn detail(
     draft.finish(out)
 }
 
-/// The details of an identifier have only one text in a given tree and form of its name.
+/// The details of an identifier have only one text for the same tree, form and `numeric_index`.
 ///
 /// A law: the call does nothing, and its caller may use what it ensures.
 #[tactic(auto, using(std::proofs::lemmas::Grind::common_steps))]

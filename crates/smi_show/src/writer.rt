@@ -16,8 +16,9 @@ use std::marker::Model;
 
 /// Writes the lines of bindings by one tree, one after the other.
 ///
-/// It stores what the tree found for the last name, and uses it for the next one if it holds there
-/// too: most lines follow one of their own column. A contract sees its tree.
+/// A writer stores what the tree found for the last name. This is used for the next name too if it
+/// holds for that name: most lines follow a line of the same column. In contracts, a writer is its
+/// tree.
 #[derive(Drop)]
 pub struct LineWriter<'t> {
     tree: &'t Tree,
@@ -76,7 +77,8 @@ impl<'t> LineWriter<'t> {
     }
 }
 
-/// Sets `found` to what the tree finds for `name`, unless it holds for `name` already.
+/// Sets `found` to what the tree finds for `name`. If [`is_known`] says that `found` is this
+/// already, leaves it unchanged.
 fn find<'t>(tree: &'t Tree, name: &Oid, near: &mut Near, found: &mut Found<'t>)
     requires { IsFoundBelow tree.now found.old }
     ensures found { IsFound tree.now name.now found.new }
@@ -87,7 +89,8 @@ fn find<'t>(tree: &'t Tree, name: &Oid, near: &mut Near, found: &mut Found<'t>)
     }
 }
 
-/// Returns whether `found` holds for `name` too: whether `name` is below `found.below`.
+/// Returns whether `found` is known to hold for `name`: `found.below` is an identifier, and `name`
+/// is below it.
 fn is_known(found: &Found<'_>, name: &Oid) -> bool
     ensures { IsTrue result ↔ MatchOption found.now.below ⊥ (λ root. IsBelow name.now root.now) }
 {

@@ -1,4 +1,5 @@
--- A text that is appended in two steps (`grows_both`, `adds_from`), or that is empty (`adds_none`).
+-- If a draft grows by one text and then by another, then it grows by both (`grows_both`); if it doesn't change, then it grows by the empty text
+-- (`grows_none`, `adds_none`).
 use Rattle.std.proofs.lemmas.Grind.{common_steps}
 use Rattle.std.proofs.Common.{◌≡◌, ℕ, List, [], ◌++◌, refl, sym, append_assoc, append-nil, Bool, true, ◌∷◌, length, arith}
 use Rattle.std.specs.Bool.{◌==◌}

@@ -1,4 +1,5 @@
--- Digits read from the start of a text (`value_more`), and written from the last to the first (`written_before`, `written_last`).
+-- For two loops: `long_number` reads digits from the first to the last (`value_more`), and `put_digits` writes them from the last to the first
+-- (`written_before`, `written_last`).
 use Rattle.std.proofs.{lemmas.Grind.common_steps, Math.ListN.set, lemmas.List.drop-set, lemmas.List.get_or-take, lemmas.List.take_more}
 use Rattle.std.proofs.{lemmas.List.Sums.prefix_len_passes, lemmas.List.Folds.length-prefix_len, lemmas.Int.Digits.digits_value_more}
 use Rattle.std.proofs.{lemmas.Int.Digits.number_after_append, lemmas.Str.digit_value_digit, lemmas.Str.Parse.digits_value-take-le, Math.Pow.pow_mono}
@@ -77,7 +78,7 @@ no_places text none _ h = absurd (cc h)
 
 -- ---- one or two octets, in two to four digits
 
--- if the last two digits of two octets are written, then the digits of the first octet are still to be written
+-- if the last two digits of two octets are written, and the first octet isn't 0, then the digits of the first octet are still to be written
 low_two : (a b : ℕ) → 0 < a → b < 256
     → AreLeft 62 16 a (digit_glyph false (b / 16) ∷ digit_glyph false (b % 16) ∷ []) (a * 256 + b)
 low_two a b some within =

@@ -1,4 +1,4 @@
--- The specs of a text: it has at most one first spec (`same_spec`); the invariant of the loop over them (`GoesOn`); the two kinds of hints (`not_both`).
+-- A text has at most one first spec (`same_spec`), and isn't a hint of both kinds (`not_both`). `GoesOn` is the invariant of the loop of `ends_hint`.
 use Rattle.std.proofs.lemmas.Grind.{common_steps}
 use Rattle.std.proofs.Common.{◌≡◌, ◌≢◌, ℕ, Bool, true, false, List, [], ◌∷◌, refl, inl, inr, subst, arith, ◌<◌, ◌≤◌, Bor}
 use Rattle.smi_value.specs.{hint.Number.StartsWithNumber, hint.Number.IsNumberHint, hint.Hint.IsOfNumbers, hint.Hint.IsOfOctets}

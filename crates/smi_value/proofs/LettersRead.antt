@@ -1,4 +1,5 @@
--- The letters of `-O`, read one after the other: what they say (`letters_at`), and the first octet that isn't one (`other_at`).
+-- For the loop of `Letters::parse`: `letters_at` adds one letter to what the letters before it say; `other_at` is for the first octet that isn't a
+-- letter of `-O`.
 use Rattle.std.proofs.Common.{arith, ◌≡◌, ℕ, ◌+◌, ◌<◌, Bool, true, false, not, List, [], ◌∷◌, ◌++◌, Option, Some, None, refl, sym, ◌∙◌, ap, take}
 use Rattle.std.proofs.Common.{drop, length, get_or, if◌then◌else◌, suc, drop-cons, take-append-drop, ◌||◌}
 use Rattle.std.proofs.{lemmas.Grind.common_steps, lemmas.List.reverse-append, lemmas.List.take_more, lemmas.List.Folds.find-append}

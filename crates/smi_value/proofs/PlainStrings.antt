@@ -1,4 +1,5 @@
--- Strings that are shown unchanged between quotes (`shown_where_plain`), and the test of their octets in lanes (`plain_lanes`).
+-- If each octet of a string is plain, and the form isn't `Hexadecimal`, then the string is shown unchanged between quotes (`shown_where_plain`); octets
+-- that pass the tests by SIMD are plain (`plain_lanes`).
 use Rattle.std.proofs.{lemmas.Grind.common_steps, lemmas.List.length-map}
 use Rattle.std.proofs.Common.{◌≡◌, ℕ, suc, ◌+◌, ◌%◌, ◌^◌, ◌≤◌, Bool, true, false, cond, ltb, eqb, List, [], ◌∷◌, length, get_or, map, replicate, w8}
 use Rattle.std.proofs.Common.{refl, sym, ap, ◌∙◌, arith, ◌||◌, not}

@@ -1,4 +1,4 @@
--- The bits that are set in a value of BITS: only one increasing list has all of them (`same_bits`), and they are shown octet by octet (`bits_shown`).
+-- Only one increasing list has exactly the set bits of a value of BITS (`same_bits`), and `octet_bits` of each octet in turn shows them (`bits_shown`).
 use Rattle.std.proofs.{lemmas.Grind.common_steps, lemmas.List.get_or_default, lemmas.List.Kept.AllPairs-filter, lemmas.Map.Made.Contains-tail}
 use Rattle.std.proofs.Common.{◌≡◌, ℕ, zero, suc, ◌+◌, ◌-◌, ◌*◌, ◌/◌, ◌%◌, ◌^◌, ◌<◌, ◌≤◌, Bool, true, eqb, List, [], ◌∷◌, ◌++◌, length, get_or, refl}
 use Rattle.std.proofs.Common.{sym, ◌∙◌, ap, arith, append_assoc}

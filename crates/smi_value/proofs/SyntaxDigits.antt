@@ -1,4 +1,4 @@
--- The number that one to three digits write (`one_stated`, `two_stated`, `three_stated`).
+-- If `text` is one, two or three digits, then `stated_number text` is the number that they write (`one_stated`, `two_stated`, `three_stated`).
 use Rattle.std.proofs.lemmas.Grind.{common_steps}
 use Rattle.std.proofs.Common.{◌≡◌, ℕ, pos, ◌+◌, ◌-◌, ◌*◌, ◌≤◌, true, false, [], ◌∷◌, List, Some, refl, length, get_or, arith, rules, tests}
 use Rattle.std.specs.{Bool.nat_le, Int.IsInRange}

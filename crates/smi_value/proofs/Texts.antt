@@ -1,10 +1,10 @@
--- The text of a list of octets, each shown by its index and value: one octet more (`enumerated_more`), and all of them (`enumerated_all`).
+-- For loops that append the text `f (index, octet)` for each octet of a list: one step (`enumerated_more`), and the end (`enumerated_all`).
 use Rattle.std.proofs.{lemmas.Grind.common_steps, lemmas.List.take_more, lemmas.List.flat_map_more, Math.Seq.take-length}
 use Rattle.std.proofs.Common.{◌≡◌, ℕ, ◌+◌, ◌<◌, List, [], ◌++◌, sym, ◌∙◌, ap, take, length, get_or, arith, zero-add}
 use Rattle.std.specs.List.{flat_map, enumerate_from}
 use Rattle.std.proofs.lemmas.List.FromFn.{length-enumerate_from, get_or-enumerate_from}
 
--- if one more octet is shown, then its text follows the text of the octets before it
+-- the text of the first `count + 1` octets is the text of the first `count`, followed by `f` of the next octet
 pub enumerated_more : (f : ℕ × ℕ → List ℕ) (xs : List ℕ) (count : ℕ) → count < length xs
     → flat_map f (take (count + 1) (enumerate_from 0 xs)) ≡ flat_map f (take count (enumerate_from 0 xs)) ++ f (count, get_or xs count 0)
 enumerated_more f xs count low =

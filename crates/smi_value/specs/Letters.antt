@@ -22,7 +22,7 @@ all_letters = codes "nfsSqQvetbUxa"
 abbrev pub first_other : List ℕ → Option ℕ
 first_other text = find (λ octet. not (is_one_of all_letters octet)) text
 
--- the last octet of `text` that is one of `letters`, which exclude each other
+-- the last octet of `text` that is one of `letters`, if there is one
 abbrev pub last_of : List ℕ → List ℕ → Option ℕ
 last_of letters text = find (is_one_of letters) (reverse text)
 

@@ -91,7 +91,8 @@ pub record AreSetBits (octets bits : List ℕ) : Type 0 where
 abbrev pub set_bit_text : Letters → List NamedNumber → ℕ → List ℕ
 set_bit_text letters names bit = bit_name letters (name_of_number names (pos bit)) (decimal bit)
 
--- `text` shows a value of BITS: its octets in hexadecimal, then the bits that are set
+-- `text` shows a value of BITS: the word of its type, unless with q or Q, its octets in
+-- hexadecimal, then the bits that are set
 pub record IsBitsText (letters : Letters) (names : List NamedNumber) (octets text : List ℕ)
     : Type 0 where
   pub bits : List ℕ
@@ -115,11 +116,11 @@ pub record IsShownPlain (form : StringForm) (octets : List ℕ) : Type 0 where
   pub text : is_text form octets ≡ true
   pub same : flat_map (λ octet. escape_octet (printable_or_dot octet)) octets ≡ octets
 
--- the text of a bit, or nothing if it isn't set
+-- the text of the bit with the number `bit` if `set` is 1, otherwise nothing
 abbrev pub bit_text : Letters → List NamedNumber → ℕ → ℕ → List ℕ
 bit_text letters names bit set = if set == 1 then set_bit_text letters names bit else []
 
--- the bits that are set in the octet at index `index`, the most significant bit first
+-- the text of the bits that are set in the octet at index `index`, the most significant first
 abbrev pub octet_bits : Letters → List NamedNumber → ℕ × ℕ → List ℕ
 octet_bits letters names (index, octet) =
     bit_text letters names (8 * index) (octet / 128 % 2)

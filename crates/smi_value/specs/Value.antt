@@ -19,22 +19,23 @@ IsNumberText None n text = text ≡ signed_decimal n
 IsNumberText (Some hint) n text =
     ShowsNumber hint n text ⊎ ((IsOfNumbers hint → ⊥) × (text ≡ signed_decimal n))
 
--- `text` is the word of a type, the number `n` by its hint, if it has one, and the units
+-- `text` is `word`, the word of a type, then `n` as `IsNumberText` says, then the units; the
+-- letters may leave out the word and the units
 pub record IsTypedNumber (letters : Letters) (word : List ℕ) (hint units : Option (List ℕ)) (n : ℤ)
     (text : List ℕ) : Type 0 where
   pub shown : List ℕ
   pub is_number : IsNumberText hint n shown
   pub whole : text ≡ type_word letters word ++ shown ++ units_text letters units
 
--- `text` shows the INTEGER `n`: by its name, without units, if it has one, otherwise as a number
--- with its hint and units
+-- `text` shows the INTEGER `n`: as `named_text` says, without units, if it has a name, otherwise
+-- as `IsTypedNumber` says, with the hint and the units
 abbrev pub IsIntegerText : Letters → ObjectSyntax → ℤ → Option (List ℕ) → List ℕ → Type 0
 IsIntegerText letters syntax n None text =
     IsTypedNumber letters (codes "INTEGER: ") syntax.hint syntax.units n text
 IsIntegerText letters syntax n (Some name) text =
     text ≡ type_word letters (codes "INTEGER: ") ++ named_text letters name (signed_decimal n)
 
--- `text` is the word of a string, and `octets` as `hint` shows them
+-- `text` is the word of a string, unless with q or Q, and `octets` as `hint` shows them
 pub record IsHintedString (letters : Letters) (hint octets text : List ℕ) : Type 0 where
   pub shown : List ℕ
   pub shows : ShowsOctets hint octets shown
@@ -60,7 +61,8 @@ abbrev pub IsNoIdentifier : Datum → Type 0
 IsNoIdentifier (object_id _) = ⊥
 IsNoIdentifier _ = Unit {0}
 
--- the text of a number without a hint: the word of its type, `n` in decimal digits, and the units
+-- the text of a number without a hint: the word of its type, `n` in decimal digits, and the units;
+-- the letters may leave out the word and the units
 abbrev pub counter_text : Letters → List ℕ → Option (List ℕ) → ℕ → List ℕ
 counter_text letters word units n = type_word letters word ++ decimal n ++ units_text letters units
 

@@ -90,8 +90,8 @@ impl<'a> Hint<'a> {
         }
     }
 
-    /// Appends `value` as the hint shows it. It must be a number for a hint of integers, and octets
-    /// for a hint of octets.
+    /// Appends `value` as the hint shows it. `value` must be a number if this is a hint of
+    /// integers, and octets if this is a hint of octets.
     pub fn append(&self, value: HintValue<'_>, draft: &mut Draft)
         requires { IsHintFor self.now value }
         ensures { (text : List ℕ) × Shows self.now value.entry text

@@ -2,7 +2,8 @@
 ghost use Rattle.std.specs.Prelude.{◌≡◌, ◌↔◌, [], None, Some, true, false, IsOk, IfOk, IfErr};
 ghost use Rattle.std.specs.Prelude.{IfSome, IfNone};
 
-/// How a name is shown.
+/// How a name is shown. The deepest node of a name is the node of the longest prefix of the name
+/// that has one in the MIB tree. A name without such a node is shown in numbers.
 #[derive(Clone, Copy, Debug, PartialEq, Eq)]
 pub enum NameForm {
     /// `n`: the numbers, with a dot before each.
@@ -27,7 +28,7 @@ pub enum TypeForm {
     Quick,
 }
 
-/// How a string without a display hint is shown.
+/// How a string without a display hint is shown, if it isn't empty.
 #[derive(Clone, Copy, Debug, PartialEq, Eq)]
 pub enum StringForm {
     /// As text if each octet is printable, otherwise in hexadecimal. The default.

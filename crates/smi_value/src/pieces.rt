@@ -248,7 +248,8 @@ pub(crate) fn append_named(draft: &mut Draft, letters: &Letters, name: &[u8], n:
     }
 }
 
-/// Appends a value of BITS after its word: its octets in hexadecimal, then the bits that are set.
+/// Appends a value of BITS: the word of its type, unless with `q` or `Q`, its octets in
+/// hexadecimal, then the bits that are set.
 pub(crate) fn append_bits(
     draft: &mut Draft,
     letters: &Letters,

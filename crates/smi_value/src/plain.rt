@@ -7,7 +7,7 @@ use crate::letters::StringForm;
 use std::simd::prelude::*;
 
 /// Returns `true` only if a string is shown as text with each octet unchanged, as most strings are.
-/// After `false` the caller looks at each octet.
+/// After `false` the caller finds out how it is shown.
 pub(crate) fn is_shown_plain(form: StringForm, octets: &[u8]) -> bool
     ensures { OnTrue result (IsShownPlain form octets.now) }
 {

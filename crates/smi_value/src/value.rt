@@ -24,8 +24,8 @@ use snmp_wire::ValueRef;
 /// exception (RFC 3416, section 3) is shown as a message.
 ///
 /// `syntax` is the syntax of the value's object, if it is known. It has no effect if it is of
-/// another type than the value. The value must not be an OBJECT IDENTIFIER: to show one by its name
-/// takes a tree, and the caller does so after [`append_identifier_word`].
+/// another type than the value. The value must not be an OBJECT IDENTIFIER: to show one by its
+/// name takes the MIB tree, and the caller does so after [`append_identifier_word`].
 pub fn append_value(
     draft: &mut Draft,
     letters: &Letters,
@@ -103,7 +103,8 @@ pub fn append_identifier_word(draft: &mut Draft, letters: &Letters)
     append_word(draft, letters, b"OID: ");
 }
 
-/// Appends the word of a type, the number `n` in decimal digits, and its units.
+/// Appends `word`, the word of a type, the number `n` in decimal digits, and the units. `letters`
+/// may leave out the word and the units.
 fn append_counter(draft: &mut Draft, letters: &Letters, word: &[u8], units: Option<&[u8]>, n: u64)
     ensures { let units = option_copied units.entry in
         Adds draft.old (counter_text letters.now word.now units n) draft.new }
@@ -113,7 +114,8 @@ fn append_counter(draft: &mut Draft, letters: &Letters, word: &[u8], units: Opti
     append_units(draft, letters, units);
 }
 
-/// Appends an INTEGER by its name, if it has one, otherwise as a number with its hint and units.
+/// Appends an INTEGER as [`append_named`] does, without units, if it has a name, otherwise as
+/// [`append_typed_number`] does.
 fn append_integer(draft: &mut Draft, letters: &Letters, syntax: Option<&ValueSyntax<'_>>, n: i64)
     ensures { let at = syntax_at base.Integer (option_copied syntax.entry) in (text : List ℕ)
         × IsIntegerText letters.now at n (name_of_number at.names n) text
@@ -133,7 +135,8 @@ fn append_integer(draft: &mut Draft, letters: &Letters, syntax: Option<&ValueSyn
     }
 }
 
-/// Appends the word of a type, the number `n` as [`append_number`] does, and its units.
+/// Appends `word`, the word of a type, the number `n` as [`append_number`] does, and the units.
+/// `letters` may leave out the word and the units.
 fn append_typed_number(
     draft: &mut Draft,
     letters: &Letters,

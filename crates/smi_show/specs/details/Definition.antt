@@ -1,5 +1,5 @@
--- The clauses of a definition as details show them: one per line, with two blanks before the word
--- and a tab after it.
+-- The clauses of a definition as details show them: each begins a line with two blanks, its word
+-- and a tab.
 use Rattle.std.specs.Prelude.{ℕ, List, [], ◌++◌, codes, Option, Some, None}
 use Rattle.smi_text.specs.{declared.trees.tree.DefKind.DefKind, declared.trees.tree.Status.Status}
 use Rattle.smi_text.specs.declared.trees.tree.DefKind.TheVariants as D

@@ -9,7 +9,7 @@ use Rattle.smi_tree.specs.Naming.{NodeView, nearest_definition, nearest_node}
 use Rattle.smi_show.specs.{private.name.Shown.name_text, details.Value.identifier_text}
 use Rattle.smi_show.specs.details.Definition.{definition_text}
 
--- a root is an OBJECT IDENTIFIER
+-- the kind of a node's definition; a root has no definition and is shown as an OBJECT IDENTIFIER
 abbrev pub kind_text : Option Def → List ℕ
 kind_text None = codes "OBJECT IDENTIFIER"
 kind_text (Some d) = kind_words d.kind

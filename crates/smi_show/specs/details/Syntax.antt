@@ -10,7 +10,7 @@ use Rattle.smi_text.specs.declared.trees.tree.Base.TheVariants.{Integer, OctetSt
 use Rattle.smi_text.specs.declared.trees.tree.Base.TheVariants.{ObjectIdentifier, Bits, Named}
 use Rattle.smi_text.specs.declared.trees.tree.Syntax.TheVariants.{SequenceOf, Simple}
 
--- LOWER "(" NUM ")", with a blank before each token
+-- a name and its number in parentheses, with a blank before each token
 abbrev pub named_number_text : NamedNumber → List ℕ
 named_number_text n = codes " " ++ n.name.octets ++ codes " ( " ++ n.number ++ codes " )"
 
@@ -21,7 +21,7 @@ abbrev pub numbers_text : List NamedNumber → List ℕ
 numbers_text [] = codes " "
 numbers_text (first ∷ rest) = named_number_text first ++ flat_map more_numbers rest
 
--- bound [ ".." bound ], with a blank before each token
+-- two dots and the upper bound, with a blank before each token; nothing for a range of one value
 abbrev pub high_text : Option TokenText → List ℕ
 high_text None = []
 high_text (Some high) = codes " .. " ++ high.text

@@ -13,16 +13,17 @@ labelled_number (Some node) here n =
     if node.depth == length here then node.label ++ codes "(" ++ decimal n ++ codes ")"
     else decimal n
 
--- the last number of `here` with its label, and a blank
+-- the last number of `here` with its label, if it has one, and a blank
 abbrev pub labelled_part : Contents → List ℕ → List ℕ
 labelled_part tree here =
     labelled_number (nearest_node tree here) here (last_number here) ++ codes " "
 
--- all numbers of `o` with their labels, and a blank after each: one for each beginning of `o`
+-- each number of `o` with its label, if it has one, and a blank; each is the last number of one of
+-- the beginnings of `o`
 abbrev pub labelled_parts : Contents → List ℕ → List ℕ
 labelled_parts tree o = flat_map (labelled_part tree) (beginnings o)
 
--- each number but the last with its label, then the last one; a blank after each
+-- each number but the last with its label, if it has one, then the last number; a blank after each
 abbrev pub parts_text : Contents → List ℕ → List ℕ
 parts_text tree [] = []
 parts_text tree (n ∷ more) =

@@ -10,7 +10,7 @@ use Rattle.smi_tree.specs.declared.columns.index_part.IndexPart.TheVariants.{Num
 use Rattle.smi_tree.specs.declared.columns.index_part.IndexPart.TheVariants.{Octets, Identifier}
 use Rattle.smi_tree.specs.declared.columns.index_part.IndexPart.TheVariants.{ImpliedIdentifier}
 
--- the number is that of an octet
+-- the number is at most 255
 abbrev pub is_octet : ℕ → Bool
 is_octet n = nat_le n 255
 
@@ -24,7 +24,8 @@ IsInExtent (Fixed size) value here = (length value ≡ size) × (here ≡ value)
 IsInExtent Counted value here = here ≡ length value ∷ value
 IsInExtent Implied value here = (value ≢ []) × (here ≡ value)
 
--- what decides how many numbers a value of a part has
+-- what determines how many numbers a value of the part has: its type or SIZE, a length before it,
+-- or the end of the identifier
 abbrev pub extent_of : IndexPart → Extent
 extent_of Number = Fixed 1
 extent_of Address = Fixed 4
@@ -33,7 +34,8 @@ extent_of (Octets extent) = extent
 extent_of Identifier = Counted
 extent_of ImpliedIdentifier = Implied
 
--- the numbers of this part are octets; those of an INTEGER or an OBJECT IDENTIFIER may be any
+-- the values of the part consist of octets; the numbers of an INTEGER or an OBJECT IDENTIFIER may
+-- be larger
 abbrev pub is_of_octets : IndexPart → Bool
 is_of_octets Address = true
 is_of_octets (Text extent) = true
@@ -45,19 +47,21 @@ abbrev pub IsEncoding : IndexPart → List ℕ → List ℕ → Type 0
 IsEncoding part value here =
     OnTrue (is_of_octets part) (AreOctetNumbers value) × IsInExtent (extent_of part) value here
 
--- `rest` may follow a value: after an implied one it is empty
+-- `rest` may follow a value of the extent: if the extent is `Implied`, `rest` is empty
 abbrev pub LeavesIn : Extent → List ℕ → Type 0
 LeavesIn Implied rest = rest ≡ []
 LeavesIn _ rest = Unit {0}
 
--- `numbers` are the encoding of `value`, a value of `part`, and then `rest`
+-- `numbers` are the encoding of `value`, a value of `part`, and then `rest`, which is empty if the
+-- extent of the part is `Implied`
 pub record ReadsValue (part : IndexPart) (numbers value rest : List ℕ) : Type 0 where
   pub here : List ℕ
   pub whole : numbers ≡ here ++ rest
   pub encoding : IsEncoding part value here
   pub after : LeavesIn (extent_of part) rest
 
--- `numbers` are the encodings of `values`, one value for each part, one after the other
+-- `numbers` are the encodings of `values`, one value for each part, one after the other; a value
+-- whose extent is `Implied` takes all numbers that remain
 abbrev pub ReadValues : List IndexPart → List ℕ → List (List ℕ) → Type 0
 ReadValues [] numbers [] = numbers ≡ []
 ReadValues [] numbers (value ∷ values) = ⊥

@@ -20,7 +20,7 @@ abbrev pub is_quotable : ℕ → Bool
 is_quotable octet =
     nat_le 32 octet && nat_le octet 126 && not (octet == 34 || octet == 39 || octet == 92)
 
--- there is an octet, and each may appear between quotes
+-- the value isn't empty, and each of its octets may appear between quotes
 abbrev pub is_shown_text : List ℕ → Bool
 is_shown_text value = not (length value == 0) && list_all is_quotable value
 
@@ -48,7 +48,7 @@ dotted_text piece = codes "." ++ shown_piece piece
 abbrev pub shown_pieces : List Piece → List ℕ
 shown_pieces pieces = flat_map dotted_text pieces
 
--- a list of numbers as pieces
+-- each number as a piece
 abbrev pub as_numbers : List ℕ → List Piece
 as_numbers numbers = map plain_number numbers
 
@@ -57,7 +57,7 @@ as_text (Fixed size) value = plain_text value
 as_text Counted value = counted_text value
 as_text Implied value = plain_text value
 
--- the encoding of a value
+-- the numbers that encode `value`: a length comes first if the extent is `Counted`
 abbrev pub extent_numbers : Extent → List ℕ → List ℕ
 extent_numbers (Fixed size) value = value
 extent_numbers Counted value = length value ∷ value
@@ -95,7 +95,7 @@ AreInstancePieces (Some parts) numbers pieces =
 
 -- ---- for private functions
 
--- values of this part are never shown as texts
+-- values of the part are never shown as texts
 abbrev pub is_plain : IndexPart → Bool
 is_plain (Text extent) = false
 is_plain _ = true

@@ -1,5 +1,5 @@
--- Computes what `Cut` defines, for private clauses and the law that the computed meaning is the
--- defined one.
+-- Computes what `Cut` defines: for contracts of private functions, and for the law that the
+-- computed meaning is the defined one.
 use Rattle.std.specs.Prelude.{ℕ, Bool, true, false, ◌&&◌, ◌==◌, if◌then◌else◌, List, []}
 use Rattle.std.specs.Prelude.{◌∷◌, ◌++◌, drop, Option, Some, None, option_map}
 use Rattle.snmp_io.specs.Quotes.{open_after}
@@ -8,12 +8,12 @@ abbrev pub is_unquoted : Option ℕ → Bool
 is_unquoted None = true
 is_unquoted (Some quote) = false
 
--- the parts with these octets before the first one
+-- `parts` with the octets `prefix` put before the first part; `prefix` by itself if there are none
 abbrev pub with_prefix : List ℕ → List (List ℕ) → List (List ℕ)
 with_prefix prefix [] = prefix ∷ []
 with_prefix prefix (part ∷ parts) = (prefix ++ part) ∷ parts
 
--- the parts of a text, before which this quote is open, if any
+-- the parts of a text; `state` is the quote that is open before the text, if any
 abbrev pub parts_after : Option ℕ → List ℕ → List (List ℕ)
 parts_after state [] = [] ∷ []
 parts_after state (octet ∷ more) =
@@ -32,7 +32,8 @@ is_double_colon (first ∷ second ∷ more) = (first == 58) && (second == 58)
 abbrev pub longer_module : List ℕ → List ℕ × List ℕ → List ℕ × List ℕ
 longer_module prefix (module_name, rest) = (prefix ++ module_name, rest)
 
--- the text before the first `::` outside quotes and the text after it
+-- the text before the first `::` outside quotes and the text after it, if there is one; `state` is
+-- the quote that is open before the text, if any
 abbrev pub module_after : Option ℕ → List ℕ → Option (List ℕ × List ℕ)
 module_after state [] = None
 module_after state (octet ∷ more) =

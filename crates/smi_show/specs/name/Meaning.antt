@@ -1,5 +1,5 @@
--- Computes what `Meant` defines, the meaning of a text: for private clauses, and for the law that
--- each text means something.
+-- Computes what `Meant` defines, the meaning of a text: for contracts of private functions, and
+-- for the law that each text means something.
 use Rattle.std.specs.Prelude.{ℕ, ◌==◌, nat_le, if◌then◌else◌, List, [], ◌∷◌, ◌++◌, length, Option}
 use Rattle.std.specs.Prelude.{Some, None, Result, Ok, Err}
 use Rattle.smi_show.specs.{index.Pieces.piece_numbers, name.Cutting.name_parts}
@@ -23,7 +23,8 @@ abbrev pub or_unknown : Option (List ℕ) → Result (List ℕ) NameError
 or_unknown None = Err Unknown
 or_unknown (Some o) = Ok o
 
--- the meaning of a word after the identifier `so_far`; `look_up` finds labels
+-- the meaning of a part that follows the parts of `so_far`: `so_far` and the numbers of the part,
+-- or what `look_up` finds for a label
 abbrev pub word_meaning : (look_up : List ℕ → Option (List ℕ)) → List ℕ → Word
     → Result (List ℕ) NameError
 word_meaning look_up so_far (a_piece piece) = fitting (so_far ++ piece_numbers piece)
@@ -33,8 +34,8 @@ abbrev pub part_meaning : (look_up : List ℕ → Option (List ℕ)) → (so_far
     → Result (List ℕ) NameError
 part_meaning look_up so_far part = and_then (word_of part) (word_meaning look_up so_far)
 
--- the meaning of parts after the identifier `so_far`: `look_up` finds the label of the first part,
--- and that of a later one is looked up among the children of what comes before it
+-- the meaning of parts after the identifier `so_far`: `look_up` finds the label of the first part;
+-- a label of a later part is looked up among the children of what the parts before it mean
 abbrev pub parts_meaning : Contents → (look_up : List ℕ → Option (List ℕ)) → List ℕ
     → List (List ℕ) → Result (List ℕ) NameError
 parts_meaning tree look_up so_far [] = Ok so_far
@@ -42,16 +43,19 @@ parts_meaning tree look_up so_far (part ∷ parts) =
     and_then (part_meaning look_up so_far part)
     (λ o. parts_meaning tree (oid_of_child tree o) o parts)
 
--- the meaning of parts in a scope; a module has to be loaded
+-- the meaning of `parts` if the label of the first one is looked up in `scope`; a module is taken
+-- to be loaded
 abbrev pub meaning_in : Contents → Scope → List (List ℕ) → Result (List ℕ) NameError
 meaning_in tree scope parts = parts_meaning tree (found_in tree scope) [] parts
 
--- the meaning of a text in a scope: `Unknown` if this is a module that isn't loaded
+-- the meaning of the parts of `rest` in `scope`: `Unknown` if the scope is a module that isn't
+-- loaded
 abbrev pub scope_meaning : Contents → Scope → (rest : List ℕ) → Result (List ℕ) NameError
 scope_meaning tree scope rest =
     if is_loaded_in tree scope then meaning_in tree scope (name_parts rest) else Err Unknown
 
--- the meaning of a text without a module: after a leading dot the first label is that of a root
+-- the meaning of a text without a module: after a leading dot, the label of the first part is
+-- looked up among the roots, otherwise in the whole tree
 abbrev pub plain_meaning : Contents → List ℕ → Result (List ℕ) NameError
 plain_meaning tree [] = scope_meaning tree anywhere []
 plain_meaning tree (octet ∷ more) =

@@ -16,7 +16,8 @@ use Rattle.smi_tree.specs.{Naming.oid_of_root, Tree.Contents}
 
 -- ---- what a part means without the parts before it
 
--- `part` is a number in decimal digits, with or without leading zeros, or a text in quotes
+-- `part` is the text of the piece: a number in decimal digits, with or without leading zeros, or a
+-- text in quotes
 abbrev pub StatesPiece : (part : List ℕ) → Piece → Type 0
 StatesPiece part (plain_number n) = IsNumeral part n
 StatesPiece part (counted_text octets) =
@@ -24,7 +25,7 @@ StatesPiece part (counted_text octets) =
 StatesPiece part (plain_text octets) =
     (part ≡ shown_piece (plain_text octets)) × IsPiece (plain_text octets)
 
--- a part that begins neither with a digit nor with a quote is a label
+-- the part is a label: it begins neither with a digit nor with a quote, and isn't empty
 abbrev pub IsLabel : List ℕ → Type 0
 IsLabel [] = ⊥
 IsLabel (octet ∷ more) = (is_ascii_digit octet ≡ false) × (octet ≢ 34) × (octet ≢ 39)
@@ -65,8 +66,8 @@ PartMeans look_up so_far part result =
     ⊎ (IsBadIndex part × (result ≡ Err BadIndex))))
 
 -- `parts`, after the identifier `so_far`, mean `result`. The first fault from the left decides.
--- `look_up` finds the label of the first part; that of a later one is looked up among the children
--- of what comes before it.
+-- `look_up` finds the label of the first part; a label of a later part is looked up among the
+-- children of the identifier that the parts before it mean.
 abbrev pub PartsMean : Contents → (look_up : List ℕ → Option (List ℕ)) → (so_far : List ℕ)
     → (parts : List (List ℕ)) → Result (List ℕ) NameError → Type 0
 PartsMean tree look_up so_far [] result = result ≡ Ok so_far
@@ -88,21 +89,22 @@ found_in tree (in_module home) label = oid_in_module tree home label
 found_in tree anywhere label = oid_anywhere tree label
 found_in tree among_roots label = oid_of_root label
 
--- The parts of `text` are those of `rest`, and the scope for the label of the first one is: the
--- module before `::`; with a leading dot, the roots; otherwise the whole tree.
+-- `rest` is `text` without its module and `::`, or without its leading dot, if it has one of them.
+-- The label of the first part is looked up in the scope: the module before `::`; the roots after a
+-- leading dot; otherwise the whole tree.
 abbrev pub IsScoped : (text : List ℕ) → Scope → (rest : List ℕ) → Type 0
 IsScoped text (in_module home) rest = IsModuleCut text home rest
 IsScoped text among_roots rest = HasNoModule text × (text ≡ 46 ∷ rest)
 IsScoped text anywhere rest =
     HasNoModule text × (rest ≡ text) × ((more : List ℕ) → text ≢ 46 ∷ more)
 
--- whether the module is loaded, if the scope is one
+-- the scope is a module that is loaded, or it isn't a module
 abbrev pub is_loaded_in : Contents → Scope → Bool
 is_loaded_in tree (in_module home) = is_module_loaded tree home
 is_loaded_in tree _ = true
 
--- `rest` means `result` in `scope`: `Unknown` if this is a module that isn't loaded, otherwise what
--- the parts mean
+-- `rest` means `result` in `scope`: `Unknown` if the scope is a module that isn't loaded,
+-- otherwise what the parts of `rest` mean
 abbrev pub ScopeMeans : Contents → Scope → (rest : List ℕ) → Result (List ℕ) NameError → Type 0
 ScopeMeans tree scope rest result =
     ((is_loaded_in tree scope ≡ false) × (result ≡ Err Unknown))
@@ -118,7 +120,8 @@ TextMeans tree text result =
     ⊎ ((text ≢ []) × (text ≢ 46 ∷ []) × ((scope : Scope) × (rest : List ℕ)
     × IsScoped text scope rest × ScopeMeans tree scope rest result)))
 
--- the meaning of the prefix of `text` before the first `stop` outside quotes, with its length
+-- The prefix of `text` before the first `stop` outside quotes means an identifier and has `size`
+-- octets, or has the fault `why`. Without such a `stop` it is all of `text`.
 abbrev pub PrefixMeans : Contents → (stop : ℕ) → (text : List ℕ) → Result (List ℕ × ℕ) NameError
     → Type 0
 PrefixMeans tree stop text (Ok (o, size)) = (prefix : List ℕ) × IsUnquotedPrefix stop text prefix

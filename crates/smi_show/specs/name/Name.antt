@@ -22,20 +22,22 @@ abbrev pub arc_text : Option NodeView → List ℕ → ℕ → List ℕ
 arc_text None o n = decimal n
 arc_text (Some node) o n = if node.depth == length o then node.label else decimal n
 
--- the names of all numbers of `o`, each after a dot: one for each beginning of `o`
+-- for each number of `o`, a dot and then the label of the node at the beginning of `o` that ends
+-- with this number, or the number if there is none
 abbrev pub path_text : Contents → List ℕ → List ℕ
 path_text tree o =
     flat_map (λ here. codes "." ++ arc_text (nearest_node tree here) here (last_number here))
     (beginnings o)
 
--- the text of `node`, the deepest one, in a form
+-- the name of `node`, the deepest node at `o` or above, in the form; nothing in the numeric form
 abbrev pub node_text : Contents → NameForm → List ℕ → NodeView → List ℕ
 node_text tree Numeric o node = []
 node_text tree Full o node = path_text tree (take node.depth o)
 node_text tree Label o node = node.label
 node_text tree ModuleLabel o node = qualified node.home node.label
 
--- `text` shows the numbers after the node, by its index unless that is to be shown as numbers
+-- `text` shows the numbers of `o` after `node`: by its index, or as numbers if it has none, if the
+-- index doesn't read them all, or if `numeric_index` is set
 abbrev pub IsInstanceText : Bool → List ℕ → NodeView → (text : List ℕ) → Type 0
 IsInstanceText numeric_index o node text =
     (pieces : List Piece) × AreInstancePieces (if numeric_index then None else node.index)
@@ -49,12 +51,14 @@ IsNearestText tree form numeric_index o (Some node) text =
     (instance : List ℕ) × IsInstanceText numeric_index o node instance
     × (text ≡ node_text tree form o node ++ instance)
 
--- `text` is the name of `o`: in numbers in the numeric form, otherwise by its deepest node
+-- `text` is the name of `o`: by its deepest node, or in numbers in the numeric form or without a
+-- node
 abbrev pub IsName : Contents → NameForm → Bool → List ℕ → (text : List ℕ) → Type 0
 IsName tree Numeric numeric_index o text = text ≡ numeric_text o
 IsName tree form numeric_index o text =
     IsNearestText tree form numeric_index o (nearest_node tree o) text
 
--- names of this form, read again, mean the identifier that they show
+-- `form` is one whose names are read back as the identifier that they show: in numbers, or by
+-- module and label
 abbrev pub ReadsBack : NameForm → Type 0
 ReadsBack form = (form ≡ Numeric) ⊎ (form ≡ ModuleLabel)

@@ -1,5 +1,5 @@
 -- Computes what a part of a name is: a number, a text in quotes or a label; or why it is none of
--- these. For private clauses.
+-- these. For contracts of private functions.
 use Rattle.std.specs.Prelude.{ℕ, ◌-◌, ◌^◌, ◌&&◌, ◌==◌, nat_lt, if◌then◌else◌, List, [], ◌∷◌, length}
 use Rattle.std.specs.Prelude.{take, slice_index, Option, Some, None, Result, Ok, Err}
 use Rattle.std.specs.{List.list_all, Char.is_ascii_digit, Str.all_ascii_digits}
@@ -12,7 +12,8 @@ pub data Word : Type 0 where
   a_piece : Piece → Word
   a_label : List ℕ → Word
 
--- the number of 32 bits that decimal digits stand for, with or without leading zeros
+-- the number that `part` stands for, if all its octets are decimal digits and the number is below
+-- 2^32; leading zeros are allowed
 abbrev pub numeral_of : List ℕ → Option ℕ
 numeral_of part =
     if all_ascii_digits part && nat_lt (decimal_value part) (2 ^ 32) then Some (decimal_value part)
@@ -30,18 +31,18 @@ abbrev pub number_word : Option ℕ → Result Word NameError
 number_word None = Err BadNumber
 number_word (Some n) = Ok (a_piece (plain_number n))
 
--- `""` is the empty text with its length
+-- a text in double quotes; in a name `""` stands for a length of 0
 abbrev pub counted_word : Option (List ℕ) → Result Word NameError
 counted_word None = Err BadIndex
 counted_word (Some octets) = Ok (a_piece (counted_text octets))
 
--- `''` isn't a part
+-- a text in single quotes; `''` isn't one
 abbrev pub plain_word : Option (List ℕ) → Result Word NameError
 plain_word None = Err BadIndex
 plain_word (Some []) = Err BadIndex
 plain_word (Some (octet ∷ more)) = Ok (a_piece (plain_text (octet ∷ more)))
 
--- the word of a part, or its fault
+-- what the part is, or its fault
 abbrev pub word_of : List ℕ → Result Word NameError
 word_of [] = Err BadNumber
 word_of (octet ∷ more) =

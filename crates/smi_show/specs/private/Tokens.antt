@@ -4,7 +4,7 @@ use Rattle.std.specs.List.{flat_map}
 use Rattle.smi_text.specs.{lexer.Token.Lexeme, trees.Mark.TokensMatch, trees.Spelling.of_syntax}
 use Rattle.smi_text.specs.declared.trees.tree.Syntax.{Syntax}
 
--- the tokens spell the type, and nothing follows
+-- `tokens` spell the type `syntax` and nothing more
 abbrev pub AreTokensOf : Syntax → List Lexeme → Type 0
 AreTokensOf syntax tokens = TokensMatch (of_syntax syntax) tokens []
 

@@ -1,4 +1,4 @@
-//! The clauses of a definition, one per line.
+//! The clauses of a definition, each beginning on a line of its own.
 ghost use Rattle.std.specs.Prelude.{◌≡◌, [], ◌++◌, codes};
 ghost use Rattle.snmp_io.specs.Draft.{Adds};
 ghost use Rattle.smi_show.specs.details.Definition.{clause_text, definition_text, object_type_text};
@@ -10,8 +10,8 @@ use smi_text::{DefKind, ObjectType, Status, Text};
 use snmp_io::Draft;
 
 /// Appends SYNTAX, UNITS, MAX-ACCESS, STATUS and DESCRIPTION, as far as a definition has them (RFC
-/// 2578, sections 5 to 8; RFC 2580, sections 3 and 4), one per line. Appends nothing for a type, or
-/// for a definition whose clauses are stored as tokens.
+/// 2578, sections 5 to 8; RFC 2580, sections 3 and 4). Each begins on a line of its own. Appends
+/// nothing for a type, or for a definition whose clauses are stored as tokens.
 pub fn definition_text(kind: &DefKind, draft: &mut Draft)
     ensures { Adds draft.old (definition_text kind.now) draft.new }
 {
@@ -48,7 +48,7 @@ fn status_text(status: &Status, draft: &mut Draft)
     clause_text(b"DESCRIPTION", &status.description, draft);
 }
 
-/// Appends a clause, its word and its text, as one line.
+/// Appends a clause: two blanks, `word`, a tab, `text` and a newline.
 fn clause_text(word: &[u8], text: &Text, draft: &mut Draft)
     ensures { Adds draft.old (clause_text word.now text.now) draft.new }
 {

@@ -15,8 +15,8 @@ use smi_value::NameForm;
 use snmp_io::Draft;
 use snmp_oid::Oid;
 
-/// Appends the details of `oid`: its name, the label, kind, module and clauses of its deepest node,
-/// and `oid` as a value.
+/// Appends the details of `oid`: its name; the label, kind, module and clauses of the deepest node
+/// at `oid` or above, if there is one; and `oid` as a value.
 pub fn detail_text(tree: &Tree, form: NameForm, numeric_index: bool, oid: &Oid, draft: &mut Draft)
     ensures { let text = detail_text tree.now form numeric_index oid.now in
         Adds draft.old text draft.new }
@@ -62,7 +62,8 @@ fn clauses_text(definition: Option<&Def>, draft: &mut Draft)
     }
 }
 
-/// Appends the kind of a node's definition; a root is an OBJECT IDENTIFIER.
+/// Appends the kind of a node's definition. A root has no definition and is shown as an OBJECT
+/// IDENTIFIER.
 fn kind_text(definition: Option<&Def>, draft: &mut Draft)
     ensures { Adds draft.old (kind_text (option_copied definition.entry)) draft.new }
 {

@@ -11,11 +11,13 @@ ghost use Rattle.smi_text.specs.lexer.Token.{Lexeme};
 use smi_text::{Base, NamedNumber, Range, Refinement, Syntax};
 use snmp_io::Draft;
 
-/// Appends the tokens of a type, with a blank between each two.
+/// Appends the tokens of a type, with a blank between each two. An empty list, which no module
+/// text has, leaves two blanks between its brackets.
 #[tactic(auto, using(crate::proofs::TokenTexts::own_tokens))]
 pub fn syntax_text(syntax: &Syntax, draft: &mut Draft)
     ensures added { Adds draft.old (syntax_text syntax.now) draft.new }
-    // The tokens are those of the type in a module text.
+    // If a module text has the type as `tokens`, then the text is these tokens, with a blank
+    // between each two.
     ensures own_tokens { (tokens : List Lexeme) → AreTokensOf syntax.now tokens
         → syntax_text syntax.now ≡ joined_by_blanks tokens }
 {
@@ -74,7 +76,7 @@ fn refinement_text(refinement: &Refinement, draft: &mut Draft)
     }
 }
 
-/// Appends named numbers with commas between them.
+/// Appends named numbers with commas between them, or a blank if there are none.
 fn numbers_text(numbers: &[NamedNumber], draft: &mut Draft)
     ensures { Adds draft.old (numbers_text numbers.now) draft.new }
 {
@@ -108,7 +110,7 @@ fn named_number_text(number: &NamedNumber, draft: &mut Draft)
     draft.octets(b" )");
 }
 
-/// Appends ranges with bars between them.
+/// Appends ranges with bars between them, or a blank if there are none.
 fn ranges_text(ranges: &[Range], draft: &mut Draft)
     ensures { Adds draft.old (ranges_text ranges.now) draft.new }
 {

@@ -9,7 +9,7 @@ use smi_tree::{Near, Tree};
 use snmp_io::Draft;
 use snmp_oid::Oid;
 
-/// Appends the line `::= { P }`, P being the numbers, each but the last with its label.
+/// Appends the line `::= { P }`: P is the numbers, each but the last with its label if it has one.
 pub fn identifier_text(tree: &Tree, oid: &Oid, draft: &mut Draft)
     ensures { Adds draft.old (identifier_text tree.now oid.now) draft.new }
 {
@@ -18,7 +18,7 @@ pub fn identifier_text(tree: &Tree, oid: &Oid, draft: &mut Draft)
     draft.octets(b"}\n");
 }
 
-/// Appends the numbers, a blank after each, all but the last with their labels.
+/// Appends the numbers, a blank after each, and each but the last with its label, if it has one.
 fn parts_text(tree: &Tree, numbers: &[u32], draft: &mut Draft)
     requires { length numbers.now ≤ 128 }
     ensures { Adds draft.old (parts_text tree.now numbers.now) draft.new }
@@ -30,7 +30,7 @@ fn parts_text(tree: &Tree, numbers: &[u32], draft: &mut Draft)
     }
 }
 
-/// Appends the numbers with their labels, and a blank after each.
+/// Appends each number with its label, if it has one, and a blank.
 fn labelled_parts(tree: &Tree, numbers: &[u32], draft: &mut Draft)
     requires { length numbers.now ≤ 128 }
     ensures { Adds draft.old (labelled_parts tree.now numbers.now) draft.new }
@@ -52,7 +52,8 @@ fn labelled_part(tree: &Tree, here: &Oid, number: u32, near: &mut Near, draft: &
     draft.octets(b" ");
 }
 
-/// Appends the label of the node at `here` and `number` in parentheses, or only `number`.
+/// Appends the label of the node at `here` and `number` in parentheses, or only `number` if there
+/// is no node.
 fn labelled_number(tree: &Tree, here: &Oid, number: u32, near: &mut Near, draft: &mut Draft)
     ensures { let view = nearest_node tree.now here.now in
         Adds draft.old (labelled_number view here.now number) draft.new }

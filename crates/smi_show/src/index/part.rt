@@ -35,7 +35,8 @@ fn value_and_rest<'a>(part: IndexPart, numbers: &'a [u32]) -> Option<(&'a [u32],
     }
 }
 
-/// A list of numbers begins with the encoding of at most one value, after which one list remains.
+/// For the same `part`, at most one value is read from the start of a list of numbers, and only
+/// one rest is left.
 ///
 /// A law: the call does nothing, and its caller may use what it ensures.
 #[inline]
@@ -45,7 +46,8 @@ pub fn one_part_reading()
         → (value ≡ other) × (rest ≡ left) }
 {}
 
-/// Returns the numbers of a string, without a length, and those after it.
+/// Returns the numbers of the string at the start of `numbers`, without its length, and the
+/// numbers after it. Returns `None` if `numbers` doesn't begin with a string of this extent.
 fn split_extent<'a>(extent: Extent, numbers: &'a [u32]) -> Option<(&'a [u32], &'a [u32])>
     ensures { option_map (λ r. (r.0.now, r.1.now)) result ≡ in_extent extent numbers.now }
 {
@@ -67,7 +69,8 @@ fn split<'a>(numbers: &'a [u32], size: u64) -> Option<(&'a [u32], &'a [u32])>
     }
 }
 
-/// Splits off a length, and returns the numbers that it counts and the rest.
+/// Splits off a length, and returns the numbers that it counts and the rest. Returns `None` if
+/// there is no length, or fewer numbers follow.
 fn split_counted<'a>(numbers: &'a [u32]) -> Option<(&'a [u32], &'a [u32])>
     ensures { option_map (λ r. (r.0.now, r.1.now)) result ≡ counted numbers.now }
 {

@@ -57,9 +57,10 @@ pub fn numbers_text(numbers: &[u32], draft: &mut Draft)
     draft.octets(&room[..filled]);
 }
 
-/// Appends the numbers after a column by its index: strings whose octets may all appear between
-/// quotes as texts, anything else as numbers, with a dot before each. If the index doesn't read the
-/// whole list of numbers, appends all of it as numbers.
+/// Appends the numbers after a column by the parts of its index. An OCTET STRING that isn't empty
+/// and whose octets may all appear between quotes is shown as a text, any other value as numbers;
+/// a dot precedes each text and number. If the index doesn't read the whole list, appends all of
+/// it as numbers.
 pub fn index_text(parts: &[IndexPart], numbers: &[u32], draft: &mut Draft)
     ensures { let pieces = instance_pieces (Some parts.now) numbers.now in
         Adds draft.old (shown_pieces pieces) draft.new }
@@ -71,8 +72,8 @@ pub fn index_text(parts: &[IndexPart], numbers: &[u32], draft: &mut Draft)
     }
 }
 
-/// The pieces that show a list of numbers stand for exactly this list, and each may be a part of a
-/// name.
+/// The pieces that show a list of numbers stand for exactly this list. If each number is below
+/// 2^32, each piece may be a part of a name.
 ///
 /// A law: the call does nothing, and its caller may use what it ensures.
 #[tactic(auto, using(crate::proofs::Pieces::whole, crate::proofs::Pieces::each))]
@@ -85,7 +86,7 @@ pub fn pieces_represent_numbers()
 {}
 
 /// Returns whether the index reads all of `numbers` and one of the values may be shown as a text.
-/// If not, all of them are shown as numbers.
+/// If not, `numbers` are shown as numbers only.
 fn is_shown_by_values(parts: &[IndexPart], numbers: &[u32]) -> bool
     ensures read { OnTrue result (is_some (values_of parts.now numbers.now) ≡ true) }
     ensures numbers { let pieces = instance_pieces (Some parts.now) numbers.now in
@@ -140,7 +141,8 @@ fn reads_some_text(parts: &[IndexPart], numbers: &[u32]) -> bool
     false
 }
 
-/// Returns whether `value` may be shown as a text, by its first octet.
+/// Returns whether `part` is an OCTET STRING and `value` begins with an octet that may appear
+/// between quotes. Otherwise `value` isn't shown as a text.
 fn may_be_text(part: IndexPart, value: &[u32]) -> bool
     ensures { OnFalse result (is_text part value.now ≡ false) }
 {
@@ -189,8 +191,8 @@ fn number_text(number: u64, draft: &mut Draft)
     draft.number(number);
 }
 
-/// Writes leading numbers of one digit to the start of `room`, four at a time and at most 60, and
-/// returns how many it wrote. Most names begin with such numbers.
+/// Writes leading numbers of one digit, each after a dot, to the start of `room`: four at a time
+/// and at most 60. Returns how many numbers it wrote. Most names begin with such numbers.
 #[tactic(auto, using(std::proofs::lemmas::Bool::OnTrue_at, crate::proofs::LeadingNumbers::four_digits_more))]
 #[inline(always)]
 fn put_leading_numbers(room: &mut [u8; ROOM], numbers: &[u32]) -> usize
@@ -223,7 +225,8 @@ fn are_digits(first: u32, second: u32, third: u32, fourth: u32) -> bool
     first < 10 && second < 10 && third < 10 && fourth < 10
 }
 
-/// Writes a dot and a number of one digit twice, after the first `filled` octets of `room`.
+/// Writes `first` and `second`, two numbers of one digit, each after a dot, after the first
+/// `filled` octets of `room`.
 #[inline(always)]
 fn put_digits(room: &mut [u8; ROOM], filled: usize, first: u32, second: u32)
     requires room { filled ≤ 124 }
@@ -410,7 +413,7 @@ fn octets_text(value: &[u32], draft: &mut Draft)
     }
 }
 
-/// Returns whether there is an octet, and each may appear between quotes.
+/// Returns whether `value` isn't empty and each of its octets may appear between quotes.
 fn is_shown_text(value: &[u32]) -> bool
     ensures { result ≡ is_shown_text value.now }
 {

@@ -31,7 +31,7 @@ pub fn cut_module(text: &[u8]) -> Option<(&[u8], &[u8])>
     }
 }
 
-/// Returns what `cut_module` does, for a name that may have other colons.
+/// Does what [`cut_module`] does, also for a name with other colons before `::`.
 #[tactic(auto, using(std::proofs::lemmas::List::take_rest, crate::proofs::ModuleCut::module_here, crate::proofs::ModuleCut::module_later))]
 fn cut_later_module(text: &[u8]) -> Option<(&[u8], &[u8])>
     ensures { option_map (λ r. (r.0.now, r.1.now)) result ≡ module_after None text.now }

@@ -26,8 +26,8 @@ use snmp_oid::{Oid, StoredOid, leading_number, names, read_numeric};
 /// The name is `.`, or parts with dots between them, after `MODULE::`, a dot or neither. A number
 /// stands for itself, `"text"` for its length and octets, `'text'` for its octets only. A label as
 /// the first part is looked up in the module, among the roots after a leading dot, or in the whole
-/// tree; a label as a later part among the children of the node before it. What
-/// [`crate::name::name_text`] shows by module and label, or in numbers, is read back.
+/// tree; a label as a later part among the children of the identifier that the parts before it
+/// mean. What [`crate::name::name_text`] shows by module and label, or in numbers, is read back.
 pub fn resolve(tree: &Tree, text: &[u8]) -> Result<Oid, NameError>
     ensures stated { TextMeans tree.now text.now result }
     // A name shown by module and label, or in numbers, means the identifier that it is the name of.
@@ -77,7 +77,8 @@ pub fn resolve_front_into(
     Ok(prefix.len())
 }
 
-/// Returns what `resolve` does, by the computed meaning.
+/// Does what [`resolve`] does. Its contract has the function `meaning` in place of the relation
+/// `TextMeans`.
 fn meaning_of(tree: &Tree, text: &[u8]) -> Result<Oid, NameError>
     ensures { result ≡ meaning tree.now text.now }
 {
@@ -97,8 +98,9 @@ fn read_meaning(tree: &Tree, text: &[u8], oid: &mut Oid) -> Result<(), NameError
     named_meaning(tree, text, oid)
 }
 
-/// Reads `text` into `oid` if it is an identifier in numbers, and returns whether it is. Such a
-/// name is read in one pass.
+/// Reads `text` into `oid` in one pass, if it begins with a dot or a digit and [`read_numeric`]
+/// accepts it as an identifier in numbers. Returns whether it did. If not, `oid` may have any
+/// numbers.
 fn numbers_alone(text: &[u8], oid: &mut Oid) -> bool
     ensures { result ≡ true → IsNumericName text.now oid.new × (length oid.new ≤ 128) }
 {
@@ -108,7 +110,7 @@ fn numbers_alone(text: &[u8], oid: &mut Oid) -> bool
     }
 }
 
-/// Reads what any text means, part by part.
+/// Reads the identifier that `text` means into `oid`, part by part, whatever parts it has.
 fn named_meaning(tree: &Tree, text: &[u8], oid: &mut Oid) -> Result<(), NameError>
     ensures { read_to result oid.new ≡ meaning tree.now text.now }
 {
@@ -122,7 +124,8 @@ fn named_meaning(tree: &Tree, text: &[u8], oid: &mut Oid) -> Result<(), NameErro
     }
 }
 
-/// Reads a name of at least one part, with or without a module before it.
+/// Reads the identifier that `text` means into `oid`, if `text` is neither empty nor `.`. A module
+/// may precede the parts.
 fn scoped_meaning(tree: &Tree, text: &[u8], oid: &mut Oid) -> Result<(), NameError>
     ensures { read_to result oid.new
         ≡ scoped_meaning tree.now text.now (module_after None text.now) }
@@ -139,7 +142,7 @@ fn scoped_meaning(tree: &Tree, text: &[u8], oid: &mut Oid) -> Result<(), NameErr
     }
 }
 
-/// Reads a name without a module.
+/// Reads the identifier that `text`, a name without a module, means into `oid`.
 fn plain_meaning(tree: &Tree, text: &[u8], oid: &mut Oid) -> Result<(), NameError>
     ensures { read_to result oid.new ≡ plain_meaning tree.now text.now }
 {
@@ -160,7 +163,8 @@ enum Scope<'a> {
     Root,
 }
 
-/// Reads the parts in `text` into `oid`, with the label of the first looked up in `scope`.
+/// Reads the identifier that the parts in `text` mean into `oid`. A label as the first part is
+/// looked up in `scope`.
 fn parts_meaning(tree: &Tree, scope: Scope<'_>, text: &[u8], oid: &mut Oid) -> Result<(), NameError>
     ensures { let parts = name_parts text.now in
         read_to result oid.new
@@ -170,8 +174,8 @@ fn parts_meaning(tree: &Tree, scope: Scope<'_>, text: &[u8], oid: &mut Oid) -> R
     further_meaning(tree, left, oid)
 }
 
-/// Reads `parts`, which follow the parts of a name that mean the identifier in `oid`, if there are
-/// any. Sets `oid` to the identifier of all these parts.
+/// Reads `parts`, if there are any. In the name they follow the parts that mean the identifier in
+/// `oid`. Sets `oid` to the identifier that all of these parts mean.
 fn further_meaning(tree: &Tree, parts: Option<&[u8]>, oid: &mut Oid) -> Result<(), NameError>
     ensures { let left = parts_left (option_map (λ rest. rest.now) parts.entry) in
         read_to result oid.new ≡ further_meaning tree.now oid.old left }
@@ -183,8 +187,8 @@ fn further_meaning(tree: &Tree, parts: Option<&[u8]>, oid: &mut Oid) -> Result<(
     Ok(())
 }
 
-/// Reads the first part of a name into `oid`, and returns the text after the dot that follows it,
-/// if there is one.
+/// Reads the identifier that the first part of a name means into `oid`. Returns the text after the
+/// dot that follows the part, if there is one.
 fn first_meaning<'b>(
     tree: &Tree,
     scope: Scope<'_>,
@@ -200,8 +204,9 @@ fn first_meaning<'b>(
     Ok(rest)
 }
 
-/// Reads the first part of `text`, which follows the parts of a name that mean the identifier in
-/// `oid`. Returns the text after the dot that follows it, if there is one.
+/// Reads the first part of `text`. In the name it follows the parts that mean the identifier in
+/// `oid`. Sets `oid` to the identifier with this part, and returns the text after the dot that
+/// follows the part, if there is one.
 fn next_meaning<'b>(
     tree: &Tree,
     text: &'b [u8],
@@ -252,7 +257,8 @@ fn oid_of_label<'t>(tree: &'t Tree, scope: Scope<'_>, label: &[u8]) -> Option<&'
     }
 }
 
-/// Reads what a further part means after the identifier so far.
+/// Reads `part`, a later part of a name, which follows the parts that mean the identifier in
+/// `oid`. Sets `oid` to the identifier with this part.
 fn part_meaning(tree: &Tree, part: &[u8], oid: &mut Oid) -> Result<(), NameError>
     ensures { let look_up = oid_of_child tree.now oid.old in
         read_to result oid.new ≡ part_meaning look_up oid.old part.now }
@@ -263,7 +269,7 @@ fn part_meaning(tree: &Tree, part: &[u8], oid: &mut Oid) -> Result<(), NameError
     }
 }
 
-/// Copies the identifier that was found.
+/// Copies `found` to `oid`, or fails with `Unknown` if it is `None`.
 fn copy_if_known(found: Option<&StoredOid>, oid: &mut Oid) -> Result<(), NameError>
     ensures { read_to result oid.new ≡ or_unknown (option_copied found.entry) }
 {

@@ -28,8 +28,8 @@ pub enum Piece<'a> {
     Plain(&'a [u8]),
 }
 
-/// Reads a part: a number, a text in quotes, or a label. Fails if it is empty, or begins with a
-/// digit or a quote and is neither a number nor a text in quotes.
+/// Reads a part: a number, a text in quotes, or a label. Fails if it is empty or `''`, or begins
+/// with a digit or a quote and is neither a number nor a text in quotes.
 #[tactic(auto, using(crate::proofs::Numerals::numeral_read))]
 pub fn read_part(part: &[u8]) -> Result<Part<'_>, NameError>
     ensures { outcome_in result ≡ word_of part.now }

@@ -21,8 +21,8 @@ piece_text octet_format.Hexadecimal (octet ∷ more) = digits 16 false
 piece_text octet_format.Decimal (octet ∷ more) = decimal (number_of_octets (octet ∷ more))
 piece_text octet_format.Octal (octet ∷ more) = digits 8 false (number_of_octets (octet ∷ more))
 
--- `pieces` are cut one by one from the start of `octets`, while octets remain: `width` octets each,
--- or all that remain if there are fewer; `rest` is what remains after them
+-- `pieces` are cut one by one from the start of `octets`: `width` octets each, or all that remain
+-- if there are fewer, and no piece if none remain; `rest` is what remains after the pieces
 abbrev pub ArePieces : ℕ → List (List ℕ) → List ℕ → List ℕ → Type 0
 ArePieces width [] octets rest = rest ≡ octets
 ArePieces width (piece ∷ pieces) octets rest =
@@ -35,17 +35,19 @@ pub record IsCut (width times : ℕ) (pieces : List (List ℕ)) (octets rest : L
   pub at_most : length pieces ≤ times
   pub enough : (length pieces ≡ times) ⊎ (rest ≡ [])
 
--- the mark, if there is one and octets remain
+-- the text of `mark`, a separator or a terminator, before the octets that remain: nothing if none
+-- remain, or `mark` is `None`
 abbrev pub mark_before : Option ℕ → List ℕ → List ℕ
 mark_before mark [] = []
 mark_before mark (_ ∷ _) = option_to_list mark
 
--- the mark after the last application: the terminator or, without one, the separator
+-- the mark of `spec` after its last application: the terminator if it has one, otherwise the
+-- separator, which may be `None`
 abbrev pub last_mark : Spec → Option ℕ
 last_mark spec = if is_some spec.terminator then spec.terminator else spec.separator
 
 -- the text of the pieces of one spec: its separator, if it has one, is between them, and its last
--- mark is after them if octets remain in `rest`
+-- mark is after the last piece if octets remain in `rest`; nothing without pieces
 abbrev pub pieces_text : Spec → List (List ℕ) → List ℕ → List ℕ
 pieces_text spec [] rest = []
 pieces_text spec (piece ∷ []) rest =
@@ -104,7 +106,7 @@ single_text format octet = piece_text format (octet ∷ [])
 abbrev pub marked_text : OctetFormat → Option ℕ → ℕ → List ℕ
 marked_text format mark octet = option_to_list mark ++ single_text format octet
 
--- the text of octets one by one, with the mark, if any, before each but the first
+-- the text of octets one by one, with `mark`, if there is one, before each but the first
 abbrev pub singles_text : OctetFormat → Option ℕ → List ℕ → List ℕ
 singles_text format mark [] = []
 singles_text format mark (octet ∷ more) =

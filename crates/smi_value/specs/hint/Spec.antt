@@ -16,7 +16,8 @@ format_of letter =
     (if letter == 111 then Some octet_format.Octal else
     (if (letter == 97) || (letter == 116) then Some octet_format.Text else None)))
 
--- the most octets that one application may take: if shown as one number, this has up to 64 bits
+-- the most octets that one application may take: 8 in the formats that show them as one number,
+-- which then has at most 64 bits
 abbrev pub most_octets : OctetFormat → ℕ
 most_octets octet_format.Text = 65535
 most_octets _ = 8
@@ -33,7 +34,8 @@ after_star text = if has_star text then drop 1 text else text
 abbrev pub begins_spec : ℕ → Bool
 begins_spec octet = (octet == 42) || is_ascii_digit octet
 
--- the mark that the text begins with: its first octet, unless a spec can begin with that
+-- the mark (a separator or a terminator) that the text begins with: its first octet, unless a spec
+-- can begin with that octet
 abbrev pub mark_of : List ℕ → Option ℕ
 mark_of [] = None
 mark_of (octet ∷ _) = if begins_spec octet then None else Some octet

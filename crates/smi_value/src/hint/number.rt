@@ -16,7 +16,8 @@ use snmp_io::Draft;
 /// How an integer is shown (RFC 2579, section 3.1).
 #[derive(Clone, Copy, Debug, PartialEq, Eq)]
 pub enum NumberForm {
-    /// `d` and `d-n`: in decimal digits. Holds how many follow a point, 0 to 20, or 0 for no point.
+    /// `d` and `d-n`: in decimal digits. Holds the number of digits after the point, at most 20;
+    /// 0 is for no point.
     Decimal(u8),
     /// `x`: in base 16.
     Hexadecimal,

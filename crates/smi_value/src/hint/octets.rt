@@ -14,7 +14,8 @@ use crate::hint::number::{append_base_8, append_base_16, digit};
 use crate::hint::spec::{OctetFormat, Spec, first_spec};
 use snmp_io::Draft;
 
-/// Appends `octets` as `hint` shows them. `first` is its first spec, and `after` is the rest of it.
+/// Appends `octets` as `hint` shows them. `first` is the first spec of `hint`, and `after` is the
+/// text of `hint` after that spec.
 pub(crate) fn append_octets(
     draft: &mut Draft,
     hint: &[u8],
@@ -31,7 +32,8 @@ pub(crate) fn append_octets(
     let mut ahead = after;
     let mut left = octets;
     'groups: while !left.is_empty() {
-        // Hints often end with such a spec: each octet that is left is then a group of its own.
+        // The last spec of a hint often shows one octet at a time. One call then appends all the
+        // octets that remain.
         if ahead.is_empty() && spec.is_single() {
             append_singles(draft, spec.format, spec.last_mark(), left);
             return;
@@ -43,8 +45,8 @@ pub(crate) fn append_octets(
     }
 }
 
-/// Appends octets one by one, with the mark, if any, before each but the first. An address of six
-/// octets takes 641 instructions this way, and 1,544 as six groups.
+/// Appends octets one by one, with `mark`, if there is one, before each but the first. An address
+/// of six octets takes 641 instructions this way, and 1,544 by six calls of [`append_group`].
 fn append_singles(draft: &mut Draft, format: OctetFormat, mark: Option<u8>, octets: &[u8])
     ensures { Adds draft.old (singles_text format mark octets.now) draft.new }
 {
@@ -57,7 +59,7 @@ fn append_singles(draft: &mut Draft, format: OctetFormat, mark: Option<u8>, octe
     }
 }
 
-/// Appends octets one by one, with the mark, if any, before each.
+/// Appends octets one by one, with `mark`, if there is one, before each.
 fn append_others(draft: &mut Draft, format: OctetFormat, mark: Option<u8>, octets: &[u8])
     ensures { Adds draft.old (flat_map (marked_text format mark) octets.now) draft.new }
 {
@@ -66,8 +68,8 @@ fn append_others(draft: &mut Draft, format: OctetFormat, mark: Option<u8>, octet
     }
 }
 
-/// Appends the mark, if there is one, and an octet. In the most frequent formats both are appended
-/// in one piece.
+/// Appends `mark`, if there is one, and an octet. In the most frequent formats, base 16 and base
+/// 10, one call appends both.
 fn append_marked(draft: &mut Draft, format: OctetFormat, mark: Option<u8>, octet: u8)
     ensures { Adds draft.old (marked_text format mark octet) draft.new }
 {
@@ -146,8 +148,8 @@ fn next_spec(text: &[u8]) -> (Spec, &[u8])
     }
 }
 
-/// Appends what one use of `spec` shows, and returns the octets that remain. If the spec has a `*`,
-/// the first octet says how many times it is applied to those after it.
+/// Appends what one use of `spec` shows, and returns the octets that remain. If `spec` has a `*`,
+/// the first octet is the number of times that `spec` is applied to the octets after it.
 fn append_group<'a>(draft: &mut Draft, spec: &Spec, octets: &'a [u8]) -> &'a [u8]
     requires some { octets.now ≢ [] }
     requires fits { spec.now.length ≤ most_octets spec.now.format }
@@ -171,7 +173,8 @@ fn append_pieces<'a>(draft: &mut Draft, spec: &Spec, times: usize, octets: &'a [
         × Adds draft.old (pieces_text spec.now pieces result.now) draft.new }
 {
     if spec.length == 0 && spec.separator.is_none() && times > 1 {
-        // Empty pieces without marks between them add nothing: one is enough for all.
+        // These applications take no octets and put nothing between each other, so one of them
+        // appends the same text as all.
         append_cut(draft, spec, 1, octets)
     } else if spec.length == 1 {
         append_cut_singles(draft, spec, times, octets)
@@ -217,8 +220,9 @@ fn append_cut<'a>(draft: &mut Draft, spec: &Spec, times: usize, octets: &'a [u8]
     left
 }
 
-/// Appends what one application of `spec` shows, with the mark after it if octets remain, and
-/// returns the octets that remain. The mark is the last one if `is_last`, otherwise the separator.
+/// Appends what one application of `spec` shows, and returns the octets that remain. If any
+/// remain, it then appends `spec.last_mark()` if `is_last`, otherwise `spec.separator`; either may
+/// be `None`.
 fn append_piece<'a>(draft: &mut Draft, spec: &Spec, is_last: bool, octets: &'a [u8]) -> &'a [u8]
     requires { spec.now.length ≤ most_octets spec.now.format }
     ensures rest { result.now ≡ drop spec.now.length octets.now }
@@ -237,7 +241,7 @@ fn append_piece<'a>(draft: &mut Draft, spec: &Spec, is_last: bool, octets: &'a [
     rest
 }
 
-/// Appends the mark, if there is one and octets remain.
+/// Appends `mark`, if there is one, unless `rest`, the octets that remain, is empty.
 #[tactic(auto, using(crate::proofs::Drafts::adds_none))]
 fn append_mark(draft: &mut Draft, mark: Option<u8>, rest: &[u8])
     ensures { Adds draft.old (mark_before mark rest.now) draft.new }

@@ -110,8 +110,9 @@ fn longest(format: OctetFormat) -> u32
     }
 }
 
-/// Returns the first octet of `text` as a mark, and the rest. If a spec can begin with that octet,
-/// or `text` is empty, there is no mark, and the rest is `text`.
+/// Returns the mark (a separator or a terminator) that `text` begins with, and the rest. The mark
+/// is the first octet. If a spec can begin with that octet, or `text` is empty, the mark is `None`,
+/// and the rest is `text`.
 fn split_mark(text: &[u8]) -> (Option<u8>, &[u8])
     ensures mark { result.0 ≡ mark_of text.now }
     ensures after { result.1.now ≡ after_mark text.now }
@@ -156,7 +157,8 @@ fn ends_hint(text: &[u8], first: &Spec, ahead: &[u8]) -> bool
 }
 
 impl Spec {
-    /// Returns whether each use of the spec takes octets: its count (`*`), or `length` octets.
+    /// Returns whether each use of the spec takes octets: it has a `*`, so it takes the count, or
+    /// its length isn't 0.
     pub(crate) fn takes_octets(&self) -> bool
         ensures { result ≡ takes_octets self.now }
     {
@@ -170,7 +172,8 @@ impl Spec {
         !self.is_counted && self.length == 1
     }
 
-    /// Returns the mark after the last application: the terminator or, without one, the separator.
+    /// Returns the mark after the last application: the terminator if the spec has one, otherwise
+    /// the separator, which may be `None`.
     pub(crate) fn last_mark(&self) -> Option<u8>
         ensures { result ≡ last_mark self.now }
     {

@@ -1,5 +1,5 @@
--- Computes what the relations of Index and Pieces define, for private clauses: the values that an
--- index reads from numbers, and their pieces.
+-- Computes what the relations of Index and Pieces define, for contracts of private functions: the
+-- values that an index reads from numbers, and their pieces.
 use Rattle.std.specs.Prelude.{ℕ, nat_le, if◌then◌else◌, List, [], ◌∷◌, length, take, drop, Option}
 use Rattle.std.specs.Prelude.{Some, None, option_map, option_and_then, unwrap_or, Bool, false}
 use Rattle.std.specs.List.{list_all}
@@ -14,7 +14,7 @@ abbrev pub split_numbers : ℕ → List ℕ → Option (List ℕ × List ℕ)
 split_numbers size numbers =
     if nat_le size (length numbers) then Some (take size numbers, drop size numbers) else None
 
--- the numbers that a length before them counts, and the rest
+-- the numbers that a length at the start counts, and the rest, unless there are fewer
 abbrev pub counted : List ℕ → Option (List ℕ × List ℕ)
 counted [] = None
 counted (size ∷ numbers) = split_numbers size numbers
@@ -38,7 +38,7 @@ value_and_rest part numbers =
     if is_of_octets part then of_octets (in_extent (extent_of part) numbers)
     else in_extent (extent_of part) numbers
 
--- the values of all parts, if they use up the numbers
+-- the values of all parts, if `numbers` are their encodings and nothing more
 abbrev pub values_of : List IndexPart → List ℕ → Option (List (List ℕ))
 values_of [] [] = Some []
 values_of [] (n ∷ more) = None
@@ -52,7 +52,8 @@ abbrev pub has_text : List IndexPart → List ℕ → Bool
 has_text parts numbers =
     unwrap_or (option_map (is_text_among parts) (values_of parts numbers)) false
 
--- the pieces that show the numbers after a node
+-- the pieces that show the numbers after a node: by the values that its index reads, if it reads
+-- all of them; otherwise each number by itself
 abbrev pub instance_pieces : Option (List IndexPart) → List ℕ → List Piece
 instance_pieces None numbers = as_numbers numbers
 instance_pieces (Some parts) numbers =

@@ -1,4 +1,4 @@
--- The rest of a name while it is read, for private clauses.
+-- The rest of a name while it is read, for contracts of private functions.
 use Rattle.std.specs.Prelude.{ℕ, List, [], Option, Some, None}
 use Rattle.smi_show.specs.name.Cutting.{name_parts}
 

@@ -1,4 +1,5 @@
--- The result of a call that reads into an identifier of its caller, for private clauses.
+-- The result of a call that reads into an identifier of its caller, for contracts of private
+-- functions.
 use Rattle.std.specs.Prelude.{ℕ, List, Option, option_map, Result, Ok, Err}
 use Rattle.std.specs.Borrow.{Bor}
 use Rattle.smi_show.specs.{private.name.Left.parts_left, name.Meaning.further_meaning}
@@ -10,7 +11,9 @@ abbrev pub read_to : Result (Unit {0}) NameError → List ℕ → Result (List �
 read_to (Ok done) o = Ok o
 read_to (Err fault) o = Err fault
 
--- the meaning of a name, if a call read parts into `o` and returned the text left, or failed
+-- the meaning of a name whose first parts a call read into `o`: if the call returned the text
+-- after them, what the parts of this text mean after `o`, which may be a fault; `o` if it returned
+-- none; if the call failed, its fault
 abbrev pub meant_with : Contents → Result (Option (Bor (List ℕ))) NameError → List ℕ
     → Result (List ℕ) NameError
 meant_with tree (Ok left) o =

@@ -1,4 +1,5 @@
--- The values of the code's types for parts and scopes, for private clauses.
+-- The values of the code's types for parts and scopes as values of the definitions' types, for
+-- contracts of private functions.
 use Rattle.std.specs.Prelude.{Result, Ok, Err}
 use Rattle.smi_show.specs.index.Pieces as pieces
 use Rattle.smi_show.specs.{name.Word.Word, name.Word.a_piece, name.Word.a_label}

@@ -3,7 +3,7 @@ use Rattle.snmp_io.specs.Draft.{Grows}
 use Rattle.smi_show.specs.index.Pieces.{as_numbers, shown_pieces}
 use Rattle.smi_show.proofs.index.shown.numbers_text.Given as goal
 
--- the text appended and the filled buffer are the text of the numbers so far
+-- the text appended and then the filled part of the buffer are the text of the numbers so far
 abbrev pub invariant-numbers : goal.invariant-numbers
 invariant-numbers l = record {
   done : List ℕ;
