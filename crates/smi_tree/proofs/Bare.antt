@@ -7,7 +7,7 @@ use Rattle.smi_tree.specs.{types.Types.Facts, types.Chain.no_type, columns.Index
 use Rattle.smi_tree.specs.{Tree.IsTree, Bare.bare, declared.columns.index_part.IndexPart.IndexPart}
 use Rattle.smi_tree.proofs.{TypeChains.no_syntax, Soundness.root-case}
 
--- the roots have no syntax and no index
+-- a list of three `None` has `None` at each index, so the roots have no syntax and no index
 none-at : {A : Type 0} (k : ℕ) → slice_index_or {A = Option A} (None ∷ (None ∷ (None ∷ []))) k None ≡ None
 none-at (suc (suc (suc k))) = refl
 none-at _ = refl

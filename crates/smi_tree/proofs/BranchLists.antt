@@ -1,4 +1,4 @@
--- The branches of a list of identifiers, as identifiers are appended and their branches are added.
+-- If the branches of a list of identifiers are right (`AreBranches`), then they stay right as an identifier is appended and its branches are added.
 use Rattle.std.proofs.{lemmas.Grind.common_steps, lemmas.Bool.cases_lt, lemmas.Bool.cases_eq, Math.Seq.take-append_seam}
 use Rattle.std.proofs.lemmas.Option.{slice_get_past, slice_get_read}
 use Rattle.std.proofs.Common.{◌≡◌, ◌≢◌, ℕ, ◌+◌, ◌<◌, ◌⊎◌, inl, inr, List, [], ◌∷◌, ◌++◌, length, take, drop, set, get_or, MatchOption, Option, Some}
@@ -16,7 +16,7 @@ use Rattle.smi_tree.proofs.NewBranches.{follower_past, id_inside, get-set_same, 
 use Rattle.smi_tree.proofs.BranchWalks.{walk_push, walk_off, walk_within, walk_kept, walk_back}
 
 module _ (bs new : List Branch) (at n b : ℕ) (grows : GrowsBranch bs new at n b) where
-  -- if numbers reached a branch, they still reach it
+  -- if numbers reached a branch before `bs` grew to `new`, then they still reach it
   pub branch_kept : (o : List ℕ) (c : ℕ) → branch_of bs o ≡ Some c → branch_of new o ≡ Some c
   branch_kept o = walk_kept (follower bs) (follower new) grows.kept o 0
 
@@ -70,11 +70,11 @@ module _ (known oids : List (List ℕ)) (bs : List Branch) (are : AreBranches kn
     pub Branches-grown : IsBeginning known (q ++ n ∷ []) → AreBranches known oids new
     Branches-grown begins = elim grows.adds [ inl e ↦ rw e are | inr a ↦ added a begins ]
 
--- if branches are right for the known identifiers, they are right with one more: each of the others has the index that it had
+-- if branches are right for the identifiers `known`, then they are right with one more identifier, `p`, in this list
 pub Branches-known : (known oids : List (List ℕ)) (p : List ℕ) (bs : List Branch) → AreBranches known oids bs → AreBranches (known ++ p ∷ []) oids bs
 Branches-known known oids p bs are = grind (arith, common_steps, length_push, get_or_append_left)
 
--- the prefixes of an identifier that is appended to the known ones are prefixes of a known one
+-- if `p` is appended to the identifiers `known`, then one of these begins with the first `j` numbers of `p`
 pub begins_push : (known : List (List ℕ)) (p : List ℕ) (j : ℕ) → IsBeginning (known ++ p ∷ []) (take j p)
 begins_push known p j =
     (length known, drop j p, omega (arith, length_push known p), get_or_push known p [] (length known) refl ∙ sym (take-append-drop j p))

@@ -1,4 +1,4 @@
--- Walks along branches: with one more number at the end, and after a branch was added.
+-- `walk` follows numbers from branch to branch: what it reaches with one more number (`walk_push`), and after a branch was added (`walk_kept`, `walk_back`).
 use Rattle.std.proofs.{lemmas.Grind.common_steps}
 use Rattle.std.proofs.Common.{◌≡◌, ℕ, ◌<◌, ◌⊎◌, inl, inr, List, [], ◌∷◌, ◌++◌, Option, Some, None, refl, ap, arith}
 use Rattle.std.specs.Option.{option_and_then}

@@ -21,7 +21,7 @@ one_lowest (nothing h) (lowest m j d before) = cc (h m)
 one_lowest (lowest n k e before) (nothing h) = cc (h n)
 one_lowest (lowest n k e before) (lowest m j d earlier) = grind (arith, cases_order n m, before m, earlier n)
 
--- the result is `Some k` if `f` returns this for the lowest number below `b` for which it isn't `None`, or `None` if there is none below `b`
+-- the result is `Some k` if `f` returns this for the lowest number for which `f` isn't `None`; it is `None` if `f` is `None` for all numbers below `b`
 abbrev IsLowestBelow : (ℕ → Option ℕ) → ℕ → Option ℕ → Type 0
 IsLowestBelow f b None = (m : ℕ) → m < b → f m ≡ None
 IsLowestBelow f b (Some k) = (n : ℕ) × (f n ≡ Some k) × ((m : ℕ) → m < n → f m ≡ None)
@@ -38,10 +38,10 @@ of_lowest-lowest f b within = by (of_lowest f b) (lowest_below f b)
     by None below = nothing (λ m. none_if (f m) (λ k e. let none = below m (within m k e) in cc))
     by (Some k) (n, e, before) = lowest n k e before
 
--- if numbers increase, and `f` is `None` for all others, then its first result for them is the result for the lowest number
 in-rest : (n m : ℕ) (ns : List ℕ) → Contains (n ∷ ns) m → n ≢ m → Contains ns m
 in-rest n m ns (i, l, e) other = grind (arith, common_steps)
 
+-- if the numbers `ns` increase, and `f` is `None` for all others, then its first result for `ns` is the result for the lowest number
 of_first-lowest : (f : ℕ → Option ℕ) (ns : List ℕ) → IsStrictlySortedBy nat_cmp ns → ((n k : ℕ) → f n ≡ Some k → Contains ns n)
     → IsOfLowest f (of_first f ns)
 of_first-lowest f [] rising all = nothing (λ m. none_if (f m) (λ k e. let there = all m k e in omega (arith, there.1)))
@@ -58,23 +58,23 @@ of_first-lowest f (n ∷ ns) rising all =
     by None e rest = rw e (rest (λ m k h same. let at : f n ≡ Some k = rw same h in cc))
     by (Some k) e rest = rw e (lowest n k e before)
 
--- if `h` is `g` with a test, then the first index that passes, of those that `g` finds for numbers, is the first result of `h`
+-- if `h` returns what `g` returns, but only if that passes the test `p`, then the first result of `g` for `ns` that passes is the first result of `h`
 find-first : (p : ℕ → Bool) (g : ℕ → Option ℕ) (h : ℕ → Option ℕ) (ns : List ℕ)
     → ((n : ℕ) → g n ≡ None → h n ≡ None) → ((n k : ℕ) → g n ≡ Some k → h n ≡ cond (p k) (Some k) None)
     → find p (filter_map g ns) ≡ of_first h ns
 find-first p g h [] none some = refl
 find-first p g h (n ∷ ns) none some = grind (arith, common_steps, find-first p g h ns none some, none n, some n)
 
--- the last number of an identifier of the list is at most the highest
 last_number-push : (o : List ℕ) (n : ℕ) → last_number (o ++ n ∷ []) ≡ n
 last_number-push (m ∷ k ∷ o) n = last_number-push (k ∷ o) n
 last_number-push _ n = refl
 
+-- the last number of the identifier at index `k` is at most `highest oids`
 up_to_highest : (oids : List (List ℕ)) (k : ℕ) → k < length oids → last_number (oid_at oids k) ≤ highest oids
 up_to_highest [] k l = absurd (omega arith)
 up_to_highest (o ∷ oids) k l = grind (arith, common_steps, up_to_highest oids)
 
--- if a child of `o` is found for a number, it is the node of `o` with that number appended, and the number is at most the highest
+-- if a child of `o` is found for the number `n`, then its index is the first index of `o` with `n` appended
 child-id : (nodes : List Node) (o label : List ℕ) (n k : ℕ) → child_at nodes o label n ≡ Some k → first_index (oids_of nodes) (o ++ n ∷ []) ≡ Some k
 child-id nodes o label n k e = grind (arith, common_steps)
 
@@ -83,7 +83,7 @@ child-below nodes o label n k e =
     let at = index_found (oids_of nodes) (o ++ n ∷ []) k (child-id nodes o label n k e) in
     omega (arith, up_to_highest (oids_of nodes) k at.0, ap last_number at.1, last_number-push o n)
 
--- the computed child is the first child, and no other is
+-- `child_of`, which is computed, is the first child; by `child_is`, no other node is
 pub child_first : (nodes : List Node) (o label : List ℕ) → IsFirstChild nodes o label (child_of nodes o label)
 child_first nodes o label = of_lowest-lowest (child_at nodes o label) (suc (highest (oids_of nodes))) (child-below nodes o label)
 

@@ -1,4 +1,4 @@
--- The definition that a name refers to.
+-- The definition that is stored for a name is the definition that the name refers to; if none is stored, it refers to none (`is_meant`).
 use Rattle.std.proofs.Common.{◌≡◌, ℕ, inl, inr, List, MatchOption, Option, Some, None, refl}
 use Rattle.smi_names.specs.chains.Chain.{HasEnd, ends, refers_on}
 use Rattle.smi_text.specs.{declared.trees.tree.Module.Module, declared.trees.tree.Def.Def, declared.trees.tree.Import.Import}

@@ -1,4 +1,4 @@
--- The first item of a list that passes a test.
+-- `position_from` finds the first item of a list that passes a test (`first`, `is_first`), also if items are appended (`append-from`, `more`).
 use Rattle.std.proofs.{lemmas.Grind.common_steps, lemmas.Bool.cases_lt, lemmas.Option.slice_get_within, Math.Bool.and-false}
 use Rattle.std.proofs.Common.{◌≡◌, ℕ, zero, suc, ◌+◌, ◌<◌, Bool, true, false, cond, ◌&&◌, List, [], ◌∷◌, ◌++◌, length, take, drop, get_or}
 use Rattle.std.proofs.Common.{Option, Some, None, MatchOption, refl, ◌∙◌, arith}

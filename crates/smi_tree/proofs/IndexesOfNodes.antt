@@ -1,4 +1,4 @@
--- The index of each node, from its row and the parts of the INDEX clause that the row uses.
+-- If the stored parts and the stored rows are right, then the index of each node is right (`are_indexes`).
 use Rattle.std.proofs.{lemmas.Grind.common_steps, lemmas.List.same_from_push, lemmas.List.length-map, lemmas.Option.slice_get-map}
 use Rattle.std.proofs.lemmas.Option.{get_or_from_slice_get}
 use Rattle.std.proofs.Common.{◌≡◌, ℕ, List, Option, Some, None, refl, sym, ◌∙◌, arith}

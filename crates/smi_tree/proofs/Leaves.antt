@@ -1,4 +1,4 @@
--- If no identifier of a list is below another one of it, that is the longest prefix in the list of each identifier below it.
+-- If no identifier of a list is below `root`, which is in the list, then `root` is the longest prefix, in the list, of each identifier below `root`.
 use Rattle.std.proofs.Common.{◌≡◌, ℕ, ◌+◌, List, [], ◌∷◌, ◌++◌, length, take, drop, Option, Some, None, IfSome, MatchOption, refl, ap, ◌∙◌}
 use Rattle.std.proofs.Common.{append_assoc, arith}
 use Rattle.std.proofs.lemmas.List.{length-append, length-take-le, length-drop, take-take, take-append-drop}
@@ -18,7 +18,7 @@ none_below oids bs are at id is_at ends p (n ∷ more, some, is) =
     let off = walk_push (follower bs) 0 (oid_at oids id) n ∙ rw (id_way oids oids bs are at id is_at) (ends n) in
     rw (is, ← append_assoc known (n ∷ []) more) (indices_off oids oids bs are (known ++ n ∷ []) more off)
 
--- if the longest prefix of `o` has none of the list below it, it is the longest prefix of each identifier below it
+-- if no identifier of the list is below `root`, the longest prefix of `o`, then `root` is also the longest prefix of each identifier below `root`
 pub deepest_below : (oids : List (List ℕ)) (o p root : List ℕ) (id depth : ℕ) → IsDeepestAt oids o id depth → root ≡ oid_at oids id
     → HasNoneBelow oids root → IsBelow p root → IsDeepestAt oids p id depth
 deepest_below oids o p root id depth at read last (rest, some, is) =
@@ -40,7 +40,8 @@ pub last_if_some : {X : Type 0} (value : X → List ℕ) (r : Option X) (oids : 
     → HasNoneBelow oids (oid_at oids id) → IfSome r (λ o. HasNoneBelow oids (value o))
 last_if_some value r oids id at last = grind (arith, common_steps)
 
--- if something holds of each identifier that has this longest prefix, it holds of each identifier below the prefix
+-- if no identifier of the list is below `root`, the longest prefix of `o`, then what holds of each identifier with this longest prefix holds of each
+-- identifier below `root`
 pub holds_below : {X : Type 0} (value : X → List ℕ) (r : Option X) (oids : List (List ℕ)) (o : List ℕ) (id depth : ℕ) → IsDeepestAt oids o id depth
     → IfSome r (λ root. value root ≡ oid_at oids id) → IfSome r (λ root. HasNoneBelow oids (value root))
     → (Holds : List ℕ → Type 0) → ((p : List ℕ) → IsDeepestAt oids p id depth → Holds p)

@@ -1,4 +1,4 @@
--- Elements of lists by their indices.
+-- The items of a list with one more at the end (`get_push`); lists with the same items at each index are equal (`same_items`).
 use Rattle.std.proofs.Common.{◌≡◌, ℕ, zero, suc, ◌<◌, List, [], ◌∷◌, ◌++◌, length, Some, refl, arith, ◌⊎◌, inl, inr}
 use Rattle.std.specs.List.{slice_get}
 use Rattle.std.proofs.{lemmas.Grind.common_steps, lemmas.Option.slice_get_cases}

@@ -1,4 +1,4 @@
--- The longest prefix of an identifier that is in a list.
+-- `longest_up_to` is the longest prefix of an identifier that is in a list (`longest_is`), and searches find it (`longest_found`).
 use Rattle.std.proofs.{lemmas.Grind.common_steps, lemmas.Bool.cases_eq}
 use Rattle.std.proofs.Common.{◌≡◌, ℕ, zero, suc, ◌≤◌, inl, inr, List, length, take, Option, Some, None, refl, arith}
 use Rattle.std.specs.Prelude.{MatchOption, ◌<◌, option_map}

@@ -1,4 +1,4 @@
--- A branch is added.
+-- If an empty branch is added at the end, and only the branch `at` changes, by a step by `n` to the new one, then `GrowsBranch` holds (`GrowsBranch-made`).
 use Rattle.std.proofs.{lemmas.Grind.common_steps, lemmas.Bool.cases_eq}
 use Rattle.std.proofs.Common.{◌≡◌, ◌≢◌, ℕ, ◌<◌, ◌≤◌, inr, List, [], ◌∷◌, ◌++◌, length, set, get_or, Some, None, refl, ◌∙◌, arith}
 use Rattle.std.proofs.lemmas.List.{length_push, length-set, get_or_append_left, get_or-set_same}

@@ -1,4 +1,4 @@
--- A list is made item by item, with one item for each of another list.
+-- For loops that make a list with one item for each item of another: `AreFirst` says that the first `i` are right, `first_more` adds one.
 use Rattle.std.proofs.{lemmas.Grind.common_steps, lemmas.List.length_push, lemmas.Option.slice_get_within, lemmas.Option.slice_get_read}
 use Rattle.std.proofs.Common.{◌≡◌, ℕ, ◌+◌, ◌<◌, List, [], ◌∷◌, ◌++◌, length, get_or, Some, refl, ◌∙◌, arith}
 use Rattle.std.specs.List.{slice_get}

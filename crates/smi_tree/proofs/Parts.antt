@@ -1,4 +1,4 @@
--- The part for an object, from the indices of its definition.
+-- If the definition that a name refers to was found, then the part for the name follows from its stored syntax (`part_read`, `part_untyped`).
 use Rattle.std.proofs.Common.{arith, ◌≡◌, ℕ, Bool, List, MatchOption, Option, Some, None, refl}
 use Rattle.std.proofs.lemmas.Grind.{common_steps}
 use Rattle.smi_names.specs.{chains.Resolution.ComesTo, meaning.Meaning.QualifiedName, meaning.Meaning.origin}

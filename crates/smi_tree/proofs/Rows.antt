@@ -1,4 +1,4 @@
--- The rows of columns, and the INDEX clauses that they use.
+-- The row that is found for a column is its row (`row_is`), and the INDEX clause that is found for a row is the clause it uses (`uses_own`, `uses_named`).
 use Rattle.std.proofs.{lemmas.Grind.common_steps, lemmas.List.same_from_push}
 use Rattle.std.proofs.lemmas.Option.{slice_get_within, slice_get-get_or, slice_get_read}
 use Rattle.std.proofs.Common.{◌≡◌, ℕ, ◌<◌, ◌≤◌, List, [], ◌∷◌, ◌++◌, length, get_or, MatchOption, Option, Some, None, refl, sym, subst, ap, ◌∙◌, arith}

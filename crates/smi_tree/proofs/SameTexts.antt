@@ -1,4 +1,4 @@
--- Equal strings of octets.
+-- `same_text` is true of equal strings of octets only (`same`), and of all of them (`same_itself`).
 use Rattle.std.proofs.{Common.◌≡◌, Common.ℕ, Common.true, Common.List, Common.refl, lemmas.Slice.Eq.bytes_eq-Decides}
 use Rattle.smi_text.specs.trees.Mark.{same_text}
 

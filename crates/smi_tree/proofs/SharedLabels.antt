@@ -1,4 +1,4 @@
--- Labels that several modules define: the first source in each module.
+-- If several modules define a label, then the map `others` has the first source in each module (`others-more`).
 use Rattle.std.proofs.Common.{◌≡◌, ℕ, ◌+◌, ◌<◌, ◌==◌, ◌&&◌, Bool, true, false, cond, List, length, take, get_or, Option, Some, None, unwrap_or, arith}
 use Rattle.std.proofs.Common.{option_map, refl, sym, ◌∙◌}
 use Rattle.std.proofs.{lemmas.Grind.common_steps, lemmas.Bool.eqb-true, Math.Bool.and-false}
@@ -26,14 +26,14 @@ indices_decide name xs a b j k e f =
     let g = named name xs a j e in let h = named name xs b k f in
     grind (arith, common_steps, same a b, same_itself b, g.1, g.2, h.1, h.2)
 
--- whether the key is `other`
+-- whether there is a key and it is `other`
 abbrev pub fits : Option (ℕ × ℕ) → ℕ × ℕ → Bool
 fits None other = false
 fits (Some key) other = same_key key other
 
 module _ (ms : List Module) (homes : NameIndices) (ss : List Source) (old new : Others) (k f : ℕ) (d : Source)
     (placed : (x : List ℕ) → index_in homes x ≡ module_index ms x) (inside : k < length ss) where
-  -- if the source at index `k` is entered by its key, the map is right for one source more
+  -- if `old` is right for the first `k` sources, and `new` is `old` with the source at index `k` entered by its key, then `new` is right for `k + 1` sources
   pub others-more : position_from (has_label ms (label_from ms (get_or ss k d))) 0 ss ≡ Some f
       → ((y : ℕ × ℕ) → get same_key new y ≡ or_else (get same_key old y) (cond (fits (key_of ms homes (get_or ss k d) f k) y) (Some k) None))
       → AreOthers ms ss old (take k ss) → AreOthers ms ss new (take (k + 1) ss)

@@ -32,7 +32,7 @@ pub id_is : (nodes : List Node) (o : List ℕ) (n : Node) → IsNodeAt nodes o n
 id_is nodes o n s =
     sym (get_or_from_slice_get (oids_of nodes) s.id n.oid [] (oid-at nodes s.id n s.there)) ∙ (index_found (oids_of nodes) o s.id s.first).1
 
--- `node` is a node of the tree as names see it, and its identifier is a prefix of `o`
+-- `node` is a node of the tree, in the form that look-ups return, and its identifier is a prefix of `o`
 pub record IsViewOf (t : Contents) (o : List ℕ) (node : NodeView) : Type 0 where
   pub id : ℕ
   pub n : Node

@@ -25,7 +25,8 @@ returned ms m d id (Some v) ns ws k n first there (R.Numbers o, comes, is, w) e 
     subst P here (record { home = m; first = first; definition = d; id = id; there = there; is = refl; identifier = comes })
 returned ms m d id (Some v) ns ws k n first there (_, comes, is, w) e = let at : slice_get [] k ≡ Some n = rw is at e in cc
 
--- if a node comes from one of the first definitions of a module, it is the node of a definition
+-- if module `m` is the first of its name in `ms`, and `ds` is a prefix of its definitions, then each node in `ns`, gathered from `ds`, is the node of a
+-- definition in `ms` (`IsDefined`)
 gathered : (ms : List Module) (m : Module) (ds : List Def) (ns : List Node) (ws : List Warning) (k : ℕ) (n : Node)
     → module_named ms m.name.octets ≡ Some m → ((p : ℕ) (d : Def) → slice_get ds p ≡ Some d → slice_get m.defs p ≡ Some d)
     → Gathers ms m ds ns ws → slice_get ns k ≡ Some n → IsDefined ms n

@@ -1,4 +1,4 @@
--- Nodes and their sources, one source for each node.
+-- The list of nodes that is made from sources and identifiers has one node for each source, at the same index (`node-at`).
 use Rattle.std.proofs.lemmas.Grind.{common_steps}
 use Rattle.std.proofs.Common.{◌≡◌, ℕ, ◌+◌, Bool, List, [], ◌∷◌, length, Some, is_some, refl, arith}
 use Rattle.std.specs.List.{slice_get, position_from, find}
@@ -9,7 +9,7 @@ use Rattle.smi_tree.specs.Nodes.{has_label, is_of, index_anywhere, index_in_modu
 use Rattle.smi_tree.specs.{branches.FirstIndex.oid_at, Indices.home_from, Indices.label_from, Indices.definition_from, Indices.label_in}
 use Rattle.smi_tree.specs.Indices as indices
 
--- the parts of a source's node: in both cases of a source each part is read from the same module
+-- in both cases of a source `s`, its node has the module, the label and the definition of `s`, and the identifier `o`
 pub parts : (ms : List Module) (s : Source) (o : List ℕ)
     → node_from ms s o ≡ record { home = home_from ms s; label = label_from ms s; oid = o; definition = definition_from ms s }
 parts ms (S.Root n) o = refl

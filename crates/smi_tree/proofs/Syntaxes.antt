@@ -33,8 +33,7 @@ module _ (ms : List Module) (t : Types) (right : AreTypesOf ms t) where
 pub kept_none : (ms : List Module) (t : Types) (ss : List Source) (k : ℕ) → length ss ≤ k → slice_index_or (syntaxes_from ms t ss) k None ≡ None
 kept_none ms t ss k past = get_or_past (syntaxes_from ms t ss) k None (rw (length-map ss (syntax_from ms t)) past)
 
--- if nodes are gathered, and the syntaxes and indexes are those of the nodes, then they are a tree: each clause of `IsTree` is one of these premises, with the
--- nodes read from the sources and identifiers
+-- if `g` has the nodes of the modules `ms`, and the stored syntaxes and `indexes` belong to these nodes, then together they are the tree of `ms`
 pub is_tree : (ms : List Module) (g : Gathered) (t : Types) (os : List (List ℕ)) (indexes : List (Option (List IndexPart))) → AreGathered ms g ms
     → os ≡ g.oids.items → AreSyntaxesOf ms (nodes_of ms g.sources.items os) (syntaxes_from ms t g.sources.items)
     → AreIndexesOf ms (nodes_of ms g.sources.items os) indexes → IsTree ms (contents ms g.sources.items os t indexes) g.warnings.items

@@ -19,7 +19,7 @@ past_get xs i e = grind (arith, slice_get_cases xs i)
 pub no_syntax : (ms : List Module) (o : TypeOrigin QualifiedName) → o ≡ no_type → HasNoSyntax ms o
 no_syntax ms o e f h = grind (arith, common_steps)
 
--- the name of the type that a type refines
+-- the name of the type that a type refines, or `None` if it refines a base type or isn't a type of values
 abbrev refined_name : TypeOrigin QualifiedName → Option QualifiedName
 refined_name (at_base l b) = None
 refined_name (on_name l a) = Some a

@@ -12,8 +12,8 @@ use Rattle.smi_tree.specs.columns.Definitions.{qualified_name}
 abbrev pub IsRoot : Node → Type 0
 IsRoot node = (n : ℕ) × (n < 3) × (node ≡ node_of_root n)
 
--- `node` is the node of a definition in a module, which is the first with its name; its identifier
--- is what the label of the definition resolves to in that module
+-- `node` is the node of a definition in a module, and the module is the first with its name; the
+-- identifier of `node` is what the label of the definition resolves to in that module
 pub record IsDefined (ms : List Module) (node : Node) : Type 0 where
   pub home : Module
   pub first : module_named ms home.name.octets ≡ Some home

@@ -32,16 +32,17 @@ has_label ms x s = same_text (label_from ms s) x
 abbrev pub is_of : List Module → List ℕ → List ℕ → Source → Bool
 is_of ms home x s = is_named home (home_from ms s) && has_label ms x s
 
--- the indices of the first sources of labels in modules; the key is the index of the module, and
--- the index of the label's first source in any module
+-- a map to the index of a label's first source in a module; the key is the index of the module,
+-- and the index of the label's first source in any module
 abbrev pub Others : Type 0
 Others = IndexMap (ℕ × ℕ) ℕ NameHash
 
 abbrev pub same_key : ℕ × ℕ → ℕ × ℕ → Bool
 same_key a b = (a.0 == b.0) && (a.1 == b.1)
 
--- for each loaded module `home` and each label whose first source isn't in it, the map has the
--- index of the label's first source in it, among the sources `prefix`
+-- for each module name `home` and each label `x` whose first source in `ss` isn't in that module,
+-- `others` has the index of the first source of `prefix` in that module with that label, if there
+-- is one; `ms` are the modules
 abbrev pub AreOthers : List Module → List Source → Others → List Source → Type 0
 AreOthers ms ss others prefix = (home x : List ℕ) (p f : ℕ) (s : Source)
     → module_index ms home ≡ Some p → position_from (has_label ms x) 0 ss ≡ Some f
@@ -55,7 +56,8 @@ definition_from ms (S.Root n) = None
 definition_from ms (S.Definition i k) = def_of_module (slice_get ms i) k
 
 -- the key of the source `s` at index `index`, whose label has its first source at index `first`;
--- `None` if it is that first source, or is in no module
+-- `None` if it is that first source, if it is in no module, or if `homes` doesn't have the name of
+-- its module
 abbrev pub key_of : List Module → NameIndices → Source → ℕ → ℕ → Option (ℕ × ℕ)
 key_of ms homes s first index = if first == index then None else
     option_and_then (λ m. option_map (λ p. (p, first)) (index_in homes m.name.octets))

@@ -23,8 +23,8 @@ contents ms ss os types indexes = record {
   indexes = indexes;
 }
 
--- what a tree stores is the tree of its modules, and its maps have the index of the first module
--- of each name and of the first sources of each label
+-- what a `Tree` stores is the tree of its modules, `ms`; its maps have the index of the first
+-- module of each name, and the indices of the first sources with each label
 pub record IsTreeKept (ms : List Module) (ss : List Source) (os : List (List ℕ)) (types : Types)
     (indexes : List (Option (List IndexPart))) (of_homes of_labels : NameIndices)
     (of_others : Others) : Type 0 where
@@ -35,7 +35,7 @@ pub record IsTreeKept (ms : List Module) (ss : List Source) (os : List (List ℕ
   pub labels : (x : List ℕ) → index_in of_labels x ≡ position_from (has_label ms x) 0 ss
   pub others : AreOthers ms ss of_others ss
 
--- the tree, the warnings and the key of what a load stores
+-- what a load stores, as a value: the tree, the warnings and the key
 abbrev pub load_kept : List Module → Resolved → Load
 load_kept ms r = record {
   tree = contents ms r.sources.items r.identifiers r.types r.indexes;

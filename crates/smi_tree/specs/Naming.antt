@@ -73,19 +73,20 @@ oid_of_child tree o label = oid_of tree.nodes (child_of tree.nodes o label)
 unfoldable pub nearest_node : Contents → List ℕ → Option NodeView
 nearest_node tree o = option_and_then (view_of_longest tree) (longest tree.nodes o)
 
--- the definition of that node; `None` for a root
+-- the definition of the node of the longest prefix of `o` that has one; `None` for a root, or if
+-- no prefix has a node
 unfoldable pub nearest_definition : Contents → List ℕ → Option Def
 nearest_definition tree o =
     option_and_then (λ l. option_and_then (λ n. n.definition) (slice_get tree.nodes l.id))
     (longest tree.nodes o)
 
--- the syntax of that node, for showing values
+-- the syntax, for showing values, of the node of the longest prefix of `o` that has one
 unfoldable pub nearest_syntax : Contents → List ℕ → Option ObjectSyntax
 nearest_syntax tree o =
     option_and_then (λ l. shown_at tree.nodes tree.syntaxes l.id) (longest tree.nodes o)
 
--- a look-up of the label returns `o`: in the module named `home`, which is loaded and whose name
--- is a word; or, for a root, by the label only
+-- a look-up of `label` returns `o`: for `Some home`, in the module named `home`, which is loaded
+-- and whose name is a word; for `None`, in the whole tree
 abbrev pub LabelRefersTo : Contents → Option (List ℕ) → List ℕ → List ℕ → Type 0
 LabelRefersTo tree None label o = oid_anywhere tree label ≡ Some o
 LabelRefersTo tree (Some home) label o =

@@ -44,7 +44,8 @@ pub data IsOfLowest (f : ℕ → Option ℕ) : Option ℕ → Type 0 where
   nothing : ((n : ℕ) → f n ≡ None) → IsOfLowest f None
   lowest : (n k : ℕ) → f n ≡ Some k → ((m : ℕ) → m < n → f m ≡ None) → IsOfLowest f (Some k)
 
--- the result of `f` for the lowest number below a bound for which it isn't `None`
+-- the result of `f` for the lowest number for which `f` isn't `None`, if that is below a bound;
+-- otherwise `None`
 unfoldable pub of_lowest : (ℕ → Option ℕ) → ℕ → Option ℕ
 of_lowest f zero = None
 of_lowest f (suc n) = or_else (of_lowest f n) (f n)
@@ -64,12 +65,12 @@ highest (o ∷ os) = max (last_number o) (highest os)
 abbrev pub child_at : List Node → List ℕ → List ℕ → ℕ → Option ℕ
 child_at nodes o label n = if_labelled nodes label (first_index (oids_of nodes) (o ++ n ∷ []))
 
--- the result is the index of the first child of `o` with this label: the one with the lowest
--- number
+-- the result is the index of the first child of `o` with this label, the one with the lowest
+-- number, or `None` if there is none
 abbrev pub IsFirstChild : List Node → List ℕ → List ℕ → Option ℕ → Type 0
 IsFirstChild nodes o label = IsOfLowest (child_at nodes o label)
 
--- the index of the first child of `o` with this label, computed; the law `look_ups` says that it
--- is
+-- the index of the first child of `o` with this label, computed; the law `look_ups` says that this
+-- is the first child, by `IsFirstChild`
 abbrev pub child_of : List Node → List ℕ → List ℕ → Option ℕ
 child_of nodes o label = of_lowest (child_at nodes o label) (suc (highest (oids_of nodes)))

@@ -16,8 +16,9 @@ pub record Contents : Type 0 where
   pub syntaxes : List (Option Facts)
   pub indexes : List (Option (List IndexPart))
 
--- `tree` has the roots, and then the nodes of the modules, which have these warnings; the syntax
--- of each node is what its chain of types defines, and its index comes from its row
+-- `tree` has the roots, and then the nodes of `modules`; `warnings` are the warnings about
+-- `modules`; the syntax of each node is what its chain of types defines, and its index comes from
+-- its row
 pub record IsTree (modules : List Module) (tree : Contents) (warnings : List Warning)
     : Type 0 where
   pub passed : tree.modules ≡ modules

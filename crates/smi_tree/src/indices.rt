@@ -15,31 +15,33 @@ use smi_names::{NameBuf, NameHash, NameRef, Source, insert_if_absent};
 use smi_text::Module;
 use std::alloc::{AllocError, Global};
 
-/// Names, each with its index.
+/// A map from names to indices.
 pub(crate) type Indices = IndexMap<NameBuf, usize, NameHash>;
 
-/// The index of a label's first source in a module, if the label's first source of all is in
-/// another module. The key is the index of the module and the index of the label's first source of
-/// all.
+/// A map to the index of a label's first source in a module, for a label whose first source of all
+/// isn't in that module. The key is the index of the module and the index of the label's first
+/// source of all. (A source is where a node comes from, a root or a definition. It has the same
+/// index as the node.)
 pub(crate) type Others = IndexMap<(usize, usize), usize, NameHash>;
 
-/// The first sources of labels, by their indices.
+/// The indices of the first sources of labels.
 #[derive(Drop)]
 pub(crate) struct LabelIndices {
-    /// The first source of each label.
+    /// For each label, the index of its first source.
     pub(crate) labels: Indices,
-    /// The first source of each label in each other module.
+    /// For each label, and each module other than the module of its first source: the index of the
+    /// label's first source in that module, if it has one there.
     pub(crate) others: Others,
 }
 
-/// Returns the index of `name`.
+/// Returns the index that `indices` has for `name`, if it has one.
 pub(crate) fn find(indices: &Indices, name: &[u8]) -> Option<usize>
     ensures { result ≡ index_in indices.now name.now }
 {
     indices.get(&NameRef::new(name)).copied()
 }
 
-/// Returns the index of the first module of each name.
+/// Returns a map with the index of the first module of each name.
 pub(crate) fn homes(
     alloc: Global,
     hash: NameHash,
@@ -57,7 +59,8 @@ pub(crate) fn homes(
 }
 
 /// Returns the key in [`Others`] of the source at index `index`, whose label has its first source
-/// at index `first`. Returns `None` for that first source, and for a root.
+/// at index `first`. Returns `None` for that first source, for a root, and if `homes` doesn't have
+/// the name of the source's module.
 fn key_of(
     modules: &[Module],
     homes: &Indices,
@@ -74,8 +77,8 @@ fn key_of(
     Some((home, first))
 }
 
-/// Returns the index of the first source of each label, and of its first source in each other
-/// module. `homes` has the indices of the modules.
+/// Returns the index of each label's first source, and the index of its first source in each other
+/// module. `homes` has the index of the first module of each name.
 pub(crate) fn labels(
     alloc: Global,
     hash: NameHash,

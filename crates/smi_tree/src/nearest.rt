@@ -1,4 +1,4 @@
-//! What a tree finds for an identifier: the node of its longest prefix.
+//! What a tree finds for an identifier: the node of the longest prefix that has one.
 ghost use Rattle.std.specs.{Prelude.◌≡◌, Option.option_copied};
 ghost use Rattle.smi_names.specs.nodes.Nodes.{roots};
 ghost use Rattle.smi_tree.specs.{Naming.home_name, Nodes.index_anywhere};
@@ -35,7 +35,7 @@ pub struct Found<'a> {
     pub below: Option<&'a StoredOid>,
 }
 
-/// A node whose identifier is a prefix of another.
+/// A node that is found for an identifier: the node of its longest prefix that has one.
 #[derive(Clone, Copy, Debug)]
 pub struct NearestNode<'a> {
     /// The name of its module; `None` for a built-in root.

@@ -28,7 +28,7 @@ pub(crate) fn copy_at<T: Copy>(list: &[Option<T>], id: usize) -> Option<T>
     *list.get(id)?
 }
 
-/// Returns the module of a source, or `None` for a root.
+/// Returns the module of a source, or `None` for a root or if `modules` doesn't have the module.
 pub(crate) fn home(modules: &[Module], source: Source) -> Option<&Module>
     ensures { option_copied result ≡ home_from modules.now source }
 {
@@ -45,7 +45,8 @@ pub(crate) fn is_in_module(modules: &[Module], source: Source, name: &[u8]) -> b
     matches!(home(modules, source), Some(module) if module.name.as_bytes() == name)
 }
 
-/// Returns the definition of a source, or `None` for a root.
+/// Returns the definition of a source, or `None` for a root or if `modules` doesn't have the
+/// definition.
 pub(crate) fn definition(modules: &[Module], source: Source) -> Option<&Def>
     ensures { option_copied result ≡ definition_from modules.now source }
 {
@@ -55,7 +56,7 @@ pub(crate) fn definition(modules: &[Module], source: Source) -> Option<&Def>
     }
 }
 
-/// Returns the label of a source.
+/// Returns the label of a source. It is empty if `modules` doesn't have the source's definition.
 pub(crate) fn label(modules: &[Module], source: Source) -> &[u8]
     ensures { result.now ≡ label_from modules.now source }
 {

@@ -10,7 +10,8 @@ use smi_text::{
     Base, Def, DefKind, Name, NamedNumber, Range, Refinement, SimpleType, Syntax, Text,
 };
 
-/// The syntax of an object: what its chain of types defines. It borrows from the modules.
+/// The syntax of an object: what its chain of types defines. The chain is the type in its SYNTAX,
+/// the type that this one refines, and so on to a base type. The syntax borrows from the modules.
 #[derive(Clone, Copy, Debug)]
 pub struct TypeSyntax<'a> {
     /// The base type at the end of the chain.

@@ -49,12 +49,12 @@ pub struct Tree {
     sources: Vec<Source>,
     /// The identifier of each node.
     identifiers: Identifiers,
-    /// The index of the first module of each name.
+    /// For each module name, the index of the first module with that name.
     homes: Indices,
-    /// The first node of each label.
+    /// For each label, the index of the first node with that label.
     labels: Indices,
-    /// The first node of each label in each module, except the module of the label's first node of
-    /// all.
+    /// For each label, and each module other than the module of the label's first node: the index
+    /// of the first node with that label in that module.
     others: Others,
     /// The syntax of each object.
     types: Types,
@@ -78,8 +78,8 @@ impl Model for Tree {
 }
 
 impl Drop for Tree {
-    // Written out, so that it is proved only here. A derived one would be proved in each crate
-    // above, with those of the types of the modules.
+    // Written out, so that it is proved only here. A derived drop would be proved again in each
+    // crate that uses this one, with the drops of `Module` and of all types in it.
     fn drop(self) {
         let Tree {
             modules: _modules,
@@ -219,9 +219,10 @@ impl Tree {
         None
     }
 
-    /// Returns the syntax of a node's object: what its chain of types defines. Returns `None` if
-    /// the node isn't an object, or if that chain is broken, has no end, or ends at something
-    /// other than a type of values (RFC 2578, sections 7.1 and 9).
+    /// Returns the syntax of a node's object: what its chain of types defines. The chain is the
+    /// type in its SYNTAX, the type that this one refines, and so on. Returns `None` if the node
+    /// isn't an object, or if that chain is broken, has no end, or ends at something other than a
+    /// type of values (RFC 2578, sections 7.1 and 9).
     pub fn syntax_of(&self, id: NodeId) -> Option<TypeSyntax<'_>>
         ensures { option_map facts_of result ≡ slice_index_or self.now.syntaxes id None }
     {
@@ -282,7 +283,7 @@ impl Tree {
     }
 
     /// Returns what [`Tree::nearest`] returns, faster for a series of identifiers: the search
-    /// begins at the node that was found last, if `oid` is below it.
+    /// begins at the node that was found last, which `near` stores, if `oid` is below it.
     #[tactic(auto, unfolding(crate::specs::Naming::nearest_node))]
     pub fn nearest_from(&self, oid: &Oid, near: &mut Near) -> Option<NearestNode<'_>>
         ensures { option_map view_of result ≡ nearest_node self.now oid.now }
@@ -332,7 +333,8 @@ impl Tree {
         }
     }
 
-    /// A tree is the tree of its modules, with some warnings.
+    /// This tree is the tree of its modules, as `IsTree` says. A tree doesn't store the warnings
+    /// about its modules, so the law only says that there is a list of them.
     ///
     /// A law: the call does nothing, and its caller may use what it ensures.
     pub fn is_tree(&self)
@@ -341,8 +343,9 @@ impl Tree {
         let _ = &self.modules;
     }
 
-    /// The label of a node that is found is a word, and a look-up of it returns the identifier of
-    /// that node.
+    /// If a node is found for an identifier, then its label is a word (a letter, and then letters,
+    /// digits, `_`, and single hyphens between them), and a look-up of the label returns the
+    /// identifier of that node.
     ///
     /// A law: the call does nothing, and its caller may use what it ensures.
     #[tactic(auto, using(crate::proofs::SoundNames::sound_by))]
@@ -391,7 +394,8 @@ impl Tree {
         matches!(self.node_at(id), Some(node) if node.label == name)
     }
 
-    /// Returns the definition of a node, or `None` for a root.
+    /// Returns the definition of the node `id`. Returns `None` for a root, or if no node has the
+    /// index `id`.
     fn definition_of(&self, id: NodeId) -> Option<&Def>
         ensures { option_copied result
             ≡ option_and_then (λ n. n.definition) (slice_get self.now.nodes id) }
@@ -426,8 +430,8 @@ impl Tree {
         self.identifiers.deepest_near(oid, &mut near.id)
     }
 
-    /// Returns the identifier of a node if no node is below it. `near` is the value that
-    /// `deepest_near` left when it found the node.
+    /// Returns the identifier of the node `id` if no node is below it. `near` is the value that
+    /// `deepest_near` left when it found the node; with any other, returns `None`.
     fn last_on_way(&self, id: NodeId, near: &Near) -> Option<&StoredOid>
         ensures at { IfSome result (λ o. o.now ≡ oid_at (oids_of self.now.nodes) id) }
         ensures last { IfSome result (λ o. HasNoneBelow (oids_of self.now.nodes) o.now) }
@@ -435,7 +439,7 @@ impl Tree {
         self.oids().last_on_way(id, near.id)
     }
 
-    /// Returns the node that was found, with its name, the length of its identifier and its index.
+    /// Returns the node of `deepest`, with its name, the length of its identifier and its index.
     fn seen(&self, deepest: Deepest) -> Option<NearestNode<'_>>
         ensures { option_map view_of result
             ≡ view_of_longest self.now (longest_of deepest) }

@@ -23,7 +23,7 @@ use std::alloc::{AllocError, Global};
 
 /// A syntax as it is stored, with the definitions that have its hint, its named numbers or bits,
 /// and its SIZE. Each definition is stored as the index of its module and its index in the module.
-/// It is also what the name of a type means.
+/// The name of a type resolves to such a syntax too.
 #[derive(Clone, Copy)]
 pub(crate) struct KeptSyntax {
     /// The base type at the end of the chain.
@@ -74,7 +74,7 @@ impl Types {
         names: &Names<'a>,
         modules: &'a [Module],
     ) -> Result<Types, AllocError>
-        // The names are those of these modules.
+        // `names` must be the names of `modules`.
         requires { names.now.modules ≡ modules.now }
         ensures { IfOk result (λ types. AreTypesOf modules.now types) }
     {
@@ -106,7 +106,7 @@ impl Types {
     }
 
     /// Returns the syntax that is stored for an OBJECT-TYPE, as [`Types::syntax`] does. With other
-    /// modules than those that the types were made from, this can be any syntax.
+    /// modules than the types were made from, this can be any syntax, or `None`.
     pub fn stored_syntax<'m>(
         &self,
         modules: &'m [Module],
@@ -172,7 +172,8 @@ fn base_syntax_or(simple: &SimpleType, far: Option<KeptSyntax>) -> Option<KeptSy
     }
 }
 
-/// Returns `at` if `states`, that is, if the definition there has its own part; otherwise `far`.
+/// Returns `at` if `states`, which says that the definition at `at` has its own hint, names or
+/// SIZE. Otherwise returns `far`, the definition that this is inherited from.
 fn nearer(states: bool, at: (usize, usize), far: Option<(usize, usize)>) -> Option<(usize, usize)>
     ensures { result ≡ (if states then Some at else far) }
 {
@@ -213,8 +214,8 @@ fn object<'a>(
     inherit_syntax(at, false, simple, far)
 }
 
-/// Returns the syntax of each definition of `module` that is an object. `index` is the index of
-/// the module.
+/// Returns, for each definition of `module`, its syntax, if it is an object that has one. `index`
+/// is the index of the module.
 fn module_objects<'a>(
     alloc: Global,
     entries: &Entries<'_, 'a>,
@@ -234,7 +235,7 @@ fn module_objects<'a>(
     Ok(kept)
 }
 
-/// Returns the syntax of each definition of each module that is an object.
+/// Returns, for each definition of each module, its syntax, if it is an object that has one.
 fn objects<'a>(
     alloc: Global,
     entries: &Entries<'_, 'a>,

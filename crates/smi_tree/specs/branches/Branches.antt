@@ -6,7 +6,7 @@ use Rattle.smi_tree.specs.branches.FirstIndex.{first_index, oid_at}
 use Rattle.smi_tree.specs.declared.branches.branch.Branch.{Branch}
 use Rattle.smi_tree.specs.declared.branches.identifiers.Deepest.{Deepest}
 
--- the branch that `n` reaches from the branch `at`
+-- the branch that `n` reaches from the branch `at`: the branch that is stored there for `n`
 abbrev pub follower : List Branch → ℕ → ℕ → Option ℕ
 follower bs at n = option_and_then (λ b. get nat_cmp b.after n) (slice_get bs at)
 
@@ -39,13 +39,15 @@ pub record AreBranches (known oids : List (List ℕ)) (bs : List Branch) : Type 
   pub only : (o : List ℕ) (b : ℕ) → branch_of bs o ≡ Some b → o ≢ [] → IsBeginning known o
   pub reached : (at : ℕ) → at < length bs → (o : List ℕ) × (branch_of bs o ≡ Some at)
 
--- the branches are those of the prefixes of these identifiers
+-- `bs` are the branches of the identifiers `oids`: one for each prefix, also for the empty one
 abbrev pub AreBranchesOf : List (List ℕ) → List Branch → Type 0
 AreBranchesOf oids bs = AreBranches oids oids bs
 
 -- ---- for private functions
 
--- branch `b` was added, which `n` reaches from the branch `at`, and nothing else was changed
+-- branch `b` was added at the end; `n` reached no branch from the branch `at` before; each step
+-- from branch to branch in `new` is one in `old`, or the step by `n` from `at` to `b`; and no
+-- stored index was changed
 pub record AddsBranch (old new : List Branch) (at n b : ℕ) : Type 0 where
   pub is : b ≡ length old
   pub long : length new ≡ b + 1
@@ -61,15 +63,15 @@ pub record GrowsBranch (old new : List Branch) (at n b : ℕ) : Type 0 where
   pub kept : (c m d : ℕ) → follower old c m ≡ Some d → follower new c m ≡ Some d
   pub adds : (new ≡ old) ⊎ AddsBranch old new at n b
 
--- the index that is stored at a branch, as the longest prefix; if none is, the longest one before
--- it
+-- the longest prefix once numbers have reached `branch`: the `depth` numbers that reach it, if an
+-- index is stored there (the first argument), otherwise `before`, the longest prefix up to then
 abbrev pub deeper_of : Option ℕ → (branch depth : ℕ) → Option Deepest → Option Deepest
 deeper_of None branch depth before = before
 deeper_of (Some id) branch depth before =
     Some (record { id = id; depth = depth; branch = branch })
 
--- `Some d`: the longest prefix of `o` that is in the list, of those with at most `i` numbers;
--- `None`: no such prefix is in the list
+-- the result is `Some d` for the longest prefix `d` of `o` with at most `i` numbers that is in the
+-- list, or `None` if no such prefix is
 abbrev pub SoFar : List (List ℕ) → List ℕ → ℕ → Option Deepest → Type 0
 SoFar oids o i None = (j : ℕ) → j ≤ i → first_index oids (take j o) ≡ None
 SoFar oids o i (Some d) =

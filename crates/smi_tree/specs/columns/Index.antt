@@ -48,8 +48,9 @@ abbrev pub clause_of : DefKind → Option Index
 clause_of (D.ObjectType o) = o.index
 clause_of _ = None
 
--- the INDEX clause of definition `e` of module `n` identifies the rows of definition `d`, which
--- has this clause: it is `d` itself, or the row that AUGMENTS names
+-- definition `e` of module `n` is the one whose INDEX clause, if it has one, identifies the rows
+-- of definition `d` of module `m`: `e` is `d` itself if the clause of `d` is INDEX, and what the
+-- name after AUGMENTS refers to if it is AUGMENTS
 abbrev pub UsesIndexOf : List Module → Module → Def → Option Index → Module → Def → Type 0
 UsesIndexOf ms m d None n e = ⊥
 UsesIndexOf ms m d (Some (Own clause)) n e = (n ≡ m) × (e ≡ d)
@@ -74,8 +75,8 @@ pub record IsNodeAt (nodes : List Node) (oid : List ℕ) (node : Node) : Type 0 
   pub first : first_index (map (λ n. n.oid) nodes) oid ≡ Some id
   pub there : slice_get nodes id ≡ Some node
 
--- `column` is a column of `row`: an object whose identifier is one number longer than the
--- identifier that `row` represents
+-- `column` is a column of `row`: an object whose identifier is the identifier that `row`
+-- represents, with one number appended
 pub record IsColumnOf (nodes : List Node) (column row : Node) : Type 0 where
   pub object : IsObjectType column.definition
   pub prefix : List ℕ

@@ -48,15 +48,17 @@ abbrev pub IsOwn : List Module → Module → Def → Option (List IndexPart) �
 IsOwn ms m d None = (parts : List IndexPart) → IsIndexed ms m d parts → ⊥
 IsOwn ms m d (Some parts) = IsIndexed ms m d parts
 
--- `kept` has the parts of the own INDEX clause of each definition of module `m`
+-- `kept` has, for each definition of module `m`, the parts of its own INDEX clause, if it has one
+-- that can be read
 abbrev pub AreOwn : List Module → Module → List (KeptParts) → Type 0
 AreOwn ms m kept = ArePairwise (λ k d own. IsOwn ms m d (items_of own)) m.defs kept
 
--- `kept` has the parts of the own INDEX clause of each definition of each module
+-- `kept` has, for each definition of each module, the parts of its own INDEX clause, if it has one
+-- that can be read
 abbrev pub AreOwnOfAll : List Module → List KeptOfModule → Type 0
 AreOwnOfAll ms kept = ArePairwise (λ i m own. AreOwn ms m own.items) ms kept
 
--- `row` uses the INDEX clause of definition `k` of module `i`
+-- `row` uses the INDEX clause of definition `k` of module `i`, if that definition has one
 pub record UsesAt (ms : List Module) (row : Node) (i k : ℕ) : Type 0 where
   pub row_module : Module
   pub home : row.home ≡ Some row_module
@@ -69,24 +71,24 @@ pub record UsesAt (ms : List Module) (row : Node) (i k : ℕ) : Type 0 where
   pub uses : UsesIndexOf ms row_module row_definition (clause_of row_definition.kind) index_module
       index_definition
 
--- `row` uses no INDEX clause
+-- `row` uses the INDEX clause of no definition
 abbrev pub UsesNone : List Module → Node → Type 0
 UsesNone ms row =
     (m : Module) (d : Def) (n : Module) (e : Def) → row.home ≡ Some m → row.definition ≡ Some d
     → UsesIndexOf ms m d (clause_of d.kind) n e → ⊥
 
--- the INDEX clause of definition `k` of module `i` identifies the rows of `column`
+-- the INDEX clause of definition `k` of module `i`, if it has one, identifies the rows of `column`
 pub record HasRowAt (ms : List Module) (nodes : List Node) (column : Node) (i k : ℕ) : Type 0 where
   pub row : Node
   pub of_row : IsColumnOf nodes column row
   pub used : UsesAt ms row i k
 
--- `node` isn't a column, or its row uses no INDEX clause
+-- `node` isn't a column, or its row uses the INDEX clause of no definition
 abbrev pub HasNoRow : List Module → List Node → Node → Type 0
 HasNoRow ms nodes node = (row : Node) → IsColumnOf nodes node row → UsesNone ms row
 
--- the result is the definition whose INDEX clause identifies the rows of `node`, or `None` if
--- there is none
+-- the result is the definition whose INDEX clause, if it has one, identifies the rows of `node`,
+-- or `None` if there is no such definition
 abbrev pub HasRowOrNone : List Module → List Node → Node → Option (ℕ × ℕ) → Type 0
 HasRowOrNone ms nodes node None = HasNoRow ms nodes node
 HasRowOrNone ms nodes node (Some at) = HasRowAt ms nodes node at.0 at.1
@@ -95,8 +97,8 @@ HasRowOrNone ms nodes node (Some at) = HasRowAt ms nodes node at.0 at.1
 abbrev pub AreRows : List Module → List Node → List (Option (ℕ × ℕ)) → Type 0
 AreRows ms nodes rows = ArePairwise (λ k node at. HasRowOrNone ms nodes node at) nodes rows
 
--- the row that was looked up last, if there is one, has the first index of its identifier, if it
--- is in the list
+-- if a row was looked up last, then its `id` is the first index of its identifier in the list, or
+-- `None` if the identifier isn't in the list
 abbrev pub IsLastRow : List (List ℕ) → Option LastRow → Type 0
 IsLastRow oids None = ⊤
 IsLastRow oids (Some row) = row.id ≡ first_index oids row.numbers.now

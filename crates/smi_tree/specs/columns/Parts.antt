@@ -25,8 +25,8 @@ abbrev pub IsNotFixed : Option (List Range) → Type 0
 IsNotFixed sizes = (bound : TokenText) → IsFixedBy sizes bound → ⊥
 
 -- the extent says how many numbers a string has: as many as its SIZE fixes; if it fixes none, as
--- many as the length before them says, or, after IMPLIED, all that remain. A SIZE that is fixed
--- below zero has no extent.
+-- many as the length before them says, or, after IMPLIED, all that remain. A SIZE that is fixed,
+-- but not to a number of 0 to 18446744073709551615, has no extent.
 abbrev pub HasExtent : Option (List Range) → Bool → Extent → Type 0
 HasExtent sizes implied (Fixed n) =
     (bound : TokenText) × IsFixedBy sizes bound × StatesBound bound n
@@ -34,7 +34,7 @@ HasExtent sizes implied Counted = IsNotFixed sizes × (implied ≡ false)
 HasExtent sizes implied Implied = IsNotFixed sizes × (implied ≡ true)
 
 -- `part` is the part for an object with this base type and SIZE, after IMPLIED or not; Counter64
--- has none, and neither has a string whose SIZE is fixed below zero
+-- has none, and neither has a string whose SIZE has no extent
 abbrev pub IsPartOf : TypeBase → Option (List Range) → Bool → IndexPart → Type 0
 IsPartOf T.Integer sizes implied part = part ≡ P.Number
 IsPartOf T.Counter32 sizes implied part = part ≡ P.Number

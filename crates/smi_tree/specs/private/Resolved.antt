@@ -1,4 +1,4 @@
--- What modules define, resolved, for private clauses.
+-- `Resolved` has the tree of the modules, for private clauses.
 use Rattle.std.specs.Prelude.{◌≡◌, List, length}
 use Rattle.smi_text.specs.declared.trees.tree.Module.{Module}
 use Rattle.smi_tree.specs.{Tree.IsTree, Kept.contents, declared.tree.loaded.Resolved.Resolved}

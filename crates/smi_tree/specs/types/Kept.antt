@@ -59,8 +59,8 @@ kept_syntax ms t i k = option_map (facts_at ms)
 abbrev pub IsSyntax : List Module → TypeOrigin QualifiedName → Option Facts → Type 0
 IsSyntax ms o facts = MatchOption facts (HasNoSyntax ms o) (λ f. HasSyntax ms o f)
 
--- the stored syntax of each definition is that of the object that it defines; none is stored if it
--- defines no object with a syntax
+-- the syntax that is stored for each definition is the syntax of the object that it defines; none
+-- is stored if it defines no object with a syntax
 abbrev pub AreTypesOf : List Module → Types → Type 0
 AreTypesOf ms t = (i k : ℕ) → IsSyntax ms (object_origin ms i k) (kept_syntax ms t i k)
 
@@ -69,7 +69,7 @@ AreTypesOf ms t = (i k : ℕ) → IsSyntax ms (object_origin ms i k) (kept_synta
 abbrev pub IsKept : List Module → TypeOrigin QualifiedName → Option KeptSyntax → Type 0
 IsKept ms o kept = IsSyntax ms o (option_map (facts_at ms) kept)
 
--- the syntax of the base type, otherwise `far`, the syntax of the type that is refined
+-- the syntax of the base type, if there is one, otherwise `far`, the syntax of the refined type
 abbrev pub base_or : Option TypeBase → Option KeptSyntax → Option KeptSyntax
 base_or None far = far
 base_or (Some b) far = Some (record { base = b; hint = None; names = None; sizes = None })
@@ -105,6 +105,6 @@ abbrev pub AreKeptOf : List Module → Module → List (Option KeptSyntax) → T
 AreKeptOf ms m kept =
     ArePairwise (λ k d syntax. IsKept ms (origin_of_object m.name.octets d) syntax) m.defs kept
 
--- `objects` has such a list for each module
+-- `objects` has, for each module, the list of the syntaxes of its objects, as `AreKeptOf` says
 abbrev pub AreKeptOfAll : List Module → List (Vec (Option KeptSyntax) Global) → Type 0
 AreKeptOfAll ms objects = ArePairwise (λ i m kept. AreKeptOf ms m kept.items) ms objects

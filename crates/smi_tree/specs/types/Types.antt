@@ -83,8 +83,8 @@ type_hint _ = None
 abbrev pub no_layer : Layer
 no_layer = record { hint = None; names = None; sizes = None }
 
--- where the syntax of the type named `a` comes from: from its definition in the module or, if it
--- is imported, from the same name in the module after FROM
+-- the origin of the type named `a`, by what decides this name in its module: a definition or, if
+-- it is imported, the same name in the module after FROM; `no_type` if nothing or a root does
 abbrev pub type_origin_by : QualifiedName → Option Decision → TypeOrigin QualifiedName
 type_origin_by a None = no_type
 type_origin_by a (Some (defined d)) =
@@ -93,7 +93,7 @@ type_origin_by a (Some (imported i)) = on_name no_layer
     (record { home = i.source.octets; name = a.name })
 type_origin_by a (Some (root n)) = no_type
 
--- the same, by the module of the name; without a module, the name has no type
+-- the origin of the type named `a`, which is looked up in the module; `no_type` without a module
 abbrev pub type_origin_in : QualifiedName → Option Module → TypeOrigin QualifiedName
 type_origin_in a None = no_type
 type_origin_in a (Some m) = type_origin_by a (decision m a.name)

@@ -1,5 +1,7 @@
-//! The branches: for each prefix of an identifier, the numbers that follow it, in order, and the
-//! index of the prefix itself, if it is in the list.
+//! The branches of a list of identifiers: for each prefix of an identifier, the numbers that
+//! follow it, in order, and the index of the prefix itself, if it is in the list.
+//!
+//! From the branch of a prefix, a number reaches the branch of the prefix with that number added.
 ghost use Rattle.std.specs.Prelude.{◌≡◌, ◌<◌, ◌≤◌, ◌+◌, ℕ, List, [], ◌∷◌, ◌++◌, length, take, IfOk};
 ghost use Rattle.std.specs.Prelude.{Some, None, option_copied};
 ghost use Rattle.smi_tree.specs.branches.Branches.{follower, GrowsBranch, AreBranchesOf, IsWay};
@@ -51,7 +53,7 @@ fn grow(
     Ok(id)
 }
 
-/// Returns a list of only the first branch, which no number follows.
+/// Returns a list of only the first branch. It belongs to the empty prefix, and no number follows.
 pub(crate) fn first(alloc: Global) -> Result<Vec<Branch>, AllocError>
     ensures { IfOk result (λ branches. AreBranchesOf [] branches.items) }
 {
@@ -63,8 +65,8 @@ pub(crate) fn first(alloc: Global) -> Result<Vec<Branch>, AllocError>
     Ok(branches)
 }
 
-/// The indices of the branches of the prefixes of the identifier that was added last, by the
-/// number of numbers in the prefix, 0 to 128.
+/// The branches of the identifier that was added last: at index `n`, from 0 to the identifier's
+/// length, the index of the branch of its first `n` numbers. An identifier has at most 128.
 pub(crate) type Way = [usize; 129];
 
 /// Returns the length of the longest common prefix of `a` and `b`.
@@ -80,10 +82,12 @@ fn common_prefix_len(a: &[u32], b: &[u32]) -> usize
     count
 }
 
-/// Adds the branches of the identifier at index `id` to those of the identifiers before it.
-/// `last` is the identifier that was added last, and `way` its branches: successive identifiers
-/// mostly share a prefix, and only the numbers after it are followed. Afterwards `way` has the
-/// branches of the new identifier.
+/// Adds the branches of the identifier at index `id` to `branches`, which has the branches of the
+/// identifiers before it, and stores `id` at the last of them if no index is stored there.
+///
+/// `last` is the identifier that was added last, or empty, and `way` has its branches. Successive
+/// identifiers mostly share a prefix, so only the numbers after this prefix are followed.
+/// Afterwards `way` has the branches of the new identifier.
 pub(crate) fn add(
     alloc: Global,
     branches: &mut Vec<Branch>,

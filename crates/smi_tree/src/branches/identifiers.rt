@@ -104,8 +104,8 @@ impl Identifiers {
 
     /// Returns the longest prefix of `oid` that is in the list, if any is. `oid` itself counts as
     /// a prefix. `near` is a guess of the branch to begin with: the branch of the prefix that was
-    /// found last, or 0 at first. It is set to the branch of the prefix that is found now. The
-    /// result doesn't depend on it.
+    /// found last, or 0 at first. If a prefix is found now, `near` is set to its branch. The
+    /// result doesn't depend on `near`.
     pub fn deepest_near(&self, oid: &Oid, near: &mut usize) -> Option<Deepest>
         ensures { MatchOption result
             (HasNoBeginning self.now oid.now)
@@ -265,8 +265,8 @@ fn after<'a>(
     }
 }
 
-/// An iterator over the identifiers that are one number longer than another one and have it as a
-/// prefix, in increasing order of that number. It returns the first index of each.
+/// An iterator over the identifiers that have a certain identifier as a prefix and are one number
+/// longer, in increasing order of that number. It returns the first index of each.
 #[derive(Drop)]
 pub struct Children<'a> {
     branches: &'a [Branch],

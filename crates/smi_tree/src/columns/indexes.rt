@@ -22,8 +22,8 @@ pub struct Indexes {
     /// For each definition of each module, the parts of its INDEX clause, if it has one that can
     /// be read.
     parts: Vec<Vec<Option<Vec<IndexPart>>>>,
-    /// For each node, the definition whose INDEX clause it uses, if it uses one: the index of the
-    /// module, and the index of the definition in it.
+    /// For each node that is a column, the definition whose INDEX clause its row uses, if there is
+    /// one: the index of the module, and the index of the definition in it.
     rows: Vec<Option<(usize, usize)>>,
 }
 

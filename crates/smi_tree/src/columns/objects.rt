@@ -81,7 +81,7 @@ fn is_identifier(resolution: &Resolution) -> bool
     matches!(resolution, Resolution::Numbers(_))
 }
 
-/// Returns whether IMPLIED precedes the name at index `id` of an INDEX clause. Only the last
+/// Returns whether IMPLIED precedes the name at index `position` of an INDEX clause. Only the last
 /// name can have it.
 fn is_implied(clause: &IndexParts, position: usize) -> bool
     requires { position < length clause.now.names }
@@ -178,8 +178,8 @@ impl<'n, 'a> Objects<'n, 'a> {
         Ok(Some(parts))
     }
 
-    /// Returns the parts of the INDEX clause of `def`, or `None` if it has none or it can't be
-    /// read.
+    /// Returns the parts of the INDEX clause of `def`, or `None` if `def` has no INDEX clause or
+    /// the clause can't be read.
     fn own_parts(
         &self,
         alloc: Global,
@@ -195,7 +195,8 @@ impl<'n, 'a> Objects<'n, 'a> {
         }
     }
 
-    /// Returns the parts of the INDEX clause of each definition of the module `home`.
+    /// Returns, for each definition of the module `home`, the parts of its INDEX clause, if it has
+    /// one that can be read.
     fn parts_of_module(
         &self,
         alloc: Global,
@@ -212,7 +213,8 @@ impl<'n, 'a> Objects<'n, 'a> {
         Ok(kept)
     }
 
-    /// Returns the parts of the INDEX clause of each definition of each module.
+    /// Returns, for each definition of each module, the parts of its INDEX clause, if it has one
+    /// that can be read.
     pub(crate) fn parts_of_modules(
         &self,
         alloc: Global,
@@ -227,9 +229,10 @@ impl<'n, 'a> Objects<'n, 'a> {
         Ok(kept)
     }
 
-    /// Returns the definition whose INDEX clause identifies the rows of `source`: its own
-    /// definition, or the one that its AUGMENTS clause names. The result is the index of the
-    /// definition's module, and the definition's index in the module.
+    /// Returns the definition whose INDEX clause, if it has one, identifies the rows of `source`:
+    /// the definition of `source`, if that has an INDEX clause, or the definition that its
+    /// AUGMENTS clause names, if there is one. The result is the index of the definition's module,
+    /// and the definition's index in the module.
     fn index_clause_of(&self, source: Source) -> Option<(usize, usize)>
         ensures { let ms = self.now in MatchOption result
             ((o : List ℕ) → UsesNone ms (node_from ms source o))
@@ -246,9 +249,9 @@ impl<'n, 'a> Objects<'n, 'a> {
         }
     }
 
-    /// Returns the definition whose INDEX clause identifies the rows of the node `id`, or
-    /// `None` if the node isn't a column or its row uses no such clause. `last` is the row that
-    /// was looked up last.
+    /// Returns the definition whose INDEX clause, if it has one, identifies the rows of the node
+    /// `id`. Returns `None` if the node isn't a column or there is no such definition. `last` is
+    /// the row that was looked up last.
     fn row<'i>(
         &self,
         sources: &[Source],
@@ -273,8 +276,8 @@ impl<'n, 'a> Objects<'n, 'a> {
         self.index_clause_of(*source)
     }
 
-    /// Returns, for each node, the definition whose INDEX clause identifies its rows, or `None` if
-    /// it isn't a column or its row uses no such clause.
+    /// Returns, for each node, the definition whose INDEX clause, if it has one, identifies its
+    /// rows, or `None` if the node isn't a column or there is no such definition.
     pub(crate) fn rows(
         &self,
         alloc: Global,

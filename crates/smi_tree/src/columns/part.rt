@@ -9,7 +9,8 @@ use crate::columns::{Extent, IndexPart};
 use smi_names::TypeBase;
 use smi_text::{Range, TokenText, bound as value_of};
 
-/// Returns the number that `bound` represents, or `None` if there is none or it is below zero.
+/// Returns the number that `bound` represents, or `None` if there is none (a bound has at most 64
+/// bits) or it is below zero.
 fn number(bound: &TokenText) -> Option<u64>
     ensures { MatchOption result ((n : ℕ) → StatesBound bound.now n → ⊥)
         (λ n. StatesBound bound.now n) }
@@ -31,7 +32,8 @@ fn single(sizes: Option<&[Range]>) -> Option<&TokenText>
 }
 
 /// Returns what determines the number of numbers in a string, from its SIZE and from whether
-/// IMPLIED precedes it. Returns `None` if its SIZE is fixed below zero: no string has that length.
+/// IMPLIED precedes it. Returns `None` if its SIZE is fixed, but not to a number of 0 to
+/// 18446744073709551615: no string has that length.
 fn extent(sizes: Option<&[Range]>, implied: bool) -> Option<Extent>
     ensures { let returned = option_copied sizes.entry in
         MatchOption result ((extent : Extent) → HasExtent returned implied extent → ⊥)
@@ -45,8 +47,8 @@ fn extent(sizes: Option<&[Range]>, implied: bool) -> Option<Extent>
 }
 
 /// Returns the part for an object with this base type and SIZE (RFC 2578, section 7.7). `implied`
-/// says whether IMPLIED precedes it. Returns `None` for Counter64, and for a string whose SIZE is
-/// fixed below zero.
+/// says whether IMPLIED precedes it. Returns `None` for Counter64, and for a string for which
+/// [`extent`] returns `None`.
 pub(crate) fn part(base: TypeBase, sizes: Option<&[Range]>, implied: bool) -> Option<IndexPart>
     ensures { let returned = option_copied sizes.entry in
         MatchOption result

@@ -13,10 +13,10 @@ use smi_text::Module;
 use std::alloc::{AllocError, Global};
 use std::marker::Model;
 
-/// What modules define, resolved.
+/// The nodes that modules define, with their identifiers, syntaxes and indexes, and the warnings.
 #[derive(Drop)]
 pub(super) struct Resolved {
-    /// The source of each node.
+    /// Where each node comes from.
     pub(super) sources: Vec<Source>,
     /// The identifier of each node.
     identifiers: Identifiers,
@@ -26,11 +26,11 @@ pub(super) struct Resolved {
     indexes: Indexes,
     /// The warnings, in order of loading.
     warnings: Vec<Warning>,
-    /// How the maps that found the names hash them.
+    /// The hash that the maps of names use.
     key: NameHash,
 }
 
-/// Resolves what `modules` define. The maps of names hash them as `hash` says.
+/// Finds the nodes that `modules` define. The maps of names use the hash `hash`.
 pub(super) fn resolve(
     alloc: Global,
     hash: NameHash,
@@ -43,7 +43,7 @@ pub(super) fn resolve(
     resolve_by(alloc, &names, modules)
 }
 
-/// Does what [`resolve`] does, with the names of `modules`.
+/// Does what [`resolve`] does. `names` are the names of `modules`.
 fn resolve_by<'a>(
     alloc: Global,
     names: &Names<'a>,
@@ -74,9 +74,9 @@ fn resolve_by<'a>(
 pub struct Loaded {
     pub(super) modules: Vec<Module>,
     pub(super) resolved: Resolved,
-    /// The index of the first module of each name.
+    /// For each module name, the index of the first module with that name.
     pub(super) homes: Indices,
-    /// The first sources of labels, by their indices.
+    /// For each label, the indices of the first nodes with it, in all modules and in each module.
     pub(super) indices: LabelIndices,
 }
 
@@ -93,7 +93,7 @@ impl Model for Loaded {
 }
 
 impl Drop for Loaded {
-    // Written out, as for a tree.
+    // Written out for the reason that the drop of [`Tree`] is.
     fn drop(self) {
         let Loaded {
             modules: _modules,

@@ -6,6 +6,6 @@ use Rattle.smi_tree.proofs.laws.one_deepest.Goals as goal
 not_longer : (oids : List (List ℕ)) (o : List ℕ) (id other depth more : ℕ) → IsDeepestAt oids o id depth → IsDeepestAt oids o other more → depth < more → ⊥
 not_longer oids o id other depth more h k l = let none = h.none_longer more l k.within in let some = k.here in cc
 
--- so both have the same length, and one length has one first index
+-- neither prefix is longer, so both have the same length; a prefix of one length has one first index
 pub returns : goal.returns
 returns c = grind (arith, common_steps, cases_lt, not_longer)

@@ -39,7 +39,7 @@ module _ (oids : List (List ℕ)) (id : ℕ) (o p : List ℕ) (i : ℕ) (bs : Li
   prefix : take (id + 1) oids ≡ take id oids ++ o ∷ []
   prefix = take_more oids id [] within ∙ rw (← is) refl
 
-  -- one more number is followed
+  -- if one more number is followed, then the first `i + 1` numbers reach the new branch, and the branches stay right
   module _ (new : List Branch) (b : ℕ) (inside : i < length o) (grows : GrowsBranch bs new at (get_or o i 0) b) where
     here_more : branch_of new (take (i + 1) o) ≡ Some b
     here_more = rw (take_more o i 0 inside) (branch_grown bs new at (get_or o i 0) b grows (take i o) here)
@@ -62,7 +62,7 @@ module _ (oids : List (List ℕ)) (id : ℕ) (o p : List ℕ) (i : ℕ) (bs : Li
       ),
     )
 
-  -- at the branch where the identifier ends, its index is stored if none was
+  -- if the index is stored at the branch of the whole identifier, unless one was stored before, then the branches are right for the list with it
   module _ (a : Branch) (s : Option ℕ) (end : length o ≤ i) (branch : a ≡ get_or bs at a) where
     ended : s ≡ or_else a.node_id (Some id) → AreBranchesOf (take (id + 1) oids) (set bs at (record { after = a.after; node_id = s }))
     ended is_at = rw prefix (Branches-ended (take id oids) o bs at a s (rw prefix at are) (rw (take_all i o end) at here) branch

@@ -1,4 +1,4 @@
--- The identifier whose index is stored at a branch is a prefix of those below it.
+-- If `oid` is below the identifier whose index is stored at the branch `at`, then the search can begin at that branch.
 use Rattle.std.proofs.Common.{rules}
 use Rattle.smi_tree.proofs.BranchLists.{way_known}
 use Rattle.smi_tree.proofs.branches.identifiers.deepest_at.Goals as goal

@@ -1,4 +1,4 @@
--- One number more is followed. If none can be, the longest prefix so far is the longest of all.
+-- The invariant of the loop holds after one more number. If no branch follows, then the longest prefix so far is the longest of all.
 use Rattle.std.proofs.lemmas.Grind.{common_steps}
 use Rattle.std.proofs.Common.{rules, ◌≡◌, ℕ, ◌+◌, ◌<◌, Option, List, Some, None, get_or, take, length, sym, arith}
 use Rattle.smi_tree.specs.branches.Branches.{follower, branch_of, id_at, deeper_of, AreBranchesOf, SoFar}

@@ -1,4 +1,4 @@
--- The value fits into 64 bits.
+-- The value of the bound fits into 64 bits.
 use Rattle.std.proofs.{Common.pos, Common.◌≤ℤ◌, Common.sym, Common.arith, lemmas.Int.ints}
 use Rattle.smi_tree.proofs.Bounds.{bound_fits}
 use Rattle.smi_tree.proofs.columns.part.number.Goals as goal

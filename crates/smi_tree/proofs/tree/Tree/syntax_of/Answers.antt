@@ -1,4 +1,4 @@
--- An index after that of the last node has no syntax.
+-- If `id` isn't the index of a node, then it has no syntax.
 use Rattle.std.proofs.Common.{sym}
 use Rattle.smi_tree.proofs.Syntaxes.{kept_none}
 use Rattle.smi_tree.proofs.tree.Tree.syntax_of.Goals as goal

@@ -1,4 +1,4 @@
--- If no number follows the branch where an index is stored, no identifier is below that of the index.
+-- If no number follows the branch at which an index is stored, then no identifier is below the identifier at that index.
 use Rattle.std.proofs.Common.{rules, ◌≡◌, [], Some, length, refl, sym}
 use Rattle.std.specs.List.{slice_get}
 use Rattle.std.proofs.{lemmas.List.nil_from_length, lemmas.Option.slice_get_read}

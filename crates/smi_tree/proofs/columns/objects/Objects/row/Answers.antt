@@ -1,4 +1,4 @@
--- The clause for a column is that of the row above it. If the function returns early, no clause applies.
+-- A column uses the clause that its row uses. If the function returns early, then no clause applies.
 use Rattle.std.proofs.{Common.rules, Common.length, Common.IsTrue, Common.refl, lemmas.Option.slice_get_read}
 use Rattle.smi_tree.proofs.Rows.{no_row_undefined, no_row_other, no_row_index, no_row_source, row_is}
 use Rattle.smi_tree.proofs.columns.objects.Objects.row.Goals as goal
