@@ -1,4 +1,4 @@
--- Texts with quotes, octet by octet: what the loops of the cuts know so far.
+-- What the loops that look for `stop` outside quotes know after each octet.
 use Rattle.std.proofs.Common.{◌≡◌, ◌+◌, ◌<◌, ◌∙◌, ℕ, List, [], ◌∷◌, ◌++◌, length, take, get_or, Option, None, refl, sym, ap, subst}
 use Rattle.std.proofs.lemmas.List.{take_more}
 use Rattle.snmp_io.specs.{QuoteLaws.quote_after, QuoteLaws.quote_after_both, QuoteLaws.HasNoneAfter, QuoteLaws.none_later, Quotes.open_after}
@@ -20,7 +20,7 @@ none_more stop quote (z ∷ prefix) x h not_here (y ∷ before) after e now =
     let P : ℕ → Type 0 = λ w. quote_after (open_after quote w) before ≡ None in
     none_more stop (open_after quote z) prefix x (none_later stop quote z prefix h) not_here before after more (subst P same now)
 
--- `stop` isn't outside quotes in the first `at` octets, and `quote` is open after them
+-- in the first `at` octets of the text, `stop` doesn't occur outside quotes; `quote` is the quote that is open after them, if any
 pub record IsSoFar (stop : ℕ) (text : List ℕ) (at : ℕ) (quote : Option ℕ) : Type 0 where
   pub now : quote ≡ quote_after None (take at text)
   pub none : HasNoneAfter stop None (take at text)

@@ -1,8 +1,8 @@
--- What is read from the start of a text.
+-- What the result of a read of at most `limit` octets says of the octets that were left.
 use Rattle.std.proofs.Common.{◌≡◌, ◌∙◌, ◌<◌, ◌++◌, ℕ, List, [], Option, Some, None, IfSome, length, min, take, option_map, ap, arith, inl, inr, sym}
 use Rattle.std.proofs.{Math.Seq.take-length, lemmas.Bool.cases_lt, lemmas.List.length-take-le, lemmas.List.take_min}
 
--- if fewer octets were read than wanted, then they are all that was left
+-- if a read of at most `limit` octets got fewer, then it got all that was left
 pub all_is_left : (left : Option (List ℕ)) (limit : ℕ) (start got : List ℕ) → start ≡ [] → length got < limit
     → IfSome (option_map (take limit) left) (λ xs. got ≡ start ++ xs) → IfSome left (λ xs. got ≡ xs)
 all_is_left None limit start got empty short is = tt

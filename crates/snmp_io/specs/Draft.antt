@@ -7,17 +7,18 @@ pub record Written : Type 0 where
   pub before : List ℕ
   pub added : Option (List ℕ)
 
--- a text of which nothing is appended yet
+-- the empty text after the octets `before`
 abbrev pub empty_text_after : List ℕ → Written
 empty_text_after before = record { before = before; added = Some [] }
 
--- between the states `first` and `last` the text is appended, unless memory ran out by then
+-- `last` is the state `first` with the text appended, unless memory ran out
 pub record Grows (first : Written) (text : List ℕ) (last : Written) : Type 0 where
   pub before : last.before ≡ first.before
   pub added : (whole : List ℕ) → last.added ≡ Some whole
       → (prefix : List ℕ) × (first.added ≡ Some prefix) × (whole ≡ prefix ++ text)
 
--- a call appends the octets: they follow whatever text was appended since a state `first`
+-- `new` is the state `old` with the octets appended, unless memory ran out (`grows`). Whatever
+-- text was appended between an earlier state `first` and `old`, the octets follow it (`goes_on`).
 pub record Adds (old : Written) (octets : List ℕ) (new : Written) : Type 0 where
   pub grows : Grows old octets new
   pub goes_on : (first : Written) (text : List ℕ)

@@ -1,11 +1,12 @@
 -- What is known of files.
 use Rattle.std.specs.Prelude.{◌≡◌, ⊤, ℕ, List, Option, Some, None}
 
--- for each path, what it is known to hold: a text, or none; None if that isn't known
+-- for each path, what it is known to hold: `Some (Some text)` for a text, `Some None` for no text,
+-- None if that isn't known
 abbrev pub Holdings : Type 0
 Holdings = List ℕ → Option (Option (List ℕ))
 
--- if it is known what the path holds, it is `text`
+-- if it is known what a path holds (the first argument), it is `text`; None stands for no text
 abbrev pub HoldsIfKnown : Option (Option (List ℕ)) → Option (List ℕ) → Type 0
 HoldsIfKnown None text = ⊤
 HoldsIfKnown (Some held) text = held ≡ text

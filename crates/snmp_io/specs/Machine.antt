@@ -4,7 +4,7 @@ use Rattle.std.specs.declared.io.ErrorKind.TheVariants.{OutOfMemory}
 use Rattle.snmp_io.specs.declared.machine.ReadError.{ReadError}
 use Rattle.snmp_io.specs.declared.machine.ReadError.TheVariants.{Failed, TooLong}
 
--- the most octets of a file that is read, 256 MiB
+-- the most octets that a file may have: 256 MiB
 abbrev pub most_octets : ℕ
 most_octets = 268435456
 

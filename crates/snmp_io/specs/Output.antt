@@ -11,7 +11,7 @@ pub record Stream : Type 0 where
 abbrev pub octets_after : Option (List ℕ) → List ℕ → Option (List ℕ)
 octets_after before text = option_map (λ taken. taken ++ text) before
 
--- the stream after it also took the text
+-- the stream `before` after it also took the text
 abbrev pub stream_after : Stream → List ℕ → Stream
 stream_after before text = record { taken = octets_after before.taken text; faults = before.faults }
 

@@ -1,6 +1,6 @@
 -- Quotes octet by octet, for proofs here and in the crates above: a text is closed if and only if
--- no quote is open after it (`none_open`, `is_closed`), and it is cut outside quotes in one way
--- (`cut_once`).
+-- no quote is open after it (`none_open`, `is_closed`), and it is cut outside quotes in at most
+-- one way (`cut_once`).
 use Rattle.std.specs.Prelude.{◌≡◌, ◌≢◌, ℕ, Bool, true, false}
 use Rattle.std.specs.Prelude.{All, List, [], ◌∷◌, ◌++◌, Option, Some, None}
 use Rattle.std.specs.List.{concat}

@@ -13,9 +13,9 @@ use std::mem;
 
 /// A text that is being appended to a `Vec<u8>`, which is left unchanged if memory runs out.
 ///
-/// Each call appends a piece and returns no error: if memory runs out, the draft remembers it, and
-/// [`Draft::finish`] reports it. A draft must be finished: until then the octets of the vector are
-/// in the draft.
+/// Each call appends a piece and returns no error: if memory runs out, the draft remembers it,
+/// appends nothing more, and [`Draft::finish`] reports it. A draft must be finished: until then
+/// the octets of the vector are in the draft.
 pub struct Draft {
     octets: Vec<u8>,
     start: usize,

@@ -10,7 +10,7 @@ use thiserror::Error;
 /// Why a file wasn't read.
 #[derive(Clone, Copy, Debug, PartialEq, Eq, Error)]
 pub enum FileFault {
-    /// There is no text at the path that can be read.
+    /// The path has no file, or a file that can't be read.
     #[error("Can't read the file.")]
     Unreadable,
     /// Memory ran out.
@@ -20,7 +20,8 @@ pub enum FileFault {
 
 /// Files, which are read by their paths.
 pub trait Files {
-    /// What each path is known to hold: a text, which may be empty, or none.
+    /// What each path is known to hold: a text, which may be empty, or no text. `None` for a path
+    /// that nothing is known about.
     ghost text_at: { Self → Holdings };
 
     /// Returns the text at `path`. Fails if there is none that can be read, or if memory runs out.
@@ -42,8 +43,8 @@ pub trait Files {
     }
 }
 
-/// Files with a key with which maps hash the names from them. Nobody who doesn't know the key can
-/// choose names that a map would store in one long chain.
+/// Files, and a key: maps hash the names from the files with it. Nobody who doesn't know the key
+/// can choose names that a map would store in one long chain.
 #[derive(Drop)]
 pub struct KeyedFiles<F> {
     /// The files without a key.

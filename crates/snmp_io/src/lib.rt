@@ -1,9 +1,10 @@
 //! What the tools use of the machine, as traits: outputs, which take octets, and files, which are
-//! read by their paths. Promises rest on the facts of the traits. Of the machine's own outputs and
-//! files, only the number of failed writes is known; of those in memory, all is known.
+//! read by their paths. Contracts are stated with the ghost facts of the traits. Of the machine's
+//! own outputs and files, only the number of failed writes is known; of those in memory, all is
+//! known.
 //!
 //! Also here: [`Draft`], a text that is appended whole or not at all, and [`split_unquoted`],
-//! which cuts a text outside quotes.
+//! which cuts a text at an octet outside quotes.
 //!
 //! # Examples
 //!

@@ -24,7 +24,7 @@ pub struct MachineOutput<W> {
     faults: u64,
 }
 
-/// A clause sees the number of writes that failed.
+/// In a contract, the output is the number of its writes that failed.
 impl<W> Model for MachineOutput<W> {
     ghost Value = { ℕ };
 

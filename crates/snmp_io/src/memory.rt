@@ -29,7 +29,8 @@ impl MemoryOutput {
         MemoryOutput::with_limit(alloc, usize::MAX)
     }
 
-    /// Returns an output that fails once it has taken `limit` octets.
+    /// Returns an output that takes at most `limit` octets. After them, a write fails unless it is
+    /// empty.
     pub fn with_limit(alloc: Global, limit: usize) -> MemoryOutput
         ensures { result ≡ record { octets = []; limit = limit; faults = 0 } }
     {
@@ -60,8 +61,8 @@ impl Output for MemoryOutput {
       faults = o.faults;
     } };
 
-    /// Takes as much of `piece` as the limit leaves room for. Fails if there is no room and
-    /// `piece` isn't empty, or if memory runs out.
+    /// Takes as much of `piece` as the limit leaves room for. Fails if it leaves none and `piece`
+    /// isn't empty, or if memory runs out.
     fn write(&mut self, piece: &[u8]) -> Result<usize, OutputFault>
         ensures not_empty { IfOk result (λ n. 0 < length piece.now → 0 < n) }
         ensures within_piece { IfOk result (λ n. n ≤ length piece.now) }

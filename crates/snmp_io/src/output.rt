@@ -35,13 +35,13 @@ pub trait Output {
     fn faults(&self) -> u64
         ensures { result ≡ (stream self.now).faults };
 
-    /// What is known of `after out text`: it took `text` too, and no other write failed. So one
-    /// write of several lines is as good as a write for each line.
+    /// The stream of `after out text` is the stream of `out` with `text` appended, and as many
+    /// failed writes. So a proof can treat one write of several lines as a write for each line.
     ghost after_takes: { (out : Self) (text : List ℕ)
         → stream (after out text) ≡ stream_after (stream out) text };
 }
 
-/// Writes all of `text`. If a write fails, fails too, and has written a prefix of `text`.
+/// Writes all of `text`. Fails if a write fails; the output has then taken a prefix of `text`.
 pub fn write_all<O: Output>(out: &mut O, text: &[u8]) -> Result<(), OutputFault>
     ensures whole_at_ok { OnOk result (O.stream out.new
         ≡ stream_after (O.stream out.old) text.now) }

@@ -1,17 +1,18 @@
-//! Cuts of a text outside quotes: the parts of a name that is given as text, and of a line of a
-//! table, end at an octet outside quotes.
+//! Cuts a text at an octet outside quotes. So names are cut at `.` and `:`, and lines of a table
+//! at `|`.
 ghost use Rattle.std.specs.Prelude.{◌≡◌, MatchOption};
 ghost use Rattle.snmp_io.specs.Quotes.{HasNoneOutside, IsCut, IsUnquotedPrefix, is_quote};
 ghost use Rattle.snmp_io.specs.Quotes.{open_after};
 
 /// Splits `text` at the first octet that equals `stop` and is outside quotes. Returns what is
 /// before and after it, or `None` if there is none. A quote opens with `"` or `'`, and ends with
-/// the next octet of its kind.
+/// the next octet of its kind, or with the text if none follows.
 pub fn split_unquoted(text: &[u8], stop: u8) -> Option<(&[u8], &[u8])>
     ensures { MatchOption result (HasNoneOutside stop text.now)
         (λ parts. IsCut stop text.now parts.0.now parts.1.now) }
 {
-    // Hot: runs over each octet of a table's line. Most lines have no quote.
+    // Hot: runs for each line of a table. Most lines have no quote, and until the first one this
+    // loop needn't track which quote is open.
     'octets: for (at, octet) in text.iter().enumerate() {
         if *octet == stop {
             return Some((&text[..at], &text[at + 1..]));
@@ -23,7 +24,7 @@ pub fn split_unquoted(text: &[u8], stop: u8) -> Option<(&[u8], &[u8])>
     None
 }
 
-/// Returns whether `octet` opens a quote.
+/// Returns whether `octet` is `"` or `'`, which open a quote outside quotes.
 #[inline]
 pub fn is_quote(octet: u8) -> bool
     ensures { result ≡ is_quote octet }

@@ -36,20 +36,21 @@ pub one_more_alike : (i : ℕ) (o p : List ℕ) → i < length o → i < length 
     → take (i + 1) o ≡ take (i + 1) p
 one_more_alike i o p h k same equal = grind (arith, common_steps, take_more)
 
--- if one list is a prefix of the other, then they compare as their lengths do
+-- if s or t is empty, then they compare as n and m do, which are their lengths plus `both`
 ends : (n m both : ℕ) (s t : List ℕ) → length s + both ≡ n → length t + both ≡ m → (both < n → both < m → ⊥) → nat_cmp n m ≡ slice_cmp nat_cmp s t
 ends n m both [] [] e d h = sym (nat_cmp_is n m Equal (omega arith))
 ends n m both [] (y ∷ t) e d h = sym (nat_cmp_is n m Less (omega arith))
 ends n m both (x ∷ s) [] e d h = sym (nat_cmp_is n m Greater (omega arith))
 ends n m both (x ∷ s) (y ∷ t) e d h = absurd (h (omega arith) (omega arith))
 
+-- if o and p agree before index `both` and one of them ends there, then they compare as their lengths do
 pub longer_after : (both : ℕ) (o p : List ℕ) → both ≤ length o → both ≤ length p → (both < length o → both < length p → ⊥) → take both o ≡ take both p
     → nat_cmp (length o) (length p) ≡ slice_cmp nat_cmp o p
 longer_after both o p h k end same =
     ends (length o) (length p) both (drop both o) (drop both p) (omega (arith, length-drop both o)) (omega (arith, length-drop both p)) end
     ∙ after_alike both o p same
 
--- if eight pairs of numbers are equal, then the first eight numbers are
+-- if o and p have the same number at each index below 8, then their first eight numbers are the same
 pub eight_alike : (o p : List ℕ) → 8 ≤ length o → 8 ≤ length p
     → (get_or o 0 0 ≡ get_or p 0 0) × (get_or o 1 0 ≡ get_or p 1 0) × (get_or o 2 0 ≡ get_or p 2 0) × (get_or o 3 0 ≡ get_or p 3 0)
     → (get_or o 4 0 ≡ get_or p 4 0) × (get_or o 5 0 ≡ get_or p 5 0) × (get_or o 6 0 ≡ get_or p 6 0) × (get_or o 7 0 ≡ get_or p 7 0)

@@ -39,10 +39,11 @@ digits_have_no_dot (octet ∷ rest) e =
 tests_false : (part : List ℕ) → HasNoDot part → All (λ octet. (octet == dot) ≡ false) part
 tests_false part free = All-weaker (λ octet. octet ≢ dot) (λ octet. (octet == dot) ≡ false) (λ octet other. ne_eqb octet dot other) part free
 
--- the first part ends at the first dot, or with the text
+-- if a text is a part without dots, a dot and a rest, then its parts are this part and the parts of the rest
 pub parts_of_first : (part rest : List ℕ) → HasNoDot part → parts (part ++ dot ∷ rest) ≡ part ∷ parts rest
 parts_of_first part rest free = slice_split_at (λ octet. octet == dot) part dot rest (tests_false part free) refl
 
+-- a text without dots is its only part
 pub parts_of_last : (part : List ℕ) → HasNoDot part → parts part ≡ part ∷ []
 parts_of_last part free = slice_split_none (λ octet. octet == dot) part (tests_false part free)
 
@@ -71,7 +72,7 @@ pub dotted_from_numerals : (o text : List ℕ) → AreNumerals (parts text) o �
 dotted_from_numerals o text h =
     subst (λ (t : List ℕ). IsDotted t o) (join_with_byte-slice_split dot text) (joined_is_dotted (parts text) o (some_part text) h)
 
--- the parts are numerals of one list of numbers only
+-- if the parts are numerals of o and of p, then o and p are the same
 pub same_numerals : (ps : List (List ℕ)) (o p : List ℕ) → AreNumerals ps o → AreNumerals ps p → o ≡ p
 same_numerals [] [] [] h g = refl
 same_numerals [] [] (m ∷ p) h g = absurd g
@@ -82,7 +83,7 @@ same_numerals (part ∷ ps) (n ∷ o) (m ∷ p) h g =
     let first : n ≡ m = sym h.0.value ∙ g.0.value in
     let rest : o ≡ p = same_numerals ps o p h.1 g.1 in cc
 
--- if a numeral follows the parts, then its number follows their numbers
+-- if the parts ps are numerals of o, and `part` is a numeral of n, then ps and then `part` are numerals of o and then n
 pub numerals_more : (ps : List (List ℕ)) (o : List ℕ) (part : List ℕ) (n : ℕ) → AreNumerals ps o → IsNumeral part n
     → AreNumerals (ps ++ part ∷ []) (o ++ n ∷ [])
 numerals_more [] [] part n h one = (one, tt)
@@ -90,14 +91,14 @@ numerals_more [] (m ∷ o) part n h one = absurd h
 numerals_more (p ∷ ps) [] part n h one = absurd h
 numerals_more (p ∷ ps) (m ∷ o) part n h one = (h.0, numerals_more ps o part n h.1 one)
 
--- if all parts are numerals, then each of them is
+-- if the parts `ps`, `part` and `qs` together are numerals of o, then `part` is a numeral of a number
 pub part_is_numeral : (ps : List (List ℕ)) (part : List ℕ) (qs : List (List ℕ)) (o : List ℕ) → AreNumerals (ps ++ part ∷ qs) o → (n : ℕ) × IsNumeral part n
 part_is_numeral [] part qs [] h = absurd h
 part_is_numeral [] part qs (n ∷ o) h = (n, h.0)
 part_is_numeral (p ∷ ps) part qs [] h = absurd h
 part_is_numeral (p ∷ ps) part qs (n ∷ o) h = part_is_numeral ps part qs o h.1
 
--- the octets before the next dot
+-- the octets before the first dot of the text, or all octets if it has none
 abbrev to_dot : List ℕ → List ℕ
 to_dot text = take_while (λ octet. not (octet == dot)) text
 
@@ -110,7 +111,7 @@ taken_prefix (octet ∷ part) after free none =
     to_dot-cons octet (part ++ after) (All-head (λ octet. octet ≢ dot) octet part free)
     ∙ ap (λ (s : List ℕ). octet ∷ s) (taken_prefix part after (All-tail (λ octet. octet ≢ dot) octet part free) none)
 
--- `part` is the first part of `here`, and `suffix` is what follows its dot, or None if it ends with the text
+-- `part` is the first part of `here`, and `suffix` is what follows the first dot of `here`, or None if `here` has no dot
 abbrev pub Splits : List ℕ → List ℕ → Option (List ℕ) → Type 0
 Splits here part suffix = HasNoDot part × MatchOption suffix (here ≡ part) (λ rest. here ≡ part ++ dot ∷ rest)
 

@@ -41,7 +41,7 @@ parts_at_once : (n m : ℕ) (o p : List ℕ) → n < m → Precedes (n ∷ o) (m
 parts_at_once n m o p h =
     inr record { prefix = []; smaller = n; larger = m; after = o; suffix = p; this = refl; that = refl; is_smaller = h }
 
--- what the result r of a comparison says of o and p
+-- r is how o and p compare: `Less` if o precedes p, `Equal` if they are the same, `Greater` if p precedes o
 abbrev pub Says : Ordering → List ℕ → List ℕ → Type 0
 Says r o p = MatchOrdering r (Precedes o p) (o ≡ p) (Precedes p o)
 
@@ -73,11 +73,12 @@ less_from_precedes : (o p : List ℕ) → Precedes o p → slice_cmp nat_cmp o p
 less_from_precedes o p (inl h) = rw h.2 (less_from_longer o h.0 h.1)
 less_from_precedes o p (inr h) = rw (h.this, h.that) (less_from_parts h.prefix h.smaller h.larger h.after h.suffix h.is_smaller)
 
--- a list is equal to itself only, less than what it precedes, and greater than what precedes it
+-- a list compares as equal to itself
 itself_equal : (o : List ℕ) → slice_cmp nat_cmp o o ≡ Equal
 itself_equal [] = refl
 itself_equal (n ∷ o) = rw (← nat_cmp_is n n Equal refl) (itself_equal o)
 
+-- the result of a comparison is `Less` if and only if o precedes p, `Equal` if and only if they are the same, and `Greater` if and only if p precedes o
 pub ordered_less : (o p : List ℕ) → (slice_cmp nat_cmp o p ≡ Less) ↔ Precedes o p
 ordered_less o p = (λ e. subst (λ (r : Ordering). Says r o p) e (compared o p), less_from_precedes o p)
 
@@ -90,7 +91,7 @@ ordered_greater o p = (
   λ h. nat_list_cmp_total.antisymm o p ∙ ap ordering_reverse (less_from_precedes p o h),
 )
 
--- the order is strict and total
+-- `Precedes` is a strict total order: asymmetric, transitive and total
 
 pub precedes_asymmetric : (o p : List ℕ) → Precedes o p → Precedes p o → ⊥
 precedes_asymmetric o p h k =

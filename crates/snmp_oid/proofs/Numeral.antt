@@ -8,7 +8,7 @@ use Rattle.std.proofs.lemmas.Str.Parse.{IsNumeralModel, numerals_by_weight, tell
 use Rattle.std.specs.{Char.is_ascii_digit, Str.all_ascii_digits}
 use Rattle.snmp_oid.specs.Numeric.{decimal_value, IsNumeral}
 
--- `number` is the value of the digits of the part before `left`, which are still to be read
+-- `left` is the end of the part that is still to be read, and `number` is the value of the digits before it
 pub record IsReadTo (part left : List ℕ) (number : ℕ) : Type 0 where
   pub value : number * 10 ^ length left + decimal_value left ≡ decimal_value part
   pub digits : all_ascii_digits left ≡ all_ascii_digits part
@@ -23,12 +23,12 @@ value_more : (part rest : List ℕ) (digit number : ℕ) → IsReadTo part (digi
 value_more part rest digit number h =
     shifted number (digit - 48) (10 ^ length rest) (decimal_value rest) ∙ rw (pow-suc 10 (length rest)) at h.value
 
--- if the next digit keeps the number below 2^32, then it can be read
+-- if the number stays below 2^32 with the next digit appended, then this digit can be read
 pub read_more : (part rest : List ℕ) (digit number : ℕ) → is_ascii_digit digit ≡ true → number * 10 + (digit - 48) < 2 ^ 32
     → IsReadTo part (digit ∷ rest) number → IsReadTo part rest (number * 10 + (digit - 48))
 read_more part rest digit number is_digit small h = grind (arith, common_steps, value_more)
 
--- if all digits are read, then the part is a numeral of the number
+-- if a part isn't empty and all its digits are read, then it is a numeral of the number
 pub read_all : (part : List ℕ) (number : ℕ) → part ≢ [] → IsReadTo part [] number → IsNumeral part number
 read_all part number some h = grind (arith, common_steps)
 

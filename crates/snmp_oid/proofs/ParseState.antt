@@ -16,12 +16,13 @@ use Rattle.snmp_oid.proofs.Numeral.{IsLeadingNumber, prefix_numeral, digit_small
 abbrev pub IsAfterDot : List ℕ → List ℕ → Type 0
 IsAfterDot text dotted = ((dotted ≡ text) × (slice_index text 0 ≢ dot)) ⊎ (text ≡ dot ∷ dotted)
 
--- what is left of the text begins at offset `at`, and a part begins there
+-- `at` is the offset of what is left of the text, and a part begins there; if nothing is left, `at` is one above the length of the text
 abbrev pub IsPositionOf : List ℕ → Option (List ℕ) → ℕ → Type 0
 IsPositionOf text None at = at ≡ length text + 1
 IsPositionOf text (Some here) at = (drop at text ≡ here) × (at + length here ≡ length text) × BeginsPart text at
 
--- the parts before what is left are numerals, and `kept` has the first 128 of their numbers
+-- the text is read up to `left`, or to its end if `left` is None: the parts before it are numerals (of `numbers`); `kept` is the first 128 of these numbers,
+-- and `too_long` says whether there are more
 pub record IsParsedTo (text : List ℕ) (left : Option (List ℕ)) (kept : List ℕ) (too_long : Bool) : Type 0 where
   pub more : text ≢ dot ∷ []
   pub dotted : List ℕ
@@ -37,10 +38,11 @@ pub record IsParsedTo (text : List ℕ) (left : Option (List ℕ)) (kept : List 
   pub at_position : IsPositionOf text left at
   pub before : (k : ℕ) → k < at → BeginsPart text k → (n : ℕ) × IsNumeral (part_at text k) n
 
--- a name other than a single dot is dotted, perhaps after a leading dot
+-- a text that begins with a dot isn't dotted
 no_empty_first : (rest o : List ℕ) → IsDotted (dot ∷ rest) o → ⊥
 no_empty_first rest o h = (part_is_numeral [] [] (parts rest) o (numerals_from_dotted o (dot ∷ rest) h)).1.some refl
 
+-- if a text other than a single dot names o, then the text without its leading dot, if it has one, is dotted
 pub dotted_from_name : (text dotted o : List ℕ) → text ≢ dot ∷ [] → IsAfterDot text dotted → IsNumericName text o → IsDotted dotted o
 dotted_from_name text dotted o more prefix (inl h) = absurd (more h.0)
 dotted_from_name text dotted o more (inl prefix) (inr (inl h)) = rw prefix.0 h
@@ -52,7 +54,7 @@ pub name_from_dotted : (text dotted o : List ℕ) → IsAfterDot text dotted →
 name_from_dotted text dotted o (inl prefix) h = inr (inl (rw prefix.0 at h))
 name_from_dotted text dotted o (inr prefix) h = inr (inr (dotted, prefix, h))
 
--- a single dot names the empty identifier and no other
+-- a single dot names no identifier but the empty one
 pub dot_alone : (text o : List ℕ) → text ≡ dot ∷ [] → IsNumericName text o → o ≡ []
 dot_alone text o is (inl h) = h.1
 dot_alone text o is (inr (inl h)) = absurd (no_empty_first [] o (rw is at h))
@@ -79,7 +81,8 @@ one_bad_part text at k h g =
     let not_above : k < at → ⊥ = λ low. (let one = h.before k low g.part in g.bad one.0 one.1) in
     omega (arith, not_below, not_above)
 
--- before its first part is read, a text is read up to this part, with no numbers
+-- if the text isn't a single dot, and `dotted`, the text without its leading dot, begins at offset `at`, with no part before it, then the text is read up to
+-- `dotted`, with no numbers
 begins_at : (text dotted kept : List ℕ) → text ≢ dot ∷ [] → IsAfterDot text dotted → kept ≡ [] → (at : ℕ) → IsPositionOf text (Some dotted) at
     → ((k : ℕ) → k < at → BeginsPart text k → ⊥) → IsParsedTo text (Some dotted) kept false
 begins_at text dotted kept more prefix none at at_position before = record {
@@ -141,7 +144,7 @@ module _ (text : List ℕ) {here : List ℕ} {number : Option ℕ} {suffix : Opt
       (⊎_elim (λ below. before k below begins) (λ above. absurd (none_inside k above low begins)))
       (cases_order k at)
 
--- what is left after the part begins after its dot, or nothing is left
+-- after a part is read, what is left begins after the part's dot, or nothing is left
 position_after : (text here part : List ℕ) (suffix : Option (List ℕ)) (at : ℕ) → IsPositionOf text (Some here) at
     → MatchOption suffix (here ≡ part) (λ rest. here ≡ part ++ dot ∷ rest) → IsPositionOf text suffix (at + length part + 1)
 position_after text here part None at at_position is = omega (arith, at_position.1, ap length is)
@@ -157,7 +160,7 @@ position_after text here part (Some rest) at at_position is =
       inr (omega (arith, at_position.1, size), omega arith, subst (λ (i : ℕ). get_or text i 0 ≡ dot) before octet),
     )
 
--- the number is appended, or there is no room for it
+-- `new` and `now` are `kept` and `too_long` after the number n: if `kept` has fewer than 128 numbers, n is appended, otherwise `now` is true
 abbrev pub Keeps : List ℕ → Bool → ℕ → List ℕ → Bool → Type 0
 Keeps kept too_long n new now = ((length kept < 128) × (new ≡ kept ++ n ∷ []) × (now ≡ too_long)) ⊎ ((128 ≤ length kept) × (new ≡ kept) × (now ≡ true))
 
@@ -264,7 +267,7 @@ parsed_only text kept too_long h o name = grind (arith, common_steps, same_numer
 pub parsed_short : (text kept : List ℕ) → (h : IsParsedTo text None kept false) → (length h.numbers ≤ 128) × (kept ≡ h.numbers)
 parsed_short text kept h = (h.short refl, h.first ∙ take_all 128 h.numbers (h.short refl))
 
--- what follows a part, its dot included
+-- what follows a part: a dot and the rest, or nothing
 abbrev pub dot_and_rest : Option (List ℕ) → List ℕ
 dot_and_rest None = []
 dot_and_rest (Some rest) = dot ∷ rest

@@ -5,12 +5,12 @@ use Rattle.std.specs.List.{flat_map}
 use Rattle.snmp_oid.specs.{Identifier.IsIdentifier, Numeric.dot, Numeric.numeric_text, Numeric.IsNumeral, Numeric.IsDotted, Numeric.IsNumericName}
 use Rattle.snmp_oid.proofs.Numeral.{decimal_is_numeral}
 
--- the text of the first `count` numbers, or a single dot if there are no numbers
+-- the text of the first `count` numbers, or a single dot if the list is empty
 abbrev pub text_of : List ℕ → ℕ → List ℕ
 text_of [] count = dot ∷ []
 text_of (n ∷ more) count = flat_map (λ m. dot ∷ decimal m) (take count (n ∷ more))
 
--- the text of the first `count` numbers is written
+-- `text` is the text of the first `count` numbers, and has at most 11 octets for each of them (or one, a dot, if the list is empty)
 pub record IsWritten (numbers : List ℕ) (count : ℕ) (text : List ℕ) : Type 0 where
   pub text_is : text ≡ text_of numbers count
   pub short : length text ≤ 11 * count + (1 - length numbers)

@@ -41,8 +41,8 @@ wire [] = 0 ∷ 0 ∷ []
 wire (x ∷ []) = x ∷ 0 ∷ []
 wire (x ∷ y ∷ rest) = x ∷ y ∷ rest
 
--- the identifier as a number of `digits` digits to the base 2^32 + 1: each of its numbers plus 1
--- is a digit, and zeros follow the last
+-- the identifier, of at most `digits` numbers, as a number of `digits` digits to the base 2^32 +
+-- 1: each of its numbers plus 1 is a digit, and zeros follow the last
 abbrev pub rank_in : ℕ → List ℕ → ℕ
 rank_in digits [] = 0
 rank_in digits (n ∷ rest) = (n + 1) * (2 ^ 32 + 1) ^ (digits - 1) + rank_in (digits - 1) rest

@@ -37,8 +37,8 @@ IsNumericName text o =
     ((text ≡ dot ∷ []) × (o ≡ []))
     ⊎ (IsDotted text o ⊎ ((rest : List ℕ) × (text ≡ dot ∷ rest) × IsDotted rest o))
 
--- a part of the text begins at offset `at`: at the start, unless a dot is there, and after each
--- dot
+-- a part of the text begins at offset `at`: at the start, if the text doesn't begin with a dot, or
+-- directly after a dot
 abbrev pub BeginsPart : List ℕ → ℕ → Type 0
 BeginsPart text at =
     ((at ≡ 0) × (slice_index text 0 ≢ dot))
@@ -57,8 +57,8 @@ pub record IsFirstBadPart (text : List ℕ) (at : ℕ) : Type 0 where
   pub before : (k : ℕ) → k < at → BeginsPart text k → (n : ℕ) × IsNumeral (part_at text k) n
 
 -- The first part of a text ends at its first dot or with the text. `number` is the number that the
--- part is a numeral of, or None if it isn't one; `after` is what follows the dot, or None if there
--- is no dot.
+-- part is a numeral of, or None if it isn't one; `after` is what follows the dot, or None if the
+-- text has no dot.
 pub record IsPartRead (text : List ℕ) (number : Option ℕ) (after : Option (List ℕ)) : Type 0 where
   pub part : List ℕ
   pub plain : All (λ octet. octet ≢ dot) part

@@ -1,6 +1,6 @@
 //! Object identifiers: their numbers, their order, and their numeric text.
 //!
-//! The lowest layer. Tables, messages, walks and lines all name instances by these identifiers.
+//! The lowest layer: tables, messages and walks name instances by these identifiers.
 //!
 //! # Examples
 //!
@@ -29,6 +29,6 @@ pub use numeric::{
 pub use oid::{MAX_LEN, Oid, OidError, compare_numbers};
 pub use stored::StoredOid;
 
-// Laws: for proofs, and for readers.
+// Laws: calls that do nothing. What they ensure may be used in proofs.
 pub use numeric::names;
 pub use oid::{order, ranks, strict_order};

@@ -16,7 +16,7 @@ use thiserror::Error;
 #[derive(Clone, Copy, Debug, PartialEq, Eq, Error)]
 pub enum OidTextError {
     /// A part is empty, contains an octet other than a digit, or is above 4294967295. Holds the
-    /// offset, from 0, at which the first such part begins.
+    /// offset, from 0, of the first such part.
     #[error("no number at octet {0}")]
     BadNumber(usize),
     /// Each part is a number, but there are more than 128.
@@ -33,7 +33,7 @@ pub fn parse_numeric(text: &[u8]) -> Result<Oid, OidTextError>
     ensures at_most_128 { IfOk result (λ o. length o ≤ 128) }
     // If `text` names an identifier of at most 128 numbers, this is the result.
     ensures only { (o : List ℕ) → IsNumericName text.now o → length o ≤ 128 → result ≡ Ok o }
-    // `at` is the offset of the first part that isn't a number of 32 bits, as an empty part isn't.
+    // `at` is the offset of the first part that isn't a number of 32 bits; an empty part isn't.
     ensures bad_number { (at : ℕ)
         → (result ≡ Err (OidTextError.BadNumber at)) ↔ IsFirstBadPart text.now at }
     ensures too_long { (result ≡ Err OidTextError.TooLong) ↔ IsTooLong text.now }
@@ -45,9 +45,8 @@ pub fn parse_numeric(text: &[u8]) -> Result<Oid, OidTextError>
     }
 }
 
-/// Reads the identifier that `text` names into `oid`, as [`parse_numeric`] does, but without
-/// moving an identifier, which takes as long as reading it. After an error, `oid` may have any
-/// numbers.
+/// Reads the identifier that `text` names into `oid`, as [`parse_numeric`] does. Returns no `Oid`
+/// by value: moving one takes as long as reading it. After an error, `oid` may have any numbers.
 pub fn read_numeric(text: &[u8], oid: &mut Oid) -> Result<(), OidTextError>
     ensures found { OnOk result (IsNumericName text.now oid.new) }
     ensures at_most_128 { OnOk result (length oid.new ≤ 128) }
@@ -112,14 +111,15 @@ fn read_three<'a>(text: &'a [u8], oid: &mut Oid) -> Option<&'a [u8]>
     ensures three { IfSome result (λ rest. AreDigitsRead 3 text.now rest.now oid.old oid.new) }
     ensures unchanged_on_none { IfNone result (oid.new ≡ oid.old) }
 {
-    // Tested first, so that no octet of a name that is too long is read twice.
+    // Tested before the octets are read: the caller reads them again after a `None`.
     if oid.len() > 125 {
         return None;
     }
     match text {
         [a, b'.', b, b'.', c, b'.', rest @ ..]
             if a.is_ascii_digit() && b.is_ascii_digit() && c.is_ascii_digit() => {
-            // All three are read before the first is pushed, so that none is read again.
+            // All three digits are read before the first push. After a push, which writes to
+            // memory, they would be read once more.
             let first = u32::from(*a - b'0');
             let second = u32::from(*b - b'0');
             let third = u32::from(*c - b'0');
@@ -132,8 +132,8 @@ fn read_three<'a>(text: &'a [u8], oid: &mut Oid) -> Option<&'a [u8]>
     }
 }
 
-/// Returns the number of the first part of `text`, or `None` if that isn't a numeral; and what
-/// follows the dot that ends the part, or `None` if it ends with the text.
+/// Returns two results: the number of the first part of `text`, or `None` if this part isn't a
+/// numeral; and what follows the first dot of `text`, or `None` if `text` has no dot.
 // Hot: runs for each number of a name that `read_three` leaves.
 #[inline(always)]
 fn read_part(text: &[u8]) -> (Option<u32>, Option<&[u8]>)
@@ -145,9 +145,9 @@ fn read_part(text: &[u8]) -> (Option<u32>, Option<&[u8]>)
     }
 }
 
-/// Does what [`read_part`] does, for any part. It is a function of its own because it calls
-/// [`read_any_part`]: each turn of a loop zeroes the result of a call in its body, even if the
-/// call isn't made.
+/// Does what [`read_part`] does, for any part. This is a separate function, since it calls
+/// [`read_any_part`]: if the body of a loop has a call, each turn zeroes the memory for its
+/// result, even if the call isn't made.
 #[inline(always)]
 fn read_other_part(text: &[u8]) -> (Option<u32>, Option<&[u8]>)
     ensures { IsPartRead text.now result.0 (option_map (λ rest. rest.now) result.1) }
@@ -157,9 +157,9 @@ fn read_other_part(text: &[u8]) -> (Option<u32>, Option<&[u8]>)
 }
 
 /// Reads the number before the first dot of `text`. Returns it with the text after the dot, or
-/// with `None` if there is no dot. Each numeral below 4000000000 is read, fastest if it is one
+/// with `None` if `text` has no dot. Each numeral below 4000000000 is read, fastest if it is one
 /// digit before a dot. A result of `None` says nothing about `text`.
-// Hot: callers run it for each number of a name.
+// Hot: runs for each number of a name that is read by itself.
 #[inline(always)]
 pub fn leading_number(text: &[u8]) -> Option<(u32, Option<&[u8]>)>
     ensures { IfSome result
@@ -228,7 +228,8 @@ fn three_digits(hundreds: u8, tens: u8, ones: u8) -> u32
 }
 
 /// Does what [`leading_number`] does, for any number of digits.
-// Hot: runs for each number of four or more digits. One pass reads the digits and finds their end.
+// Hot: runs for each number of four or more digits, and for the last one of a name. One pass reads
+// the digits and finds their end.
 #[inline(always)]
 fn read_digits(text: &[u8]) -> Option<(u32, Option<&[u8]>)>
     ensures { IfSome result
@@ -264,8 +265,8 @@ fn read_any_part(text: &[u8]) -> (Option<u32>, Option<&[u8]>)
     (parse_number(part), after)
 }
 
-/// Returns the first part of `text`; and what follows the dot that ends the part, or `None` if it
-/// ends with the text.
+/// Returns the first part of `text`, and what follows the dot that ends the part, or `None` if
+/// `text` has no dot.
 fn split_part(text: &[u8]) -> (&[u8], Option<&[u8]>)
     ensures part { All (λ octet. octet ≢ dot) result.0.now }
     ensures parts { MatchOption result.1

@@ -69,8 +69,8 @@ impl Oid {
         Ok(Oid { numbers })
     }
 
-    /// Returns a copy of the identifier. Nothing is allocated, so it can't fail, as
-    /// [`Clone::clone`] may by its signature.
+    /// Returns a copy of the identifier. It allocates nothing and can't fail, so that a caller has
+    /// no error to handle as after [`Clone::clone`].
     #[inline]
     pub fn copy(&self) -> Oid
         ensures { result ≡ self.now }
@@ -286,7 +286,7 @@ fn begin_alike(o: &[u32], p: &[u32]) -> bool
 }
 
 /// Returns whether `o` and `p` have the same four numbers from index `from` on.
-// `inline(always)`: it runs at each comparison of a search, and a call would cost as much as the
+// `inline(always)`: it runs at most comparisons of a search, and a call would cost as much as the
 // body.
 #[inline(always)]
 fn are_same_four(o: &[u32], p: &[u32], from: usize) -> bool

@@ -24,8 +24,8 @@ impl Model for StoredOid {
 }
 
 impl StoredOid {
-    /// Stores the identifier of the numbers of `prefix` and then those of `suffix`, of which there
-    /// are at most 128 together.
+    /// Stores the numbers of `prefix` and then the numbers of `suffix`. The caller must pass at
+    /// most 128 together. Fails if memory runs out.
     pub fn join(alloc: Global, prefix: &[u32], suffix: &[u32]) -> Result<StoredOid, AllocError>
         requires { length prefix.now + length suffix.now ≤ 128 }
         ensures { IfOk result (λ o. o ≡ prefix.now ++ suffix.now) }
@@ -36,7 +36,7 @@ impl StoredOid {
         Ok(StoredOid { numbers })
     }
 
-    /// Stores a copy of the identifier.
+    /// Stores a copy of the identifier. Fails if memory runs out.
     pub fn copy(&self, alloc: Global) -> Result<StoredOid, AllocError>
         ensures { IfOk result (λ o. o ≡ self.now) }
     {
@@ -54,7 +54,7 @@ impl StoredOid {
         numbers
     }
 
-    /// Returns the identifier, which takes no memory of its own.
+    /// Returns the identifier as an `Oid`. Allocates nothing.
     pub fn to_oid(&self) -> Oid
         ensures { result ≡ self.now }
     {

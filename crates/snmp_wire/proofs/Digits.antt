@@ -14,16 +14,16 @@ pub number_of-push : (base : ℕ) (xs : List ℕ) (digit : ℕ) → number_of ba
 number_of-push base [] digit = rw pow-zero (omega arith)
 number_of-push base (first ∷ rest) digit = grind (arith, common_steps, number_of-push base rest digit, length_push, add-one, pow-suc)
 
--- the value of `i + 1` digits is `base` times that of the first `i`, plus the digit at `i`
+-- the value of the first `i + 1` digits is `base` times the value of the first `i`, plus the digit at `i`
 pub number_of-more : (base : ℕ) (xs : List ℕ) (i : ℕ) → i < length xs
     → number_of base (take (i + 1) xs) ≡ number_of base (take i xs) * base + get_or xs i 0
 number_of-more base xs i lt = ap (number_of base) (take_more xs i 0 lt) ∙ number_of-push base (take i xs) (get_or xs i 0)
 
--- with one more octet a number is still below its bound
+-- if a number is below 256 ^ i, then with one more octet it is below 256 ^ (i + 1)
 pub octet_more : (i sum octet : ℕ) → sum < 256 ^ i → octet < 256 → sum * 256 + octet < 256 ^ (i + 1)
 octet_more i sum octet below small = rw (add-one, pow-suc) (omega arith)
 
--- eight octets fit into 64 bits
+-- if a number has fewer than eight octets, then with one more octet it fits into 64 bits
 pub octet_fits : (i sum : ℕ) → i < 8 → sum < 256 ^ i → sum * 256 + 255 < 2 ^ 64
 octet_fits i sum lt below = omega (arith, pow-le-pow_right {n = 256} (lit< tt) {i = i} {j = 7} (omega arith))
 
@@ -61,14 +61,14 @@ number_of-digits base (suc count) n some = grind (arith, common_steps, number_of
 pub digits_value : (base count n : ℕ) → 0 < base → n < base ^ count → number_of base (digits base count n) ≡ n
 digits_value base count n some h = number_of-digits base count n some ∙ mod-eq_of_lt h
 
--- the lowest digits don't depend on higher ones
+-- the lowest `count` digits don't change if a multiple of `base ^ count` is added
 pub digits-add : (base count a b : ℕ) → 0 < base → digits base count (a + base ^ count * b) ≡ digits base count a
 unfolding digits
 digits-add base zero a b some = refl
 digits-add base (suc count) a b some =
     grind (arith, common_steps, digits-add base count a (base * b) some, pow-suc, mul_assoc, add-mul-div_left, one-le-pow, add-mul-mod_self_left)
 
--- digits are the digits of their number
+-- digits `xs` are the lowest digits of the number that they write
 pub digits_are : (base : ℕ) (xs : List ℕ) → 0 < base → AreDigits base xs → xs ≡ digits base (length xs) (number_of base xs)
 unfolding digits
 digits_are base [] some h = refl

@@ -13,11 +13,11 @@ pub canon_length_short : (n : ℕ) → n < 128 → canon_length n ≡ n ∷ []
 unfolding canon_length
 canon_length_short n h = rw (lt-ltb n 128 h) refl
 
--- the header with such a length has two octets
+-- the header before a content of fewer than 128 octets has two octets
 pub header_short : (n : ℕ) → n < 128 → 1 + length (canon_length n) ≡ 2
 header_short n h = ap (λ octets. 1 + length octets) (canon_length_short n h)
 
--- the length of a header is that of its tag, which is one octet, and of its length field
+-- a header is as long as its tag, which is one octet, and its length field together
 pub length-canon_header : (tag size : ℕ)
     → length (canon_header tag size) ≡ 1 + length (canon_length size)
 unfolding canon_header
@@ -25,7 +25,7 @@ length-canon_header tag size = grind (arith, common_steps)
 
 -- ---- elements
 
--- the length of an element is that of its tag, which is one octet, of its length field and of its content
+-- an element is as long as its tag, which is one octet, its length field and its content together
 pub length-canon_element : (tag : ℕ) (content : List ℕ)
     → length (canon_element tag content)
     ≡ 1 + length (canon_length (length content)) + length content
@@ -49,7 +49,7 @@ pub header_fits : {old mid content : List ℕ} {middle end : ℕ} (tag : ℕ)
     → length (canon_header tag (end - middle)) ≤ middle
 header_fits {old} {mid} {content} {middle} {end} tag w room = grind (arith, common_steps, length-canon_header, length-canon_element)
 
--- a header written before its content makes the element
+-- if a header is written directly before its content, then the element is written
 pub writes_element : {old mid new content : List ℕ} {start middle end : ℕ} (tag : ℕ)
     → Writes old middle end content mid
     → Writes mid start middle (canon_header tag (end - middle)) new
@@ -91,7 +91,7 @@ pub value_header_fits : {old mid : List ℕ} {middle end : ℕ} (tag : ℕ) (val
 unfolding canon_value
 value_header_fits tag value e w room = header_fits tag w (rw e room)
 
--- a header written before the content of a value makes the value
+-- if a header is written directly before the content of a value, then the value is written
 pub writes_value : {old mid new : List ℕ} {start middle end : ℕ} (tag : ℕ) (value : Datum)
     → tag ≡ value_tag value → Writes old middle end (canon_content value) mid
     → Writes mid start middle (canon_header tag (end - middle)) new

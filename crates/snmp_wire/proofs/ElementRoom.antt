@@ -5,7 +5,7 @@ use Rattle.snmp_wire.proofs.ElementLaws.{header_fits, writes_element}
 use Rattle.snmp_wire.specs.ber.Writing.{Writes}
 use Rattle.snmp_wire.proofs.{WritingLaws.writes_same, WritingLaws.writes_then, Shortest.length-number}
 
--- a header is written as a tag before a length
+-- if a tag is written directly before a length, then a header is written
 pub writes_tag : {old mid new : List ℕ} {start middle end : ℕ} (tag size : ℕ) → Writes old middle end (canon_length size) mid
     → Writes mid start middle (tag ∷ []) new → Writes old start end (canon_header tag size) new
 unfolding canon_header

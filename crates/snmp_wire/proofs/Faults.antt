@@ -1,6 +1,6 @@
--- What is decoded as a message is encoded by the octets (`message_takes`), and a fault that
--- decoding finds is a fault of the octets (`message_faults`). Octets that encode a message have no
--- fault (`no_fault_of`).
+-- If octets are decoded as a message, then they encode it (`message_takes`). A fault that decoding
+-- finds is a fault of the octets (`message_faults`). Octets that encode a message have no fault
+-- (`no_fault_of`).
 use Rattle.std.proofs.lemmas.List.{nil_from_length, length-append, append-nil}
 use Rattle.std.proofs.{lemmas.Grind.common_steps, lemmas.Bool.eqb-true, lemmas.Bool.eqb-false}
 use Rattle.std.proofs.Common.{◌≡◌, ◌≢◌, ℕ, ℤ, zero, suc, ◌<◌, ◌≤◌, eqb, None, List, [], ◌∷◌, ◌++◌, length, Ok, Err, refl, sym, ap, subst, ◌∙◌, arith}
@@ -27,7 +27,7 @@ use Rattle.snmp_wire.proofs.ValueLaws.{IsRead, integer_gives, known_gives, value
 
 -- ---- faults at a position
 
--- an inner element that can't be decoded is a fault
+-- if an element is required at a position inside the message, and decoding it fails with `e`, then the octets have the fault `e`
 bad_inner : (octets : List ℕ) (position : Position) (here : List ℕ) (e : BerError) → Expects octets position here → position ≢ at_message
     → IsBadElement error.Length here e → IsFault e octets
 bad_inner octets position here e expects inner (inl cut) = grind (arith, common_steps, expects)
@@ -54,7 +54,7 @@ kind_gives : (tag : ℕ) → Gives (λ found. kind_tag found ≡ tag) (λ e. err
 unfolding kind_of
 kind_gives tag = grind (arith, common_steps, a_fault, gives_either, a_value, eqb-true)
 
--- a content that can't be decoded isn't the content of a value
+-- a content that can't be decoded with a tag isn't the content of a value with this tag
 not_content : (tag : ℕ) (content : List ℕ) (e : BerError) → typed_value tag content ≡ Err e → (value : Datum) → tag ≡ value_tag value
     → IsContent lenient value content → ⊥
 not_content tag content e h value is is_content = grind (arith, common_steps, done, failed, value_again)
@@ -80,14 +80,14 @@ outermost_reads (tag ∷ rest) =
     (λ some. record { tag = tag; content = x.0; after = x.1; begins = begins; some = some })))
     (λ other. a_fault error.Tag (bad_tag octets at_message tag rest error.Tag starts (λ allowed. eqb-false tag 0x30 other allowed) refl))
 
--- the fields of a binding are at their positions in its content
+-- `content` is the content of a binding with these fields: a name, and a value, which is at a position of values in the message `octets`
 record StandIn (octets content : List ℕ) (fields : Fields) : Type 0 where
   value_here : List ℕ
   name_begins : BeginsWith 0x06 fields.name content value_here
   value_expects : Expects octets at_value value_here
   value_begins : BeginsWith fields.tag fields.content value_here []
 
--- the octets begin with the encoding of a binding
+-- `here` begins with an encoding of the binding `x.0`, and `x.1` follows it
 abbrev IsBinding : List ℕ → VarBind × List ℕ → Type 0
 IsBinding here x =
     (content : List ℕ) × BeginsWith 0x30 content here x.1
@@ -98,7 +98,7 @@ message_with version community found id a b bindings =
     record { version = version; community = community; kind = found; id = id; a = a; b = b; bindings = bindings }
 
 module _ (octets : List ℕ) where
-  -- an element at a position that allows only one tag
+  -- at a position inside the message that allows only `tag`, an element with this tag is decoded, or the fault is one of the message
   inner_reads : (position : Position) (tag : ℕ) (here : List ℕ) → Expects octets position here → position ≢ at_message
       → ((found : ℕ) → AllowsTag position found → found ≡ tag) → Gives (λ x. BeginsWith tag x.0 here x.1) (λ e. IsFault e octets) (inner_at tag here)
   inner_reads position tag here expects inner only =
@@ -274,7 +274,7 @@ module _ (octets : List ℕ) where
 
 -- ---- the elements at a position
 
--- the elements may be at the position and those after it, or there are none
+-- these elements may be all that is left of the element around them from the position on; at `None` there are none
 abbrev FitsAt : Option Position → Elements → Type 0
 FitsAt None no_elements = Unit {0}
 FitsAt None (value_then value more) = ⊥
@@ -299,7 +299,7 @@ message_fits message =
 abbrev Row : Position → List ℕ → Type 0
 Row position here = (all : Elements) × FitsAt (Some position) all × SpellsAll lenient all here
 
--- the element at the position, what is inside it, and what follows it
+-- `here` begins with an element that is allowed at the position, and what is inside it and after it is allowed too
 record Parts (position : Position) (here : List ℕ) : Type 0 where
   tag : ℕ
   content : List ℕ
@@ -344,19 +344,20 @@ parts_of position here calls (element_then tag within more, (allowed, child, inn
   after = λ next e. (more, subst (λ (at : Option Position). FitsAt at more) e fits, others);
 }
 
--- octets begin with at most one element: its tag, its content, and what follows it
+-- an element at the start of octets: its tag, its content, and what follows it
 abbrev Head : Type 0
 Head = ℕ × List ℕ × List ℕ
 
 reads : (tag : ℕ) (content here rest : List ℕ) → BeginsWith tag content here rest → element_at here ≡ Ok (tag, content, rest)
 reads tag content here rest b = ap element_at b.parts ∙ element_again tag content b.element rest b.is_element
 
+-- octets begin with at most one element
 one_prefix : {tag other : ℕ} {content contents here rest more : List ℕ} → BeginsWith tag content here rest → BeginsWith other contents here more
     → ◌≡◌ {A = Head} (tag, content, rest) (other, contents, more)
 one_prefix {tag} {other} {content} {contents} {here} {rest} {more} b c =
     ok_is (tag, content, rest) (other, contents, more) (sym (reads tag content here rest b) ∙ reads other contents here more c)
 
--- the element that is expected at a position of a message is there
+-- if octets encode a message and an element is required at a position in them, then an element that is allowed there is at this position
 
 expects : (octets : List ℕ) (position : Position) (here : List ℕ) → Row at_message octets → Expects octets position here → Parts position here
 expects octets position here all starts = parts_of at_message octets tt all

@@ -1,5 +1,4 @@
--- The first octet in which two words of eight octets differ: it contains the lowest bit in which
--- the words differ.
+-- Two words of eight octets: the lowest bit that differs is in the first octet that differs.
 use Rattle.std.proofs.{lemmas.Grind.common_steps, Math.ListN.get_or-eq_default, lemmas.Bool.cases_lt, lemmas.Nat.trailing_le, lemmas.Nat.xor_lt}
 use Rattle.std.proofs.Common.{◌≡◌, ℕ, zero, suc, ◌+◌, ◌-◌, ◌*◌, ◌/◌, ◌%◌, ◌^◌, ◌<◌, ◌≤◌, ◌⊎◌, inl, inr, List, [], ◌∷◌, length, get_or, refl, sym, ap}
 use Rattle.std.proofs.Common.{◌∙◌, arith}
@@ -10,7 +9,7 @@ use Rattle.std.proofs.lemmas.Nat.Bits.{same_from_bits_below}
 use Rattle.snmp_wire.specs.ber.Canon.{eight_from}
 use Rattle.snmp_wire.proofs.WrittenIdentifiers.{eight_then}
 
--- the number of the octets, the lowest first
+-- the number whose octets these are, the least significant first
 word_of : List ℕ → ℕ
 word_of [] = 0
 word_of (octet ∷ rest) = word_of rest * 2 ^ 8 + octet
@@ -77,7 +76,7 @@ eight_word : (octets : List ℕ) (at : ℕ) → from_le_bytes w64 (eight_from oc
 unfolding word_of
 eight_word octets at = omega arith
 
--- exactly the first `count` of the eight octets from `at` on are the same in both
+-- the first `count` of the eight octets from `at` on are the same in both, and if `count` is below 8, the next one differs
 pub record AreAlike (octets others : List ℕ) (at count : ℕ) : Type 0 where
   pub most : count ≤ 8
   pub same : (k : ℕ) → k < count → get_or octets (at + k) 0 ≡ get_or others (at + k) 0

@@ -49,7 +49,7 @@ module _ (p : VarBind) (range : IsBindingInRange p) where
   pub one_binding : (octets : List ℕ) → octets ≡ canon_binding p → bindings_in octets ≡ p ∷ []
   one_binding octets e = ap bindings_in e ∙ ap (λ (read : Result (List VarBind) BerError). result_unwrap_or read []) all_again
 
-  -- the content of the binding, and the content of its name
+  -- `inner_at` returns the content of the stored binding, and from that the content of its name
   outer : (octets : List ℕ) → octets ≡ canon_binding p → inner_at 0x30 octets ≡ Ok (spells.name ++ spells.value, [])
   outer octets e = ap (inner_at 0x30) (e ∙ sym (append-nil (canon_binding p)))
       ∙ inner_again 0x30 (spells.name ++ spells.value) (canon_binding p) [] spells.element

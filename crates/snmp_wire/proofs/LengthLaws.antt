@@ -1,6 +1,6 @@
--- Lengths and elements, for proofs about values and messages: what is decoded as one is one, what
--- isn't has a fault (`length_gives`, `content_gives`, ..), and each is decoded (`inner_again`,
--- ..).
+-- Lengths and elements, for proofs about values and messages. What decoding returns is encoded by
+-- the octets, and a fault that it returns is theirs (`length_gives`, `content_gives`, ..). Octets
+-- that begin with an element are decoded as this element (`inner_again`, ..).
 use Rattle.std.proofs.lemmas.Grind.{common_steps}
 use Rattle.std.proofs.Common.{◌≡◌, ◌≢◌, ℕ, ◌+◌, ◌-◌, ◌<◌, ◌≤◌, false, eqb, ltb, ◌&&◌, List, [], ◌∷◌, ◌++◌, length, take, drop, replicate, Ok, refl}
 use Rattle.std.proofs.Common.{sym, ap, subst, append_assoc, arith, ◌⊎◌, inl, inr}
@@ -79,7 +79,7 @@ no_octets = ends_early 0 (0 ∷ []) [] (0 ∷ 0 ∷ []) (omega arith) no_length 
 abbrev pub TakesLength : List ℕ → ℕ × List ℕ → Type 0
 TakesLength octets x = (length_field : List ℕ) × IsLength length_field x.0 × (octets ≡ length_field ++ x.1)
 
--- why an element can't be decoded: it is cut off, or its length has a forbidden form
+-- `octets` don't begin with an element, and the fault `e` says why: they end early (then `e` is `cut`), or the length has a forbidden form
 abbrev pub IsBadElement : BerError → List ℕ → BerError → Type 0
 IsBadElement cut octets e =
     ((cut ≡ e) × EndsEarly octets) ⊎ ((error.Length ≡ e) × HasForbiddenLength octets)
@@ -136,7 +136,7 @@ length_again cut length_field n rest (inr s) = grind (arith, common_steps, long_
 
 -- ---- elements
 
--- what is decoded after a tag is the content of an element, or the element is bad
+-- what `content_at` returns is the content of an element with this tag, or its fault says why there isn't one
 pub content_gives : (cut : BerError) (tag : ℕ) (octets : List ℕ)
     → Gives (λ x. BeginsWith tag x.0 (tag ∷ octets) x.1) (IsBadElement cut (tag ∷ octets))
     (content_at cut octets)
@@ -164,13 +164,13 @@ content_again cut length_field content rest h =
     le-ltb _ _ (omega (arith, length-append content rest)) in
     rw (length_again cut length_field (length content) (content ++ rest) h, room, take_at content rest _ refl, drop_at content rest _ refl) refl
 
--- why there is no inner element with this tag: there is none at all, or one with another tag
+-- `octets` don't begin with an inner element with this tag, and the fault `e` says why: no element can be decoded, or they begin with another tag
 abbrev pub IsNoInner : ℕ → List ℕ → BerError → Type 0
 IsNoInner tag octets e =
     IsBadElement error.Length octets e
     ⊎ ((error.Tag ≡ e) × (found : ℕ) × (after : List ℕ) × (octets ≡ found ∷ after) × (found ≢ tag))
 
--- what is decoded as an inner element with a tag is one, or there is none
+-- what `inner_at` returns is the content of an inner element with this tag, or its fault says why there isn't one
 pub inner_gives : (tag : ℕ) (octets : List ℕ)
     → Gives (λ x. BeginsWith tag x.0 octets x.1) (IsNoInner tag octets) (inner_at tag octets)
 unfolding inner_at
@@ -190,7 +190,7 @@ pub inner_again : (tag : ℕ) (content element rest : List ℕ)
 unfolding inner_at
 inner_again tag content element rest h = grind (arith, common_steps, regrouped, eq-eqb, content_again)
 
--- what is decoded as an element with any tag is one, or the element is bad
+-- what `element_at` returns is an element at the start of the octets, or its fault says why there isn't one
 pub element_gives : (octets : List ℕ)
     → Gives (λ x. BeginsWith x.0 x.1 octets x.2) (IsBadElement error.Length octets)
     (element_at octets)

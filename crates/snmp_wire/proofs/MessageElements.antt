@@ -1,6 +1,6 @@
--- Sequences of elements, each of which is a value or contains further elements: the structure of
--- bindings, PDUs and messages. That what is written of them encodes them (`strict_canon`), and
--- that no strict encoding is shorter (`message_least`), is proved once for all of these.
+-- Sequences of elements, the structure of bindings, PDUs and messages: an element is a value, or
+-- contains further elements. For all of these it is proved once that what is written of them
+-- encodes them (`strict_canon`), and that no strict encoding is shorter (`message_least`).
 use Rattle.std.proofs.{lemmas.Grind.common_steps, lemmas.List.append-nil, Math.Nat.pow-le-pow_right, Math.Seq.take-append_seam}
 use Rattle.std.proofs.Common.{◌≡◌, ℕ, ◌^◌, ◌<◌, List, [], ◌++◌, length, refl, sym, subst, ◌≤◌, ◌∷◌, ap, ◌∙◌, append_assoc, lit<, arith, length-append}
 use Rattle.std.proofs.Common.{inl, inr, take}
@@ -40,7 +40,7 @@ canon_all no_elements = []
 canon_all (value_then value more) = canon_value value ++ canon_all more
 canon_all (element_then tag within more) = canon_element tag (canon_all within) ++ canon_all more
 
--- the elements are within their ranges
+-- the values are within their ranges, and each element that contains others has a tag below 256 and fewer than 2 ^ 32 octets of content
 abbrev pub AreInRange : Elements → Type 0
 AreInRange no_elements = Unit {0}
 AreInRange (value_then value more) = IsInRange value × AreInRange more
@@ -51,7 +51,7 @@ AreOfType no_elements = Unit {0}
 AreOfType (value_then value more) = IsOfType value × AreOfType more
 AreOfType (element_then tag within more) = AreOfType within × AreOfType more
 
--- what is encoded strictly is accepted
+-- if a content encodes an unsigned number strictly, then it encodes it in the lenient form too
 unsigned_is_read : {width : ℕ} {content : List ℕ} {n : ℕ} → IsUnsigned strict width content n → IsUnsigned lenient width content n
 unsigned_is_read is = record { some = is.some; few = is.few; value = is.value; allowed = tt }
 
@@ -71,7 +71,7 @@ are_read (value_then value more) octets (first, rest, parts, this, others) = gri
 are_read (element_then tag within more) octets (first, rest, parts, content, element, inner, others) =
     grind (arith, common_steps, are_read within content inner, are_read more rest others)
 
--- what is written is a strict encoding
+-- if elements are within their ranges, then what is written of them is a strict encoding
 pub are_strict : (all : Elements) → AreInRange all → SpellsAll strict all (canon_all all)
 are_strict no_elements range = refl
 are_strict (value_then value more) (this, others) = grind (arith, common_steps, are_strict more others, spells_value)
@@ -84,8 +84,8 @@ are_octets (value_then value more) (this, others) = grind (arith, common_steps, 
 are_octets (element_then tag within more) (small, short, inner, others) =
     grind (arith, common_steps, are_octets within inner, are_octets more others, both_octets, element_octets)
 
--- no strict encoding is shorter than the one that is written, and none of the same length is
--- another
+-- a strict encoding of elements isn't shorter than the one that is written, and is the same if it
+-- is as long
 pub are_least : (all : Elements) (octets : List ℕ) → Octets octets → SpellsAll strict all octets → IsNoShorter (canon_all all) octets
 are_least no_elements octets h is = same_text is
 are_least (value_then value more) octets h (first, rest, parts, this, others) =
@@ -123,7 +123,7 @@ elements_of message = element_then sequence_tag (elements_in_message message) no
 
 -- ---- encodings
 
--- if nothing follows an element, then it is all of the octets that begin with it
+-- if octets begin with `last` and nothing follows, then they are `last`
 last_is : (octets last end : List ℕ) → octets ≡ last ++ end → end ≡ [] → octets ≡ last
 last_is octets last end parts none = parts ∙ ap (λ (o : List ℕ). last ++ o) none ∙ append-nil last
 
@@ -235,8 +235,8 @@ bindings_in_range : (bindings : List VarBind) → AllByRecursion IsBindingInRang
 bindings_in_range [] range = tt
 bindings_in_range (binding ∷ more) (this, others) = grind (arith, common_steps, bindings_in_range more others, length-append, value_short)
 
--- each content is shorter than 2 ^ 32: the bindings take at most 4,000,000,000 octets, and the
--- other fields few
+-- if a message is in range, so are its elements. Each content is shorter than 2 ^ 32: the bindings
+-- take at most 4,000,000,000 octets, and the other fields few.
 in_range : (message : Message) → IsMessageInRange message → AreInRange (elements_of message)
 in_range message range = grind (arith, common_steps, bindings_are, length-append, element_most, value_short, bindings_in_range, kind_fits)
 
@@ -258,8 +258,8 @@ strict_canon message range =
     subst (Strict message) (sym (message_is message))
     (of_row strict message (canon_all all) (by_octets (canon_all all) (are_octets all (in_range message range))) (are_strict all (in_range message range)))
 
--- no strict encoding of a message is shorter than the one that is written, and none of the same
--- length is another
+-- a strict encoding of a message isn't shorter than the one that is written, and is the same if it
+-- is as long
 pub message_least : (message : Message) (octets : List ℕ) → Strict message octets → IsNoShorter (canon message) octets
 message_least message octets is = subst (λ (made : List ℕ). IsNoShorter made octets) (sym (message_is message))
     (are_least (elements_of message) octets (octets_by octets is.are_octets) (in_row strict message octets is))
@@ -331,7 +331,7 @@ pub only_shortest : (message : Message) (text other : List ℕ) → IsMessageInR
     → text ≡ other
 only_shortest message text other range is too = shortest_is_written message text range is ∙ sym (shortest_is_written message other range too)
 
--- if what was written is at the start of `out`, it is a shortest encoding
+-- if a message is in range, and what is written of it is at the start of `out`, then this is a shortest encoding of it
 pub prefix_is_shortest : (law : OneShortestEncoding) (message : Message) (n : ℕ) (out rest : List ℕ) → n ≡ length (canon message)
     → out ≡ canon message ++ rest → IsMessageInRange message → IsShortestEncoding (take n out) message
 prefix_is_shortest law message n out rest size e range = grind (arith, common_steps, take-append_seam)
@@ -340,7 +340,7 @@ pub shortest_size : (law : OneShortestEncoding) (message : Message) (size : ℕ)
     → IsMessageInRange message → IsShortestEncoding octets message → size ≡ length octets
 shortest_size law message size e octets range is = e ∙ sym (ap length (law.one message octets (canon message) range is (law.written message range)))
 
--- a head followed by the encodings of its bindings is a shortest encoding
+-- if a message is in range, then its head followed by the encodings of its bindings is a shortest encoding of it
 pub sealed_is_shortest : (law : OneShortestEncoding) (message : Message) (bindings : List VarBind) (total : ℕ) (octets : List ℕ)
     → octets ≡ canon_head message total ++ canon_bindings bindings → total ≡ length (canon_bindings bindings)
     → IsMessageInRange (record message { bindings = bindings }) → IsShortestEncoding octets (record message { bindings = bindings })

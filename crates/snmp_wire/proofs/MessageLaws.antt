@@ -35,11 +35,11 @@ binding_less octets =
 pub fields_shrink : (octets : List ℕ) (x : Fields × List ℕ) → fields_at octets ≡ Ok x → length x.1 < length octets
 fields_shrink octets x e = returned x (fields_less octets) e
 
--- the first binding, and the bindings after it
+-- the binding `first.0`, and then the bindings that `read` decodes from the octets `first.1`
 abbrev pub with_rest : (List ℕ → Result (List VarBind) BerError) → VarBind × List ℕ → Result (List VarBind) BerError
 with_rest read first = read first.1 >>= λ more. Ok (first.0 ∷ more)
 
--- any fuel that is at least the number of octets gives the same bindings
+-- if `n` and `m` are at least the number of octets, then `bindings_within` decodes the same with both
 same_fuel : (n m : ℕ) (octets : List ℕ) → length octets ≤ n → length octets ≤ m → bindings_within n octets ≡ bindings_within m octets
 unfolding bindings_within
 same_fuel n m [] p q = refl
@@ -111,7 +111,7 @@ expects octets fields after ok some h = grind (arith, common_steps, ok_value, bi
 pub bindings_in_end : (octets : List ℕ) → length octets ≡ 0 → bindings_in octets ≡ []
 bindings_in_end octets none = ap (λ (r : Result (List VarBind) BerError). result_unwrap_or r []) (bindings_end octets none)
 
--- the name and the value of a binding can be decoded
+-- the name and the value in these fields of a binding can be decoded
 pub record AreParts (fields : Fields) : Type 0 where
   pub name : IsOk (identifier_of fields.name)
   pub value : IsOk (typed_value fields.tag fields.content)
@@ -133,7 +133,7 @@ binding_made fields name value e f = rw (e, f) refl
 pub name_of : (fields : Fields) (binding : VarBind) (name : List ℕ) → binding_of fields ≡ Ok binding → identifier_of fields.name ≡ Ok name → name ≡ binding.name
 name_of fields binding name e f = ok_is name binding.name (sym f ∙ (parts_are fields binding e).0)
 
--- `binding_with` is the binding, if the fields are those of a binding
+-- if the fields are decoded as a binding, then `binding_with` is this binding
 pub with_fields : (fields : Fields) → IsOk (binding_of fields) → binding_of fields ≡ Ok (binding_with fields)
 with_fields fields ok = grind (arith, common_steps, ok_value)
 

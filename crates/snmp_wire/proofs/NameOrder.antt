@@ -25,7 +25,7 @@ use Rattle.snmp_wire.proofs.ReadIdentifiers.{identifier_again, identifier_takes}
 
 -- ---- where a subidentifier ends
 
--- how many octets after the first one the last octet of its subidentifier is
+-- the number of octets with the high bit set at the start, which is how many octets follow the first one in its subidentifier
 abbrev pub reach : List ℕ → ℕ
 reach [] = 0
 reach (octet ∷ rest) = cond (ltb octet 128) 0 (suc (reach rest))
@@ -35,13 +35,13 @@ reach_prefix : (prefix : List ℕ) (last : ℕ) (rest : List ℕ) → AllByRecur
 reach_prefix [] last rest high low = rw (lt-ltb last 128 low) refl
 reach_prefix (octet ∷ prefix) last rest high low = rw (le-ltb octet 128 high.0) (ap suc (reach_prefix prefix last rest high.1 low))
 
--- `reach` determines the length of a subidentifier, whatever follows it
+-- a subidentifier has one octet more than `reach` counts, whatever follows it
 length_is : (text rest : List ℕ) (n : ℕ) → IsSubidentifier text n → length text ≡ suc (reach (text ++ rest))
 length_is text rest n is =
     let far = reach_prefix is.prefix is.last rest (recursion_from_All (λ octet. 128 ≤ octet) is.prefix is.goes_on) is.ends in
     rw is.parts (omega (arith, far, length_push is.prefix is.last))
 
--- if a subidentifier doesn't end within `prefix`, its end is found in the octets after it
+-- if each octet of `prefix` has the high bit set, then `reach` counts these and the reach of the octets after them
 reach_after : (prefix rest : List ℕ) → length prefix ≤ reach (prefix ++ rest) → reach (prefix ++ rest) ≡ length prefix + reach rest
 reach_after [] rest h = omega arith
 reach_after (octet ∷ prefix) rest h = elim (cases_lt octet 128) [
@@ -49,14 +49,14 @@ reach_after (octet ∷ prefix) rest h = elim (cases_lt octet 128) [
   | inr high ↦ rw (le-ltb octet 128 high) (omega (arith, reach_after prefix rest (omega (arith, rw (le-ltb octet 128 high) at h))))
 ]
 
--- `reach` determines the length of a subidentifier from any octet within it
+-- if the octets `more` begin within the subidentifier `text`, after `prefix`, then `text` has one octet more than `prefix` and the reach of `more`
 text_length : (prefix more text rest : List ℕ) (n : ℕ) → IsSubidentifier text n → prefix ++ more ≡ text ++ rest → length prefix < length text
     → length text ≡ suc (length prefix + reach more)
 text_length prefix more text rest n is parts low =
     let whole : length text ≡ suc (reach (prefix ++ more)) = length_is text rest n is ∙ ap (λ (t : List ℕ). suc (reach t)) (sym parts) in
     omega (arith, whole, reach_after prefix more (omega (arith, whole, low)))
 
--- the octets from index `at` on, of which there is at least one
+-- the octets from index `at` on, if `at` is below their number
 abbrev pub octets_from : List ℕ → ℕ → List ℕ
 octets_from content at = get_or content at 0 ∷ drop (at + 1) content
 
@@ -75,7 +75,7 @@ reach_to (suc count) content at end position e =
     let more = reach_to count content (at + 1) end (omega (arith, position)) here in
     rw (le-ltb (get_or content at 0) 128 high, drop_more content (at + 1) 0 (omega (arith, position, e.within))) (ap suc more)
 
--- a subidentifier ends at one index
+-- if a subidentifier contains the octet at `at` and ends at `end`, then `end` is `at` plus the reach from there
 pub end_is : (content : List ℕ) (at end : ℕ) → EndsAt content at end → end ≡ at + reach (octets_from content at)
 end_is content at end e = omega (arith, e.suffix, reach_to (end - at) content at end (omega (arith, e.suffix)) e)
 
@@ -87,8 +87,8 @@ one_prefix text rest other more n m is are e =
     let same : text ≡ other = cc (take-append_seam text rest, take-append_seam other more) in
     (same, (cc), append_cancel_left text rest more (cc))
 
--- if a string is a prefix of the octets and `prefix` is a prefix at least as long, the string is a
--- prefix of `prefix`
+-- if `text` and `prefix` are prefixes of the same octets, and `text` isn't longer, then `text` is
+-- a prefix of `prefix`
 inside : (text rest prefix more : List ℕ) → text ++ rest ≡ prefix ++ more → length text ≤ length prefix
     → (back : List ℕ) × (prefix ≡ text ++ back) × (rest ≡ back ++ more)
 inside [] rest prefix more e short = (prefix, refl, e)
@@ -103,8 +103,8 @@ inside (x ∷ text) rest (y ∷ prefix) more e short =
 pub nothing_alike : (content other : List ℕ) → IsAlike content other 0
 nothing_alike content other = record { short = omega arith; other_short = omega arith; same = λ k low. absurd (omega (arith, low)) }
 
--- the common octets extend to `end` if those from `from` on, which begin among the common octets
--- or directly after them, are the same too
+-- if the first `count` octets of both are the same, and so are the `more` octets from an index
+-- `from` on that is at most `count`, then the first `from + more` octets are the same
 pub more_alike : {octets others : List ℕ} {count : ℕ} (from more end : ℕ) → IsAlike octets others count → from ≤ count → from + more ≡ end
     → end ≤ length octets → end ≤ length others → ((k : ℕ) → k < more → get_or octets (from + k) 0 ≡ get_or others (from + k) 0)
     → IsAlike octets others end
@@ -215,7 +215,7 @@ canonical content name h is = grind (arith, common_steps, one_content_of, name_o
 
 -- ---- the order of identifiers
 
--- the law `order` of identifiers
+-- what the law `order` of `snmp_oid` ensures
 pub record OrderLaw : Type 0 where
   pub less : (o p : List ℕ) → (slice_cmp nat_cmp o p ≡ Less) ↔ Precedes o p
   pub equal : (o p : List ℕ) → (slice_cmp nat_cmp o p ≡ Equal) ↔ (o ≡ p)
@@ -226,7 +226,7 @@ three_ways law o p = grind (arith, common_steps)
 
 -- ---- identifiers and their subidentifiers
 
--- names compare as their subidentifiers do
+-- names that have encodings compare as their subidentifiers do
 same_order : (o p : List ℕ) → IsWire o → IsWire p → slice_cmp nat_cmp o p ≡ slice_cmp nat_cmp (subidentifiers o) (subidentifiers p)
 same_order [] p wire other = absurd wire
 same_order (x ∷ []) p wire other = absurd wire
@@ -240,13 +240,13 @@ names_rise law o p wire other h = (law.less (subidentifiers o) (subidentifiers p
 pub names_fall : OrderLaw → (o p : List ℕ) → IsWire o → IsWire p → Precedes (subidentifiers o) (subidentifiers p) → Precedes o p
 names_fall law o p wire other h = (law.less o p).0 (same_order o p wire other ∙ (law.less (subidentifiers o) (subidentifiers p)).1 h)
 
--- the subidentifiers of a longer name are those of its prefix, and then its further numbers
+-- if `p` has an encoding, then the subidentifiers of `p ++ rest` are the subidentifiers of `p`, and then the numbers `rest`
 follows : (p rest : List ℕ) → IsWire p → subidentifiers (p ++ rest) ≡ subidentifiers p ++ rest
 follows [] rest wire = absurd wire
 follows (x ∷ []) rest wire = absurd wire
 follows (x ∷ y ∷ more) rest wire = refl
 
--- if the subidentifiers of `o` begin with those of `p`, then `o` begins with `p`
+-- if `o` and `p` have encodings, and the subidentifiers of `o` are the subidentifiers of `p` and then `rest`, then `o` is `p` and then `rest`
 followed : (o p rest : List ℕ) → IsWire o → IsWire p → subidentifiers o ≡ subidentifiers p ++ rest → o ≡ p ++ rest
 followed [] p rest wire other e = absurd wire
 followed (x ∷ []) p rest wire other e = absurd wire
@@ -261,7 +261,7 @@ none_of_none : (rest : List ℕ) → flat_map canon_subidentifier rest ≡ [] �
 none_of_none [] e = refl
 none_of_none (n ∷ more) e = absurd (omega (arith, simp (length-append, length-canon_subidentifier) at (ap length e), size_some n))
 
--- if a content continues another, so do its subidentifiers
+-- if `content` encodes `ns`, and `content ++ rest` encodes `ms`, then `ms` is `ns` and then what `rest` encodes
 goes_on : (ns ms content rest : List ℕ) → AreSubidentifiers content ns → AreSubidentifiers (content ++ rest) ms
     → (more : List ℕ) × (ms ≡ ns ++ more) × AreSubidentifiers rest more
 goes_on [] ms content rest are others = (ms, refl, subst (λ (t : List ℕ). AreSubidentifiers (t ++ rest) ms) are others)
@@ -271,7 +271,7 @@ goes_on (n ∷ ns) (m ∷ ms) content rest (text, back, parts, is, are) (text2, 
     let more = goes_on ns ms back rest are (subst (λ (t : List ℕ). AreSubidentifiers t ms) (sym s.2) are2) in
     (more.0, ap (λ k. k ∷ ms) (sym s.1) ∙ ap (λ (t : List ℕ). n ∷ t) more.1, more.2)
 
--- a content ends with the last octet of a subidentifier
+-- a content that isn't empty ends with the last octet of a subidentifier
 content_ends : (ns content : List ℕ) → AreSubidentifiers content ns → 0 < length content
     → (prefix : List ℕ) × (last : ℕ) × (last < 128) × (content ≡ prefix ++ last ∷ [])
 content_ends [] content are some = absurd (omega (arith, ap length are, some))
@@ -298,12 +298,12 @@ more_octets content at ok within high =
 -- ---- the first octets that differ
 
 -- the subidentifier at the start of `octets` ends before the one at the start of `others`, or both
--- end together and its first octet is smaller
+-- end together and the first of `octets` is smaller than the first of `others`
 abbrev pub EndsFirst : List ℕ → List ℕ → Type 0
 EndsFirst octets others = (reach octets < reach others) ⊎ ((reach octets ≡ reach others) × (get_or octets 0 0 < get_or others 0 0))
 
--- if the first octets that differ are within a subidentifier of each content, and the one of
--- `text` ends first, `text` comes first
+-- if two contents have a common prefix that ends within their subidentifiers `text` and `other`,
+-- and `EndsFirst` holds of the octets after it, then `text` comes before `other`
 text_first : (prefix xs ys text rest other more : List ℕ) (n m : ℕ) → IsSubidentifier text n → IsSubidentifier other m → prefix ++ xs ≡ text ++ rest
     → prefix ++ ys ≡ other ++ more → length prefix < length text → length prefix < length other → EndsFirst xs ys → ComesFirst text other
 text_first prefix xs ys text rest other more n m is are parts others low other_low first =
@@ -324,8 +324,8 @@ text_first prefix xs ys text rest other more n m is are parts others low other_l
         let smaller : x < y = omega (arith, less, ap (λ (t : List ℕ). get_or t 0 0) g, ap (λ (t : List ℕ). get_or t 0 0) h) in
         record { prefix = prefix; smaller = x; larger = y; after = tail; suffix = back; this = e; that = f; is_smaller = smaller }
 
--- if two contents differ after a common prefix, and the first one ends first there, its
--- subidentifiers are the smaller ones
+-- if two contents have a common prefix, and `EndsFirst` holds of the octets `xs` and `ys` after it,
+-- then the subidentifiers of the first content are less
 first_differs : (ns ms prefix xs ys : List ℕ) → Octets (prefix ++ xs) → Octets (prefix ++ ys) → AreSubidentifiers (prefix ++ xs) ns
     → AreSubidentifiers (prefix ++ ys) ms → 0 < length xs → 0 < length ys → EndsFirst xs ys → slice_cmp nat_cmp ns ms ≡ Less
 first_differs [] ms prefix xs ys h k are others some some2 first = absurd (omega (arith, ap length are, length-append prefix xs, some))
@@ -380,8 +380,7 @@ content_octets content octets name same h is = grind (arith, common_steps, is_ok
 pub content_short : (name : List ℕ) → length name ≤ 128 → length (canon_content (object_id name)) ≤ 640
 content_short name few = omega (arith, length-name name, few)
 
--- the content of a name below a root is the root's content, and then the subidentifiers of the
--- further numbers, of which there is at least one
+-- if a name is below a root, then its content begins with the root's and is longer
 pub below_from_names : (content root o p : List ℕ) → AreOctets content → AreOctets root → IsObjectId content o → IsObjectId root p → IsBelow o p
     → IsBelow content root
 below_from_names content root o p h k is are (rest, some, e) =
@@ -420,7 +419,7 @@ encoded law = record {
 
 -- ---- what the first octets that differ say of two names
 
--- two contents, the names that they encode, and the length of their common prefix
+-- `content` and `other` encode the names `o` and `p`, and their first `at` octets are the same
 pub record Beside (content other o p : List ℕ) (at : ℕ) : Type 0 where
   pub octets : AreOctets content
   pub other_octets : AreOctets other
@@ -441,7 +440,7 @@ beside {content} {other} {o} {p} small other_small e f alike = record {
 turned : {content other o p : List ℕ} {at : ℕ} → Beside content other o p at → Beside other content p o at
 turned {content} {other} {o} {p} {at} b = grind (arith, common_steps, alike_back)
 
--- the names are ordered as the first octets that differ say
+-- if `EndsFirst` holds of the octets from `at` on, then `o` precedes `p`
 names_differ : OrderLaw → {content other o p : List ℕ} {at : ℕ} → Beside content other o p at → at < length content → at < length other
     → EndsFirst (octets_from content at) (octets_from other at) → Precedes o p
 names_differ law {content} {other} {o} {p} {at} b low other_low first =
@@ -464,7 +463,7 @@ decided law o p x y less same more = elim (cases_order x y) [
 
 -- ---- one of two contents ends
 
--- the longer content begins with the shorter
+-- if all octets of `other` begin a longer content, then this content is below `other`
 goes_after : (content other : List ℕ) (at : ℕ) → IsAlike content other at → at ≡ length other → length other < length content → IsBelow content other
 goes_after content other at h e longer = (
   drop at content,
@@ -489,8 +488,8 @@ one_ends law {content} {other} {o} {p} {at} b end = decided law o p (length cont
     at_end : {n : ℕ} → (at ≡ length content → at ≡ n) → (at ≡ length other → at ≡ n) → at ≡ n
     at_end {n} this that = ⊎_elim this that end
 
--- a name is below a root if and only if its content is longer and has no octet that differs from
--- the root's
+-- a name whose content is longer than the root's is below the root if and only if its content begins
+-- with the root's
 pub below_decided : (content root o p : List ℕ) (at : ℕ) → Beside content root o p at → length root < length content
     → (at < length content → at < length root → get_or content at 0 ≡ get_or root at 0 → ⊥) → (at ≡ length root) ↔ IsBelow o p
 below_decided content root o p at b longer differs = (
@@ -504,14 +503,14 @@ below_decided content root o p at b longer differs = (
         (λ no_less. omega (arith, no_less, b.alike.other_short))
         (cases_lt at (length root))
 
--- no name with a content that isn't longer is below a root
+-- if the content of a name isn't longer than the root's, then the name isn't below the root
 pub none_below : {content root o p : List ℕ} {at : ℕ} → Beside content root o p at → length content ≤ length root → IsBelow o p → ⊥
 none_below {content} {root} {o} {p} b short below = grind (arith, common_steps, below_longer, below_from_names)
 
 -- ---- two octets differ
 
--- two numbers compare as the names if the subidentifier with the smaller number ends first, or
--- ends together with the other and has the smaller octet
+-- if `x` and `y` differ, and `EndsFirst` holds from `at` on of the content with the smaller number,
+-- then the names compare as `x` and `y` do
 differ_decide : OrderLaw → {content other o p : List ℕ} {at : ℕ} (x y : ℕ) → Beside content other o p at → at < length content → at < length other
     → (x ≡ y → ⊥) → (x < y → EndsFirst (octets_from content at) (octets_from other at))
     → (y < x → EndsFirst (octets_from other at) (octets_from content at)) → nat_cmp x y ≡ slice_cmp nat_cmp o p
@@ -520,7 +519,7 @@ differ_decide law {content} {other} {o} {p} {at} x y b low other_low differ this
     (λ same. absurd (differ same))
     (λ more. names_differ law (turned b) other_low low (that more))
 
--- if one subidentifier ends before the other, the indices of their ends decide
+-- if the subidentifiers that contain the octets at `at` end at different indices, then the names compare as these indices do
 pub ends_decide : OrderLaw → {content other o p : List ℕ} {at end last : ℕ} → Beside content other o p at → at < length content → at < length other
     → EndsAt content at end → EndsAt other at last → (end ≡ last → ⊥) → nat_cmp end last ≡ slice_cmp nat_cmp o p
 ends_decide law {content} {other} {o} {p} {at} {end} {last} b low other_low e f differ =
@@ -528,7 +527,7 @@ ends_decide law {content} {other} {o} {p} {at} {end} {last} b low other_low e f 
     let that = end_is other at last f in
     differ_decide law end last b low other_low differ (λ less. inl (omega (arith, less, this, that))) (λ more. inl (omega (arith, more, this, that)))
 
--- whichever octet is smaller, its subidentifier ends first, or both end together
+-- if the octets of `content` and `other` at `at` differ, then the subidentifier of the smaller octet ends first, or both end together
 abbrev pub EndsBy : List ℕ → List ℕ → ℕ → Type 0
 EndsBy content other at =
     (get_or content at 0 < get_or other at 0 → EndsFirst (octets_from content at) (octets_from other at))
@@ -545,7 +544,7 @@ both_go_on {content} {other} {at} {end} {last} e f same =
     let far : reach (octets_from content at) ≡ reach (octets_from other at) = omega (arith, same, end_is content at end e, end_is other at last f) in
     (λ less. inr (far, less), λ more. inr (sym far, more))
 
--- an octet that is the last of its subidentifier ends first if it is the smaller one
+-- if the octet of `content` at `at` is the last of its subidentifier, and the smaller one, then its subidentifier ends first
 last_first : (content other : List ℕ) (at : ℕ) → get_or content at 0 < 128 → get_or content at 0 < get_or other at 0
     → EndsFirst (octets_from content at) (octets_from other at)
 last_first content other at last less =

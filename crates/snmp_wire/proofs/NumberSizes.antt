@@ -44,7 +44,7 @@ times_power limit base k = omega (arith, ap (λ p. limit * p) (pow-suc base k))
 times_one : (limit base : ℕ) → limit * base ^ 0 ≡ limit
 times_one limit base = omega (arith, ap (λ p. limit * p) (pow-zero base))
 
--- a number with `less + 1` digits is below `limit * base ^ less`
+-- `n` takes `less + 1` digits and is below `limit * base ^ less`, for some `less`
 pub record Sized (base limit more n : ℕ) : Type 0 where
   pub less : ℕ
   pub size : digit_count base limit more n ≡ suc less
@@ -75,7 +75,7 @@ digits_small base limit (suc more) n (suc most) h = ⊎_elim
 pub digits_needed : (base limit more n k : ℕ) → digit_count base limit more n ≡ suc (suc k) → limit * base ^ k ≤ n
 digits_needed base limit more n k e = grind (arith, common_steps, ⊎_elim, digits_small, cases_lt)
 
--- two's complement of `number_size n` octets can hold `n`
+-- two's complement of `number_size n` octets can hold `n`, a number of 64 bits
 pub number_fits : (n : ℕ) → n < 2 ^ 64 → 2 * n < 256 ^ number_size n
 unfolding number_size
 number_fits n h = grind (arith, common_steps, sized, pow-suc)
@@ -92,7 +92,7 @@ complement : (n low high : ℕ) → 2 * n < low → low * high ≡ 1844674407370
 complement n low zero fits e = omega arith
 complement n low (suc high) fits e = grind (arith, common_steps, mul-suc, sub-one)
 
--- the lowest octets of a negative number of 64 bits are its shortest encoding
+-- the lowest octets of a negative number of 32 bits, extended to 64 bits, are its shortest encoding
 pub octets_below_zero : (n : ℕ) → n < 2 ^ 31 → octets (number_size n) (18446744073709551615 - n) ≡ canon_number (negsuc n)
 unfolding canon_number
 octets_below_zero n h =
@@ -152,18 +152,18 @@ pub ruleset header_lengths = (header_short, header_long)
 
 pub ruleset length_forms = (canon_length_short, canon_length_long, length-canon_length_short, length-canon_length_long, length-digits)
 
--- a longer content doesn't have a shorter length
+-- a longer content doesn't have a shorter length field
 pub length_rises : (m n : ℕ) → m ≤ n → length (canon_length m) ≤ length (canon_length n)
 unfolding length_size
 length_rises m n h = grind (arith, common_steps, ⊎_elim, length-canon_length_short, length-canon_length_long, cases_lt, count_rises)
 
--- the encoding of a negative number is the lowest octets of the number extended to 64 bits
+-- the encoding of a negative number of 32 bits is the lowest octets of the number extended to 64 bits
 pub extended_below : (z : ℤ) (m : ℕ) → SFits w32 z → lt_z z (pos 0) ≡ true → m ≡ magnitude_of z
     → octets (length (canon_number z)) (18446744073709551615 - m) ≡ canon_number z
 extended_below (pos n) m fits below e = absurd (grind (arith, nat_tests))
 extended_below (negsuc n) m fits below e = grind (arith, common_steps, length-canon_number, octets_below_zero)
 
--- the encoding of a number from zero on is the lowest octets of the number extended to 64 bits
+-- the encoding of a number from zero on is the lowest octets of its magnitude, which is the number
 pub extended_above : (z : ℤ) (m : ℕ) → lt_z z (pos 0) ≡ false → m ≡ magnitude_of z → octets (length (canon_number z)) m ≡ canon_number z
 extended_above (pos n) m above e = ap (λ k. octets k m) (length-canon_number (pos n)) ∙ ap (octets (number_size n)) e ∙ octets_from_zero n
 extended_above (negsuc n) m above e = absurd (cc)
@@ -198,7 +198,7 @@ octets_least n k (suc m) fits low all =
     let limit : 2 ^ (8 * m + 7) ≤ 2 ^ k = pow-le-pow_right {n = 2} (lit< tt) (omega (arith, fits)) in
     omega (arith, number_large n m all (omega (arith, limit, octet_limit m, low)))
 
--- a number whose highest set bit is bit `k` takes `(k + 9) / 8` octets
+-- a number of 64 bits whose highest set bit is bit `k` takes `(k + 9) / 8` octets
 pub size_of_bits : (n k : ℕ) → 2 ^ k ≤ n → n < 2 * 2 ^ k → n < 2 ^ 64 → number_size n ≡ (k + 9) / 8
 size_of_bits n k low high all =
     let m : ℕ = (k + 1) / 8 in

@@ -1,6 +1,6 @@
--- Decoding of identifiers, a subidentifier or a number at a time: what is decoded as one is one
--- (`identifier_takes`), what isn't has a fault in its content, and each is decoded
--- (`identifier_again`).
+-- Decoding of identifiers, a subidentifier or a number at a time. A content that is decoded encodes
+-- the identifier that is returned (`identifier_takes`); of any other, the fault is `Content`. A
+-- content that encodes an identifier is decoded as this one (`identifier_again`).
 use Rattle.std.proofs.Common.{◌≡◌, ℕ, ◌+◌, ◌*◌, ◌%◌, ◌^◌, ◌<◌, ◌≤◌, cond, eqb, ltb, List, [], ◌∷◌, length, get_or, drop, Result, Ok, Err, IsOk, refl}
 use Rattle.std.proofs.Common.{sym, ◌∙◌, arith, zero, suc, ◌-◌, ◌++◌, take, All, ap, append_assoc, ◌≢◌, map, lit<, ⊎_elim, inl, inr, is_ok, true}
 use Rattle.std.proofs.lemmas.Bool.{ltb-true, lt-ltb, le-ltb, ltb-false, eqb-false, ne_eqb, cases_lt}
@@ -25,7 +25,7 @@ first_ok (Err d) f h = absurd cc
 
 -- ---- subidentifiers
 
--- what the first octets of a subidentifier that can be decoded say of it
+-- `octets` begin with a subidentifier, and this is what is decoded if it has at most three octets
 pub record ReadsShort (octets : List ℕ) : Type 0 where
   pub some : 0 < length octets
   pub one : get_or octets 0 0 < 128 → subidentifier_at octets ≡ Ok (get_or octets 0 0, drop 1 octets)
@@ -106,7 +106,7 @@ pub check_goes_on : (room : ℕ) (octets : List ℕ) (n : ℕ) (after : List ℕ
     → checked (numbers_of room octets) ≡ total → checked (numbers_of (room - 1) after) ≡ total
 check_goes_on room octets n after total some has_room h so_far = grind (arith, common_steps, numbers_step, forget)
 
--- the numbers decoded so far, and those that are still to be decoded
+-- the numbers `prefix` that are decoded so far, and then the numbers `read`, or the fault of these
 abbrev pub with_prefix : List ℕ → Result (List ℕ) BerError → Result (List ℕ) BerError
 with_prefix prefix read = read >>= λ more. Ok (prefix ++ more)
 
@@ -153,7 +153,7 @@ check_skips (n ∷ ns) rest room plain fits =
     let less : room - length (n ∷ ns) ≡ room - 1 - length ns = omega arith in
     rw less (check_skips ns rest (room - 1) (All-tail is_plain n ns plain) (omega arith) ∙ one)
 
--- numbers of one octet each are appended, and there was room for them
+-- if numbers of one octet each are decoded next, then there is room for them, and the others are decoded after them
 push_skips : (prefix numbers rest whole : List ℕ) → All (λ n. n < 128) numbers
     → with_prefix prefix (numbers_of (128 - length prefix) (numbers ++ rest)) ≡ Ok whole
     → (length numbers ≤ 128 - length prefix) × (with_prefix (prefix ++ numbers) (numbers_of (128 - length (prefix ++ numbers)) rest) ≡ Ok whole)
@@ -262,7 +262,7 @@ digits_again n (octet ∷ prefix) last rest goes_on ends small =
     let more = digits_again next prefix last rest goes_on.1 ends (omega arith) in
     rw (le-ltb largest_subidentifier next (omega arith), le-ltb octet 128 goes_on.0) (more ∙ ap (λ (v : ℕ). done (v, rest)) (sym same))
 
--- `octets` begin with a subidentifier of value `x.0`, and `x.1` follows it
+-- `octets` begin with a subidentifier of value `x.0`, at most the largest one, and `x.1` follows it
 record TakesSubidentifier (octets : List ℕ) (x : ℕ × List ℕ) : Type 0 where
   text : List ℕ
   is_subidentifier : IsSubidentifier text x.0
@@ -396,7 +396,7 @@ identifier_again content (x ∷ y ∷ more) h =
 
 -- ---- numbers are checked first; whether there are more than 126 is tested at the end
 
--- without room for a number, the check fails
+-- if octets are left and there is no room for a number, then the check fails
 pub no_room : (octets : List ℕ) (room : ℕ) → 0 < length octets → room < 1 → checked (numbers_of room octets) ≡ Err error.Content
 no_room octets zero some less = checked_err (numbers_of 0 octets) error.Content (numbers_full octets some)
 no_room octets (suc room) some less = absurd (omega arith)
@@ -426,7 +426,7 @@ number_refused octets e some h (suc room) = checked_err (numbers_of (suc room) o
 
 -- ---- the loop
 
--- the result of the check of `octets`, after `count` numbers
+-- what the check returns if it has counted `count` numbers and `octets` are left
 abbrev pub counted : ℕ → List ℕ → Result (Unit {0}) BerError
 counted count octets = cond (ltb 126 count) (Err error.Content) (checked (numbers_of (126 - count) octets))
 

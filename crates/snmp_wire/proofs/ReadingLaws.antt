@@ -40,7 +40,7 @@ pub bind_ok : {A B : Type 0} (r : Result A BerError) (f : A → Result B BerErro
 bind_ok (Ok x) f y e = (x, refl, e)
 bind_ok (Err d) f y e = absurd cc
 
--- after a first step, two second steps return the same if they do for the value of the first
+-- if `f` and `g` return the same for the value of the first step `r`, then `r` followed by `f` returns the same as `r` followed by `g`
 pub bind_same : {A B : Type 0} (r : Result A BerError) (f g : A → Result B BerError)
     → ((x : A) → r ≡ Ok x → f x ≡ g x) → (r >>= f) ≡ (r >>= g)
 bind_same (Ok x) f g h = h x refl
@@ -58,7 +58,7 @@ pub refused : {A : Type 0} (b : Bool) (r : Result A BerError) (d : BerError) (y 
 refused true r d y e = absurd cc
 refused false r d y e = (refl, e)
 
--- a decoding that fails also fails without its value
+-- if a decoding fails with `e`, then so does the decoding without its value (`checked`)
 pub checked_err : {A : Type 0} (r : Result A BerError) (e : BerError)
     → r ≡ Err e → checked r ≡ Err e
 checked_err r e h = rw h refl
@@ -80,7 +80,7 @@ pub some_left : (octets : List ℕ) (is_empty : Bool)
     → is_empty ≡ eqb (length octets) 0 → is_empty ≡ false → 0 < length octets
 some_left octets is_empty e none = grind (arith, common_steps, eqb-false)
 
--- if `is_empty` is true, then there are no octets
+-- if `is_empty` is true, then the octets are empty
 pub none_left : (octets : List ℕ) (is_empty : Bool)
     → is_empty ≡ eqb (length octets) 0 → is_empty ≡ true → length octets ≡ 0
 none_left octets is_empty e none = eqb-true (length octets) 0 (sym e ∙ none)
@@ -93,7 +93,7 @@ pub data Gives {A : Type 0} (is : A → Type 0) (fails : BerError → Type 0) : 
     a_value : (x : A) → is x → Gives is fails (Ok x)
     a_fault : (e : BerError) → fails e → Gives is fails (Err e)
 
--- how to show `Gives`: by what is true of the value or the fault that was returned
+-- if any value that `r` returned satisfies `is`, and any fault `fails`, then `Gives` holds of `r`
 pub gives : {A : Type 0} {is : A → Type 0} {fails : BerError → Type 0} (r : Result A BerError)
     → ((x : A) → r ≡ Ok x → is x) → ((e : BerError) → r ≡ Err e → fails e) → Gives is fails r
 gives (Ok x) value fault = a_value x (value x refl)
@@ -110,7 +110,7 @@ pub failing : {A : Type 0} {is : A → Type 0} {fails : BerError → Type 0} {r 
 failing d (a_value y h) e = absurd cc
 failing {A} {is} {fails} d (a_fault c h) e = subst fails (err_is {A = A} c d e) h
 
--- two steps give what the second gives for a value of the first
+-- if `Gives` holds of a first step, and of the second step after each value that satisfies `is`, then it holds of both together
 pub gives_then : {A B : Type 0} {is : A → Type 0} {also : B → Type 0} {fails : BerError → Type 0}
     {r : Result A BerError} (f : A → Result B BerError)
     → Gives is fails r → ((x : A) → is x → Gives also fails (f x)) → Gives also fails (r >>= f)
@@ -125,7 +125,7 @@ pub gives_either : {A : Type 0} {is : A → Type 0} {fails : BerError → Type 0
 gives_either true first second = first refl
 gives_either false first second = second refl
 
--- a decoding also gives what follows from what it gives
+-- if `Gives` holds with `is` and `fails`, then it holds with what follows from them, `so` and `also`
 pub gives_so : {A : Type 0} {is so : A → Type 0} {fails also : BerError → Type 0}
     {r : Result A BerError}
     → ((x : A) → is x → so x) → ((e : BerError) → fails e → also e) → Gives is fails r
@@ -133,7 +133,7 @@ pub gives_so : {A : Type 0} {is so : A → Type 0} {fails also : BerError → Ty
 gives_so value fault (a_value x h) = a_value x (value x h)
 gives_so value fault (a_fault e h) = a_fault e (fault e h)
 
--- a value is returned if no octets are left, and a fault if some are
+-- if `Gives` holds of `r` when no octets are left, and `d` satisfies `fails` when some are, then `Gives` holds of the test for octets left over
 pub gives_end : {A : Type 0} {is : A → Type 0} {fails : BerError → Type 0} {r : Result A BerError}
     (d : BerError) (rest : List ℕ) → (rest ≡ [] → Gives is fails r) → (rest ≢ [] → fails d)
     → Gives is fails (cond (eqb (length rest) 0) r (Err d))
@@ -154,6 +154,6 @@ pub gives_fault : {A : Type 0} {is : A → Type 0} (fails : BerError → Type 0)
 gives_fault fails d (a_value x h) other = other x h
 gives_fault fails d (a_fault e h) other = h
 
--- any decoding gives a value or a fault, of which nothing is said
+-- any decoding returns a value or a fault
 pub gives_any : {A : Type 0} (r : Result A BerError) → Gives (λ x. Unit {0}) (λ e. Unit {0}) r
 gives_any r = gives r (λ x e. tt) (λ d e. tt)

@@ -10,7 +10,7 @@ message_most : (m : Message) → length (canon m) ≤ 84 + length m.community + 
 unfolding canon canon_opening canon_fields canon_value canon_content
 message_most m = omega (arith, element_most, length-number, length-append {A = ℕ})
 
--- the binding that asks for a name has at most 18, and five for each number of the name
+-- the binding that requests a name has at most 18 octets, and five more for each number of the name
 asking_most : (name : List ℕ) → length (canon_bindings (asking name ∷ [])) ≤ 18 + 5 * length name
 unfolding canon_bindings canon_binding canon_value canon_content
 asking_most name = omega (arith, element_most, length-append {A = ℕ}, length-name name)

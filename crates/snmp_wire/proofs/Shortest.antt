@@ -33,7 +33,7 @@ first_below count n h = grind (arith, common_steps, div-lt_iff_lt-mul, one-le-po
 first_above : (count n : ℕ) → 128 * 256 ^ count ≤ n → n < 256 ^ suc count → 128 ≤ get_or (octets (suc count) n) 0 0
 first_above count n low high = grind (arith, common_steps, le-div_iff_mul-le, one-le-pow, div-lt_iff_lt-mul, pow-suc, first_octet)
 
--- the number of octets that `n` takes in two's complement, and the bound on `n` that follows
+-- if `n` is below 2 ^ 64, then it takes `less + 1` octets in two's complement and is below `128 * 256 ^ less`, for some `less`
 sized_number : (n : ℕ) → n < 2 ^ 64 → (less : ℕ) × (number_size n ≡ suc less) × (n < 128 * 256 ^ less)
 unfolding number_size
 sized_number n h = let s = sized 256 128 8 n (omega arith) in (s.less, s.size, s.below)
@@ -80,7 +80,7 @@ is_integer z fits = record {
     value (pos n) fits = let u = unsigned_is_strict n (omega (arith, fits)) in positive (canon_number (pos n)) u.0 ∙ ap pos u.1
     value (negsuc n) fits = negative_value n (omega (arith, fits))
 
--- a number below `256 ^ width` takes at most `width` octets, or one octet more, which is zero
+-- if `width` is at most 8, what is written of a number below `256 ^ width` encodes it strictly: at most `width` octets, or a zero octet and `width` more
 pub is_unsigned_of : (width n : ℕ) → width ≤ 8 → n < 256 ^ width → IsUnsigned strict width (canon_number (pos n)) n
 is_unsigned_of width n narrow h =
     let wide : 256 ^ width ≤ 256 ^ 8 = pow-le-pow_right (lit< tt) narrow in
@@ -192,8 +192,8 @@ pub value_short : (value : Datum) → IsInRange value → length (canon_value va
 unfolding canon_value
 value_short value h = omega (arith, element_most (value_tag value) (canon_content value), (good value h).short)
 
--- ---- no strict encoding is shorter than the one that is written, and none of the same length is
--- another
+-- ---- a strict encoding isn't shorter than the one that is written, and is the same if it is as
+-- long
 
 -- `text` isn't shorter than `made`, and if it isn't longer either, they are the same
 pub record IsNoShorter (made text : List ℕ) : Type 0 where
@@ -203,7 +203,7 @@ pub record IsNoShorter (made text : List ℕ) : Type 0 where
 pub same_text : {made text : List ℕ} → text ≡ made → IsNoShorter made text
 same_text e = record { least = omega (arith, ap length e); one = λ short. e }
 
--- if each of two strings is no shorter than the one made, then so are both together, one after the other
+-- if `IsNoShorter` holds of `a` and `c`, and of `b` and `d`, then it holds of `a ++ b` and `c ++ d`
 pub both_texts : {a b c d : List ℕ} → IsNoShorter a c → IsNoShorter b d → IsNoShorter (a ++ b) (c ++ d)
 both_texts {a} {b} {c} {d} this that = grind (arith, common_steps, length-append)
 

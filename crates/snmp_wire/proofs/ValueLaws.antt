@@ -1,5 +1,6 @@
--- What is decoded as a value is one, and what isn't has a fault in its tag or content
--- (`value_gives`); each value is decoded (`value_again`).
+-- If a tag and a content are decoded as a value, then they encode it; otherwise the tag or the
+-- content is at fault (`value_gives`). A content of a value is decoded as this value
+-- (`value_again`).
 use Rattle.std.proofs.{lemmas.Grind.common_steps, lemmas.List.nil_from_length}
 use Rattle.std.proofs.Common.{◌≡◌, ℕ, ℤ, pos, ◌+◌, ◌≤◌, true, cond, eqb, leb, ◌⊎◌, List, [], ◌∷◌, length, Result, Ok, refl, ap, arith, inl, inr}
 use Rattle.std.proofs.lemmas.Bool.{ltb-true, lt-ltb, le-leb, leb-true, eqb-true, eq-eqb, and_parts, and_from, or_cases, or_left, or_right}
@@ -66,7 +67,7 @@ known_gives (opaque_octets text) content = read (opaque_octets content) content 
 known_gives (counter64 n) content = gives_then _ (unsigned_gives 8 content) (λ m. read (counter64 m) content)
 known_gives value content = empty_gives value content refl
 
--- either the content is at fault and the tag is the tag of a value, or the tag is at fault
+-- `e` says what is at fault: the content (then the tag is the tag of a value), or the tag
 abbrev pub IsValueFault : ℕ → BerError → Type 0
 IsValueFault tag e = ((error.Content ≡ e) × ((value : Datum) × (tag ≡ value_tag value))) ⊎ (error.Tag ≡ e)
 

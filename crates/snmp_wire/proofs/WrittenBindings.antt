@@ -13,7 +13,7 @@ pub sizes_binding : (header name value : ℕ) (binding : VarBind) → name ≡ l
 unfolding canon_binding
 sizes_binding header name value binding n v h = grind (arith, common_steps, length-append, element_size)
 
--- a short binding has three headers of two octets each
+-- if the contents of the name and the value have fewer than 124 octets together, then each of the three headers of the binding has two octets
 pub sizes_short : (name value : ℕ) (binding : VarBind) → name ≡ length (canon_content (object_id binding.name)) → value ≡ length (canon_content binding.value)
     → name + value < 124 → name + value + 6 ≡ length (canon_binding binding)
 sizes_short name value binding n v short =

@@ -1,5 +1,6 @@
--- How identifiers are written: their lengths, that they are strict encodings (`is_subidentifier`,
--- `is_object_id`), and that there are no others (`same_subidentifier`).
+-- How identifiers are written: the lengths of their encodings, that these are strict
+-- (`is_subidentifier`, `is_object_id`), and that a subidentifier has no other encoding of the same
+-- length (`same_subidentifier`).
 use Rattle.std.proofs.{lemmas.Grind.common_steps, lemmas.Grind.flat_map-append, lemmas.Nat.le_or_l, lemmas.Nat.le_or_r}
 use Rattle.std.proofs.Common.{◌≡◌, ℕ, ◌+◌, ◌-◌, ◌*◌, ◌/◌, ◌%◌, ◌^◌, ◌<◌, ◌≤◌, suc, List, [], ◌∷◌, ◌++◌, length, take, drop, get_or, refl, sym, ap}
 use Rattle.std.proofs.Common.{◌∙◌, arith, length-append, take_all, ◌≢◌, zero, map, subst, lit<}
@@ -48,7 +49,7 @@ subidentifier_most n = digit_most 128 128 4 n
 pub length-canon_subidentifier : (n : ℕ) → length (canon_subidentifier n) ≡ subidentifier_size n
 length-canon_subidentifier n = grind (arith, common_steps, subidentifier_parts, length-append, length-septets, size_some)
 
--- a subidentifier of several octets: the octets before the last are written before it
+-- if the last octet of a subidentifier is written, and then the other octets before it, then the subidentifier is written
 pub writes_subidentifier : {old mid new : List ℕ} {start middle end : ℕ} (n count : ℕ) → count ≡ subidentifier_size n
     → Writes old middle end ((n % 128) ∷ []) mid → Writes mid start middle (septets (count - 1) (n / 128)) new
     → Writes old start end (canon_subidentifier n) new
@@ -84,7 +85,7 @@ pub length-numbers_from : (numbers : List ℕ) (i number : ℕ) → i < length n
     → length (flat_map canon_subidentifier (drop i numbers)) ≡ subidentifier_size number + length (flat_map canon_subidentifier (drop (i + 1) numbers))
 length-numbers_from numbers i number h e = grind (arith, common_steps, length-flat_map_drop, length-canon_subidentifier)
 
--- if `numbers` are those of `name`, and `first` joins the first two, then the content of `name` is `first` and the others as subidentifiers
+-- if `numbers` are the numbers of `name`, and `first` joins the first two, then the content of `name` is `first` and the others as subidentifiers
 pub content_is : (numbers name : List ℕ) (first : ℕ) → IsWire name → numbers ≡ name → first ≡ 40 * get_or numbers 0 0 + get_or numbers 1 0
     → canon_content (object_id name) ≡ canon_subidentifier first ++ flat_map canon_subidentifier (take (length numbers - 2) (drop 2 numbers))
 content_is numbers name first wire same e = rw (e, same) (content_parts name wire)
@@ -206,7 +207,7 @@ septets_are prefix h high = marked prefix h high ∙ ap (map (λ digit. 128 + di
 pub subidentifier_some : (text : List ℕ) (n : ℕ) → IsSubidentifier text n → 0 < length text
 subidentifier_some text n is = omega (arith, ap length is.parts, length-append is.prefix (is.last ∷ []))
 
--- a subidentifier is below the power of 128 with its number of octets
+-- a subidentifier of `k` octets is below 128 ^ k
 pub subidentifier_bound : (text : List ℕ) (n : ℕ) → IsSubidentifier text n → n < 128 ^ length text
 subidentifier_bound text n is = grind (arith, common_steps, length-low_bits, below_power, bits_below)
 
@@ -224,7 +225,7 @@ text_is text n h is =
     cc (septets_are is.prefix (prefix_octets is.prefix (is.last ∷ []) (subst Octets is.parts h))
     (recursion_from_All (λ octet. 128 ≤ octet) is.prefix is.goes_on))
 
--- a subidentifier has only one encoding of a given length
+-- two encodings of a subidentifier with the same length are the same
 pub same_subidentifier : (xs ys : List ℕ) (n : ℕ) → Octets xs → Octets ys → length xs ≡ length ys → IsSubidentifier xs n → IsSubidentifier ys n → xs ≡ ys
 same_subidentifier xs ys n h k size is are =
     text_is xs n h is ∙ ap (λ count. septets (count - 1) (n / 128) ++ (n % 128) ∷ []) size ∙ sym (text_is ys n k are)

@@ -42,7 +42,8 @@ sizes_head message total version community id a b list pdu header v c i x y l p 
 
 pub ruleset head_sizes = (common_steps, sizes_head, to_z-of_z)
 
--- what follows the tag and the length of the PDU is written
+-- if the header of the varbind list is written, and then `b`, `a` and the request-id, each before the previous one, then all that is between the PDU's
+-- header and the first binding is written from `id` on
 pub writes_fields : {old o1 o2 o3 o4 : List ℕ} {list b a id end : ℕ} (message : Message) (total : ℕ) → Writes old list end (canon_header sequence_tag total) o1
     → Writes o1 b list (canon_value (integer_value message.b)) o2 → Writes o2 a b (canon_value (integer_value message.a)) o3
     → Writes o3 id a (canon_value (integer_value message.id)) o4
@@ -55,7 +56,8 @@ pub pdu_content : {old new : List ℕ} {id end : ℕ} (message : Message) (total
     → Writes old id end (canon_fields message ++ canon_header sequence_tag total) new → end - id + total ≡ pdu_size message total
 pdu_content message total w = omega (arith, w.begins, length-append (canon_fields message) (canon_header sequence_tag total))
 
--- the part of the head after its first length is written
+-- if what follows the PDU's header is written, and then this header, the community and the version, each before the previous one, then `canon_prefix` is
+-- written
 pub writes_prefix : {old o1 o2 o3 o4 : List ℕ} {version community pdu id end : ℕ} (message : Message) (total tag : ℕ) → tag ≡ kind_tag message.kind
     → Writes old id end (canon_fields message ++ canon_header sequence_tag total) o1 → Writes o1 pdu id (canon_header tag (end - id + total)) o2
     → Writes o2 community pdu (canon_value (octet_string message.community)) o3
@@ -66,7 +68,7 @@ writes_prefix {old} {o1} {o2} {o3} {o4} {version} {community} {pdu} {id} {end} m
     let size : end - id + total ≡ pdu_size message total = pdu_content message total w1 in
     writes_same (writes_then (writes_then (writes_then w1 w2) w3) w4) (rw (e, size) (simp append_assoc))
 
--- the header of the message is written before it
+-- if the header of the message is written directly before `canon_prefix`, then the head is written
 pub writes_head : {old mid new : List ℕ} {start version end : ℕ} (message : Message) (total : ℕ) → Writes old version end (canon_prefix message total) mid
     → Writes mid start version (canon_header sequence_tag (end - version + total)) new → Writes old start end (canon_head message total) new
 unfolding canon_head
@@ -74,7 +76,7 @@ writes_head {old} {mid} {new} {start} {version} {end} message total w v =
     let size : end - version ≡ length (canon_prefix message total) = omega (arith, w.begins) in
     writes_same (writes_then w v) (ap (λ n. canon_header sequence_tag (n + total) ++ canon_prefix message total) size)
 
--- Each part has room before those that are already written.
+-- If the head of a message has room, then each of its parts has room before the parts that are already written.
 
 pub list_fits : (message : Message) (total end : ℕ) → length (canon_head message total) ≤ end
     → length (canon_fields message) + length (canon_header sequence_tag total) ≤ end
@@ -110,7 +112,7 @@ pub sizes_message : (message : Message) (head total : ℕ) → total ≡ length 
     → head + total ≡ length (canon message)
 sizes_message message head total t h = grind (arith, common_steps, length-canon)
 
--- a head is written before its bindings
+-- if a head is written directly before its bindings, then the message is written
 pub writes_message : {old mid new : List ℕ} {start head size : ℕ} (message : Message) (total : ℕ) → total ≡ length (canon_bindings message.bindings)
     → Writes old head size (canon_bindings message.bindings) mid → Writes mid start head (canon_head message total) new
     → Writes old start size (canon message) new
@@ -120,7 +122,7 @@ writes_message message total e w v = writes_same (writes_then w v) (ap (λ n. ca
 longer_header : (sizes : ElementSizes) (tag n k : ℕ) → n ≤ k → length (canon_header tag n) ≤ length (canon_header tag k)
 longer_header sizes tag n k h = omega (arith, length-canon_header tag n, length-canon_header tag k, sizes.lengths_rise n k h)
 
--- a head before more octets of bindings is no shorter
+-- if the bindings take more octets, the head isn't shorter
 pub longer_head : (sizes : ElementSizes) (m : Message) (n k : ℕ) → n ≤ k → length (canon_head m n) ≤ length (canon_head m k)
 longer_head sizes m n k h = grind (arith, common_steps, longer_header, length-canon_prefix, length-canon_head)
 

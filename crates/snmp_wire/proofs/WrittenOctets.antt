@@ -7,7 +7,7 @@ use Rattle.std.proofs.lemmas.List.{append-nil, drop-set, drop_all, drop_at, leng
 use Rattle.snmp_wire.specs.ber.Writing.{Writes}
 use Rattle.snmp_wire.proofs.WritingLaws.{kept, writes_same}
 
--- octets that are unchanged have the empty text written at any offset
+-- if nothing changes, then the empty string is written at any offset
 pub writes_none : (old : List ℕ) (end : ℕ) → Writes old end end [] old
 writes_none old end = record { begins = omega arith; before = refl; after = refl }
 
@@ -16,7 +16,7 @@ pub writes_octet : {old : List ℕ} {at end : ℕ} {text mid : List ℕ} → Wri
     → Writes old start end (octet ∷ text) (set mid start octet)
 writes_octet {old} {at} {end} {text} {mid} w start octet e h = grind (arith, common_steps, take-set, kept, drop-set)
 
--- a single octet is written
+-- if one octet is set, then it is written
 pub writes_one : (old : List ℕ) (end octet : ℕ) → 1 ≤ end → end ≤ length old → Writes old (end - 1) end (octet ∷ []) (set old (end - 1) octet)
 writes_one old end octet some within = writes_octet (writes_none old end) (end - 1) octet (omega arith) within
 
@@ -34,7 +34,7 @@ pub all_digits : {old out : List ℕ} {at end : ℕ} (text : ℕ → List ℕ) (
     → count ≤ end → Writes old (end - count) end (text count) out
 all_digits {old} {out} {at} {end} text count w e room = grind (arith, common_steps, writes_same)
 
--- what is left of a number before any of its digits is written
+-- before any digit of a number is written, all of the number is left
 pub rest_none : (base end n : ℕ) → n ≡ n / base ^ (end - end)
 rest_none base end n = let none : 0 ≡ end - end = omega arith in subst (λ (k : ℕ). n ≡ n / base ^ k) none (rw pow-zero (sym (div-one n)))
 
@@ -46,7 +46,7 @@ rest_digits base at end n rest e some h =
 
 -- ---- strings
 
--- a string is copied to the octets from `start` to `end`
+-- if a string is copied to the octets from `start` to `end`, then it is written
 pub writes_copy : (old text : List ℕ) (start end : ℕ) → start + length text ≡ end → end ≤ length old
     → Writes old start end text (take start old ++ (text ++ drop end old))
 writes_copy old text start end e h = grind (arith, common_steps, take_at, length-take-le, drop_at)

@@ -22,7 +22,7 @@ canon_binding binding =
 unfoldable pub canon_bindings : List VarBind → List ℕ
 canon_bindings bindings = flat_map canon_binding bindings
 
--- what precedes the PDU: the version and the community
+-- what precedes the PDU in the SEQUENCE of a message: the version and the community
 unfoldable pub canon_opening : Message → List ℕ
 canon_opening message =
     canon_value (integer_value message.version) ++ canon_value (octet_string message.community)

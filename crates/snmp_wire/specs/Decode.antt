@@ -1,6 +1,6 @@
--- Decoding of bindings and messages from their start, with the first fault that is found. These
--- are the models of what is borrowed from a datagram; that they agree with Spelling.antt, which
--- says what octets encode, is proved.
+-- Decoding of bindings and messages from their start, with the first fault that is found: what the
+-- functions that decode are proved to compute. Spelling.antt says what octets encode; that both
+-- agree is proved.
 use Rattle.std.specs.Prelude.{ℕ, zero, suc, ℤ, ◌==◌, if◌then◌else◌, List, [], ◌∷◌, length, Result}
 use Rattle.std.specs.Prelude.{Ok, Err}
 use Rattle.std.specs.Result.{result_unwrap_or}
@@ -44,7 +44,8 @@ binding_of fields = do
   value ← typed_value fields.tag fields.content
   Ok (record { name = name; value = value })
 
--- the binding with these fields, which are known to be those of a binding
+-- the binding with these fields, or the binding of the empty name and NULL if their contents don't
+-- encode a name and a value
 abbrev pub binding_with : Fields → VarBind
 binding_with fields =
     result_unwrap_or (binding_of fields) (record { name = []; value = null_value })

@@ -77,13 +77,14 @@ AllowsTag at_binding tag = tag ≡ sequence_tag
 AllowsTag at_name tag = tag ≡ 0x06
 AllowsTag at_value tag = (value : Datum) × (tag ≡ value_tag value)
 
--- an element of the position is required: a binding if octets are left, any other element always
+-- an element is required at the position, if `here` is what is left of the element around it: a
+-- binding if `here` isn't empty, any other element always
 abbrev pub Calls : Position → List ℕ → Type 0
 Calls at_binding here = here ≢ []
 Calls position here = Unit {0}
 
--- an element of the position is required at the start of `here`, which is what is left of the
--- element around it
+-- in the message `octets`, an element of the position is required at the start of `here`, which is
+-- what is left of the element around it
 pub data Expects (octets : List ℕ) : Position → List ℕ → Type 0 where
   starts : Expects octets at_message octets
   inside : (position next : Position) (here : List ℕ) (tag : ℕ) (content rest : List ℕ)
@@ -111,7 +112,7 @@ pub record HasBadTag (octets : List ℕ) : Type 0 where
   pub parts : here ≡ tag ∷ after
   pub bad : AllowsTag position tag → ⊥
 
--- `octets` have a content that no value with its tag has
+-- `octets` have an element with a content that no value with the element's tag has
 pub record HasBadContent (octets : List ℕ) : Type 0 where
   pub position : Position
   pub here : List ℕ
@@ -147,7 +148,7 @@ pub record HasTrailing (octets : List ℕ) : Type 0 where
   pub begins : BeginsWith tag content octets after
   pub some : after ≢ []
 
--- what the error says of `octets`
+-- `octets` have the fault that the error reports
 abbrev pub IsFault : BerError → List ℕ → Type 0
 IsFault error.Truncated octets = EndsEarly octets
 IsFault error.Trailing octets = HasTrailing octets

@@ -20,13 +20,13 @@ pub record IsContentOctets (content : List ℕ) : Type 0 where
 abbrev pub asking : List ℕ → VarBind
 asking name = record { name = name; value = null_value }
 
--- The subidentifier `text` comes before `other`: it has fewer octets, or as many octets and the
--- smaller one at the first index at which the two differ.
+-- The subidentifier `text` comes before `other`: it has fewer octets; or both have as many, and
+-- `text` has the smaller octet at the first difference.
 abbrev pub ComesFirst : List ℕ → List ℕ → Type 0
 ComesFirst text other =
     (length text < length other) ⊎ ((length text ≡ length other) × Precedes text other)
 
--- what contents say of the identifiers that they encode
+-- how contents and the identifiers that they encode are related
 pub record EncodedNames : Type 0 where
   -- a content encodes at most one identifier
   pub one_name : (content o p : List ℕ) → IsObjectId content o → IsObjectId content p → o ≡ p

@@ -11,33 +11,33 @@ abbrev pub pdu_size : Message → ℕ → ℕ
 pdu_size message total =
     length (canon_fields message) + length (canon_header sequence_tag total) + total
 
--- each part is as long as its own parts together
+-- the length of each part of a message is the sum of the lengths of its own parts
 pub record MessageSizes : Type 0 where
-  -- before the PDU: the version and the community
+  -- the part before the PDU: the version and the community
   pub opening : (m : Message)
       → length (canon_opening m)
       ≡ length (canon_value (integer_value m.version))
       + length (canon_value (octet_string m.community))
-  -- in the PDU before its bindings: the three numbers
+  -- the part of the PDU before its varbind list: three numbers
   pub fields : (m : Message)
       → length (canon_fields m)
       ≡ length (canon_value (integer_value m.id)) + length (canon_value (integer_value m.a))
       + length (canon_value (integer_value m.b))
-  -- between the first length and the first binding
+  -- the part between the first length and the first binding
   pub prefix : (m : Message) (total : ℕ)
       → length (canon_prefix m total)
       ≡ length (canon_opening m) + length (canon_header (kind_tag m.kind) (pdu_size m total))
       + length (canon_fields m) + length (canon_header sequence_tag total)
-  -- before the first binding
+  -- the head, which ends before the first binding: a header, and the part above
   pub head : (m : Message) (total : ℕ)
       → length (canon_head m total)
       ≡ length (canon_header sequence_tag (length (canon_prefix m total) + total))
       + length (canon_prefix m total)
-  -- the whole message
+  -- the whole message: its head and its bindings
   pub whole : (m : Message)
       → length (canon m)
       ≡ length (canon_head m (length (canon_bindings m.bindings)))
       + length (canon_bindings m.bindings)
-  -- a head is no shorter if its bindings take more octets
+  -- a head isn't shorter if its bindings take more octets
   pub heads_rise : (m : Message) (n k : ℕ)
       → n ≤ k → length (canon_head m n) ≤ length (canon_head m k)

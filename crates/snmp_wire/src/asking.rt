@@ -90,7 +90,7 @@ pub fn asking_size(name: &EncodedName<'_>) -> u64
 ///
 /// Returns `None` if `out` is shorter than that; `out` is then unchanged.
 pub fn encode_asking(name: &EncodedName<'_>, out: &mut [u8]) -> Option<usize>
-    // The octets of `out` after it are unchanged.
+    // The octets of `out` after the binding are unchanged.
     ensures some { IfSome result (λ n.
         (n ≡ length (canon_binding (asking name.now)))
         × (out.new ≡ canon_binding (asking name.now) ++ drop n out.old)) }
@@ -106,7 +106,7 @@ pub fn encode_asking(name: &EncodedName<'_>, out: &mut [u8]) -> Option<usize>
     Some(size)
 }
 
-/// Writes the binding that requests `asked` before `end`, and returns its offset.
+/// Writes a binding, the one that requests `asked`, before `end`, and returns its offset.
 #[inline]
 fn put_asking(out: &mut [u8], end: usize, asked: &EncodedName<'_>) -> usize
     requires room { length (canon_binding (asking asked.now)) ≤ end }

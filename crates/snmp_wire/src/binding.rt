@@ -110,7 +110,7 @@ impl<'a> Bindings<'a> {
 
     /// Returns the next binding, without decoding its name or its value, or `None` if none is
     /// left.
-    // `inline(always)`: called for each binding of a message.
+    // `inline(always)`: agents and walks call it for each binding of a message.
     #[inline(always)]
     pub fn next_ref(&mut self) -> Option<BindingRef<'a>>
         ensures some { IfSome result (λ binding. self.old ≡ binding ∷ self.new) }
@@ -313,7 +313,7 @@ fn left_over(tag: u8, content: &[u8]) -> BerError
 
 /// Returns the fields of the first of the bindings that `octets` encode, and the octets after it.
 /// The octets must be known to be bindings.
-// `inline(always)`: called for each binding that is read.
+// `inline(always)`: its single caller is `next_ref`.
 #[inline(always)]
 fn fields_in<'a>(octets: &'a [u8]) -> (Fields<'a>, &'a [u8])
     requires some { 0 < length octets.now }
@@ -422,7 +422,7 @@ pub(crate) fn pair_size(name: &Oid, value: &ValueRef<'_>) -> u64
 /// Returns `None` if `out` is shorter than that; `out` is then unchanged.
 pub fn encode_binding(binding: &Binding<'_>, out: &mut [u8]) -> Option<usize>
     requires { IsEncodable (var_bind binding.now) }
-    // The octets of `out` after it are unchanged.
+    // The octets of `out` after the binding are unchanged.
     ensures some { IfSome result (λ n.
         (n ≡ length (canon_binding (var_bind binding.now)))
         × (out.new ≡ canon_binding (var_bind binding.now) ++ drop n out.old)) }

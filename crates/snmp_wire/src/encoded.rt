@@ -57,7 +57,8 @@ impl EncodedBinding {
     /// Returns the shortest encoding of the binding.
     #[inline]
     pub fn octets(&self) -> &[u8]
-        // The encoding that this crate computes; the laws of messages say that none is shorter.
+        // The encoding that this crate computes. By the laws of messages, no strict encoding of a
+        // message is shorter than the one that contains these octets for its bindings.
         ensures encoding { result.now ≡ canon_binding self.now }
         ensures range { IsBindingInRange self.now }
     {

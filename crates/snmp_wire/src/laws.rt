@@ -1,5 +1,8 @@
 //! Laws of messages and their encodings, for readers and for proofs in other crates. Each is a
 //! call that does nothing; its caller's proof may use its clause.
+//!
+//! An encoding is *strict* if its unsigned numbers too are in two's complement (X.690, 8.3.3), so
+//! that the high bit of their first octet is clear.
 ghost use Rattle.std.specs.Prelude.{ℕ, List};
 ghost use Rattle.snmp_wire.specs.{ber.Sizes.ElementSizes, declared.ber.error.BerError.BerError};
 ghost use Rattle.snmp_wire.specs.Fault.{IsFault};
@@ -28,16 +31,16 @@ pub fn encoding_is_of_type()
     ensures { EncodingIsOfType }
 {}
 
-/// A strict encoding of a message is also one in the forms that are accepted, so
-/// [`decode`](crate::decode) returns the message.
+/// Octets that encode a message strictly, with unsigned numbers in two's complement, are in a form
+/// that is accepted: [`decode`](crate::decode) returns the message.
 #[inline]
 #[tactic(auto, using(crate::proofs::MessageElements::strict_is_read))]
 pub fn strict_is_read()
     ensures { StrictIsRead }
 {}
 
-/// The encoding that is written of a message in range is strict, so [`decode`](crate::decode)
-/// returns the message.
+/// If a message is in range (`IsMessageInRange`), the encoding that is written of it is strict, so
+/// [`decode`](crate::decode) returns the message.
 #[inline]
 #[tactic(auto, using(crate::proofs::MessageElements::strict_canon))]
 pub fn encoding_is_strict()
@@ -51,13 +54,15 @@ pub fn encoding_is_shortest()
     ensures { EncodingIsShortest }
 {}
 
-/// A message in range has exactly one shortest encoding: the one that is written.
+/// A message in range (`IsMessageInRange`) has exactly one shortest encoding: the one that is
+/// written.
 #[inline]
 pub fn one_shortest_encoding()
     ensures { OneShortestEncoding }
 {}
 
-/// The encoding that is written of a message is its head, followed by its bindings in turn.
+/// The encoding that is written of a message is its head, which ends before the first binding, and
+/// then the encodings of its bindings in turn.
 #[inline]
 #[tactic(auto, using(crate::proofs::WrittenMessages::canon_parts))]
 pub fn pieces()

@@ -1,7 +1,7 @@
 //! Messages of SNMPv2c (RFC 3416) and their BER encoding (X.690, RFC 3417 section 8).
 //!
-//! Re-exports the object identifiers of `snmp_oid`, on which it is built. Agents and walks exchange
-//! only octets, and decode and encode them by this crate.
+//! Built on `snmp_oid`, whose object identifiers it re-exports. Agents and walks exchange
+//! datagrams, which they decode and encode with this crate.
 //!
 //! # Examples
 //!
@@ -51,7 +51,7 @@ pub use message::{
 pub use name::{EncodedName, MAX_CONTENT};
 pub use snmp_oid::{Oid, OidError, OidTextError, parse_numeric, read_numeric, write_numeric};
 
-// Laws, for proofs and readers.
+// Laws: calls that do nothing. What they ensure may be used in proofs.
 pub use laws::{
     element_sizes, encoding_is_of_type, encoding_is_shortest, encoding_is_strict, message_sizes,
     no_fault, one_shortest_encoding, one_spelling, pieces, requests_are_short, strict_is_read,

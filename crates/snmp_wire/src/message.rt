@@ -121,8 +121,9 @@ impl<'a> MessageRef<'a> {
 /// Decodes the message that a datagram encodes in BER (RFC 3417, section 8; X.690). If it encodes
 /// none, the error says why.
 ///
-/// Checks the whole datagram. Besides the standard's forms, accepts whole numbers that aren't
-/// minimal, and unsigned numbers without their leading zero octet.
+/// Checks the whole datagram. A length must have at most four octets after its first. Besides the
+/// standard's forms, accepts whole numbers that aren't minimal, and unsigned numbers without their
+/// leading zero octet.
 pub fn decode(datagram: &[u8]) -> Result<MessageRef<'_>, BerError>
     // The datagram encodes the message that is returned.
     ensures found { IfOk result (λ message. Spells message datagram.now) }
@@ -248,14 +249,14 @@ pub fn encode(parts: &Parts<'_>, out: &mut [u8]) -> Option<usize>
     requires community { length parts.now.community.now ≤ 65535 }
     requires bindings { All (λ b. IsEncodable (var_bind b)) parts.now.bindings.now }
     requires total { length (canon_bindings (var_binds parts.now.bindings.now)) ≤ 4000000000 }
-    // The octets of `out` after it are unchanged.
+    // The octets of `out` after the message are unchanged.
     ensures some { IfSome result (λ n.
         (n ≡ length (canon (parts_message parts.now)))
         × (out.new ≡ canon (parts_message parts.now) ++ drop n out.old)) }
     // What is written is a shortest encoding of the message, which has only one.
     ensures shortest { IfSome result
         (λ n. IsShortestEncoding (take n out.new) (parts_message parts.now)) }
-    // So it is decoded as that message.
+    // So the octets written are decoded as that message.
     ensures read { IfSome result (λ n. Spells (parts_message parts.now) (take n out.new)) }
     ensures variant { IsSome result ↔ (length (canon (parts_message parts.now)) ≤ length out.old) }
     ensures unchanged { IfNone result (out.new ≡ out.old) }
@@ -272,11 +273,11 @@ pub fn encode(parts: &Parts<'_>, out: &mut [u8]) -> Option<usize>
 }
 
 /// Returns the length, in octets, of the head of a message: its shortest encoding up to the first
-/// binding. The bindings take `total` octets together; those of `parts` aren't read.
+/// binding. The bindings take `total` octets together; `parts.bindings` isn't read.
 ///
 /// The community must have at most 65535 octets, and `total` must be at most 4,000,000,000.
-// `inline(always)`: called several times for one reply, with different totals. Inlined, what these
-// calls have in common is computed once.
+// `inline(always)`: called several times for one reply to a GetBulk, with different totals.
+// Inlined, what these calls have in common is computed once.
 #[inline(always)]
 #[tactic(auto, using(crate::proofs::WrittenMessages::head_sizes))]
 pub fn head_size(parts: &Parts<'_>, total: u64) -> u64
@@ -284,7 +285,7 @@ pub fn head_size(parts: &Parts<'_>, total: u64) -> u64
     requires total { total ≤ 4000000000 }
     ensures value { result ≡ length (canon_head (parts_message parts.now) total) }
     ensures at_most_70000 { result ≤ 70000 }
-    // The message is in range if its bindings are.
+    // The message is in range if its bindings are, and take at most 4,000,000,000 octets together.
     ensures range { (bindings : List VarBind) → AllByRecursion IsBindingInRange bindings
         → length (canon_bindings bindings) ≤ 4000000000
         → IsMessageInRange (with_bindings parts.now bindings) }
@@ -303,21 +304,21 @@ pub fn head_size(parts: &Parts<'_>, total: u64) -> u64
 }
 
 /// Writes the head of a message to the start of `out`, and returns its length. The head is the
-/// shortest encoding up to the first binding. The bindings take `total` octets together; those of
-/// `parts` aren't read. It requires what [`head_size`] requires.
+/// shortest encoding up to the first binding. The bindings take `total` octets together;
+/// `parts.bindings` isn't read. It requires what [`head_size`] requires.
 ///
 /// Returns `None` if `out` is shorter than that; `out` is then unchanged.
-// `inline(always)`: called for the head of each message that is written.
+// `inline(always)`: called for the head of each request of a walk.
 #[inline(always)]
 pub fn encode_head(parts: &Parts<'_>, total: u64, out: &mut [u8]) -> Option<usize>
     requires community { length parts.now.community.now ≤ 65535 }
     requires total { total ≤ 4000000000 }
-    // The octets of `out` after it are unchanged.
+    // The octets of `out` after the head are unchanged.
     ensures some { IfSome result (λ n.
         (n ≡ length (canon_head (parts_message parts.now) total))
         × (out.new ≡ canon_head (parts_message parts.now) total ++ drop n out.old)) }
-    // Followed by the encodings of `bindings`, it is a shortest encoding of the message with these
-    // bindings.
+    // If `bindings` are in range and take `total` octets together, then the head and their
+    // encodings after it are a shortest encoding of the message with these bindings.
     ensures shortest { (bindings : List VarBind)
         → AllByRecursion IsBindingInRange bindings
         → total ≡ length (canon_bindings bindings)
@@ -353,7 +354,8 @@ pub fn seal(parts: &Parts<'_>, at: usize, len: usize, out: &mut [u8]) -> Option<
         (n ≡ length (canon_head (parts_message parts.now) len) + len)
         × (take n out.new
         ≡ canon_head (parts_message parts.now) len ++ take len (drop at out.old))) }
-    // If these octets encode bindings in range, it is a shortest encoding.
+    // If the `len` octets are the shortest encodings of bindings in range, then a shortest
+    // encoding of the message with these bindings is written.
     ensures shortest { (bindings : List VarBind)
         → AllByRecursion IsBindingInRange bindings
         → take len (drop at out.old) ≡ canon_bindings bindings
@@ -447,7 +449,7 @@ fn put_head(out: &mut [u8], end: usize, parts: &Parts<'_>, total: u64) -> usize
 }
 
 /// Writes an INTEGER before `end`, and returns its offset.
-// `inline(always)`: called for four numbers of each message, most of which take one octet.
+// `inline(always)`: called for four numbers of each message. Most of them take one octet.
 #[inline(always)]
 fn put_integer_element(out: &mut [u8], end: usize, number: i32) -> usize
     requires room { length (canon_value (integer_value number)) ≤ end }

@@ -15,14 +15,15 @@ use snmp_oid::{Oid, order};
 use std::cmp::Ordering;
 use std::marker::Model;
 
-/// An upper bound of the octets in the content of an identifier: five for each of at most 128
-/// numbers.
+/// An upper bound on the number of octets in the content of an identifier: five for each of at
+/// most 128 numbers.
 pub const MAX_CONTENT: usize = 640;
 
 /// The name of an instance as it is encoded: the content octets of an identifier (X.690, 8.19).
 ///
-/// An identifier has one content, and a content encodes one identifier ([`encoded_names`]). So
-/// names are compared as they are in a datagram, without decoding their numbers.
+/// An identifier has at most one content, and a content encodes at most one identifier
+/// ([`encoded_names`]). So names are compared as they are in a datagram, without decoding their
+/// numbers.
 #[derive(Debug, Drop)]
 pub struct EncodedName<'a> {
     content: &'a [u8],
@@ -106,9 +107,9 @@ impl<'a> EncodedName<'a> {
         push_identifier(oid, self.content);
     }
 
-    /// Compares two names as identifiers ([`order`]). The first octet that differs decides, with
-    /// the lengths of the subidentifiers that contain it; the octets before it are compared eight
-    /// at a time.
+    /// Compares two names as identifiers ([`order`]). If one content is a prefix of the other, the
+    /// lengths decide. Otherwise the first octets that differ decide, with the lengths of their
+    /// subidentifiers. Contents of eight or more octets are compared eight octets at a time.
     // `inline(always)`: called for each comparison of a search, mostly of names of 8 to 24 octets.
     #[inline(always)]
     pub fn compare(&self, other: &EncodedName<'_>) -> Ordering
@@ -129,8 +130,8 @@ impl<'a> EncodedName<'a> {
     }
 }
 
-/// Compares the names of two contents if the shorter content has 8 to 24 octets and the first
-/// octets that differ decide. Otherwise returns `None`.
+/// Compares the names of two contents if the shorter content has 8 to 24 octets. Returns `None`
+/// for others, and if the first octets that differ are in subidentifiers that may end apart.
 #[inline(always)]
 fn compare_ends(content: &[u8], other: &[u8]) -> Option<Ordering>
     requires this { IsOk (reading.identifier_of content.now) }
@@ -158,7 +159,7 @@ fn compare_ends(content: &[u8], other: &[u8]) -> Option<Ordering>
 
 /// Returns the length of the common prefix of the two slices, but at most `both`, which must be 8
 /// to 24. Compares words of eight octets; the last word may overlap the one before.
-// `inline(always)`: called for each comparison of names.
+// `inline(always)`: called for most comparisons of names.
 #[inline(always)]
 fn words_alike(octets: &[u8], others: &[u8], both: usize) -> usize
     requires these { both ≤ length octets.now }
@@ -283,9 +284,10 @@ fn few_alike(octets: &[u8], others: &[u8]) -> usize
     count
 }
 
-/// Returns how many of the eight octets from `at` on are the same before the first that differs.
-/// The lowest bit in which the two words differ is in that octet.
-// `inline(always)`: called for each comparison of names.
+/// Returns how many of the eight octets from `at` on are the same before the first that differs,
+/// or 8 if none does. The lowest bit that differs between the two words is in the first octet that
+/// differs.
+// `inline(always)`: called for most comparisons of names.
 #[inline(always)]
 fn eight_alike(octets: &[u8], others: &[u8], at: usize) -> usize
     requires these { at + 8 ≤ length octets.now }

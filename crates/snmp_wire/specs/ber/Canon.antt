@@ -8,8 +8,8 @@ use Rattle.snmp_wire.specs.{ber.Identifier.subidentifiers, ber.Spelling.value_ta
 use Rattle.snmp_wire.specs.ber.Value.{Datum, integer_value, octet_string, object_id, ip_address}
 use Rattle.snmp_wire.specs.ber.Value.{counter32, gauge32, time_ticks, opaque_octets, counter64}
 
--- the number of digits of `n` to the base `base`: one if `n` is below `limit`, and one more for
--- each further power of the base, at most `more` more
+-- the number of digits to the base `base` that `n` takes: 1 if `n` is below `limit`, 2 if it is
+-- below `limit * base`, and so on; at most `1 + more`
 abbrev pub digit_count : ℕ → ℕ → ℕ → ℕ → ℕ
 digit_count base limit zero n = 1
 digit_count base limit (suc more) n =
@@ -24,7 +24,7 @@ digits base (suc count) n = (n / base ^ count % base) ∷ digits base count n
 abbrev pub octets : ℕ → ℕ → List ℕ
 octets count n = digits 256 count n
 
--- the number of octets that `n` takes in two's complement, where the first bit is the sign
+-- the number of octets, at most 9, that `n` takes in two's complement, whose first bit is the sign
 unfoldable pub number_size : ℕ → ℕ
 number_size n = digit_count 256 128 8 n
 
@@ -33,7 +33,7 @@ unfoldable pub canon_number : ℤ → List ℕ
 canon_number (pos n) = octets (number_size n) n
 canon_number (negsuc n) = octets (number_size n) (256 ^ number_size n - (n + 1))
 
--- the number of octets that a length takes in the long form, after the first octet
+-- the number of octets, at most 4, that a length takes in the long form after the first octet
 unfoldable pub length_size : ℕ → ℕ
 length_size n = digit_count 256 256 3 n
 
@@ -41,7 +41,7 @@ length_size n = digit_count 256 256 3 n
 unfoldable pub canon_length : ℕ → List ℕ
 canon_length n = if nat_lt n 128 then n ∷ [] else (128 + length_size n) ∷ octets (length_size n) n
 
--- the number of octets that a subidentifier takes, of seven bits each
+-- the number of octets, at most 5, that a subidentifier takes, of seven bits each
 unfoldable pub subidentifier_size : ℕ → ℕ
 subidentifier_size n = digit_count 128 128 4 n
 

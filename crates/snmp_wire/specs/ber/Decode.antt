@@ -78,7 +78,8 @@ unsigned_of width content =
 abbrev pub largest_subidentifier : ℕ
 largest_subidentifier = 4294967375
 
--- the rest of a subidentifier, whose octets so far make `n`, and the octets after it
+-- the subidentifier whose digits so far make `n` and whose other digits begin the octets, and the
+-- octets after it
 unfoldable pub subidentifier_from : ℕ → List ℕ → Result (ℕ × List ℕ) BerError
 subidentifier_from n [] = Err error.Content
 subidentifier_from n (octet ∷ rest) =
@@ -145,12 +146,13 @@ typed_value tag content =
 
 -- ---- for private functions
 
--- `result`, seen through `view`, is what `read` says
+-- a function's `result` is what the definition computes (`read`): the same fault, or the same
+-- value, which `view` takes to its value in definitions
 abbrev pub AgreesBy : {X Y : Type 0} → (X → Y) → Result X BerError → Result Y BerError → Type 0
 AgreesBy view (Ok x) read = read ≡ Ok (view x)
 AgreesBy view (Err e) read = read ≡ Err e
 
--- whether something was decoded, without its value
+-- `read` without its value: that it succeeded, or its fault
 abbrev pub checked : {A : Type 0} → Result A BerError → Result (Unit {0}) BerError
 checked read = read >>= λ _. Ok tt
 

@@ -23,7 +23,7 @@ AreSubidentifiers octets (n ∷ more) =
     × IsSubidentifier first n × AreSubidentifiers rest more
 
 -- the subidentifiers of an identifier (8.19.4): one for its first two numbers together, and one
--- for each of the others
+-- for each of the others; none if it has fewer than two numbers
 abbrev pub subidentifiers : List ℕ → List ℕ
 subidentifiers [] = []
 subidentifiers (x ∷ []) = []

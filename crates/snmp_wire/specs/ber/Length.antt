@@ -1,15 +1,15 @@
--- Lengths and elements (X.690, 8.1). RFC 3417, section 8 allows only definite lengths; of those,
--- the ones with up to four octets are accepted here.
+-- Lengths and elements (X.690, 8.1). RFC 3417, section 8 allows only definite lengths. Of those,
+-- the short form is accepted here, and the long form with up to four octets after its first.
 use Rattle.std.specs.Prelude.{◌≡◌, ℕ, ◌+◌, ◌<◌, ◌≤◌, ◌⊎◌, List, [], ◌∷◌, ◌++◌, length}
 use Rattle.snmp_wire.specs.ber.Number.{unsigned}
 
--- the short form (X.690, 8.1.3.4): one octet below 128
+-- `octets` are the short form of the length `n` (X.690, 8.1.3.4): one octet below 128
 pub record IsShortLength (octets : List ℕ) (n : ℕ) : Type 0 where
   pub small : n < 128
   pub one : octets ≡ n ∷ []
 
--- the long form (X.690, 8.1.3.5): 128 plus the number of octets of the length, which is 1 to 4,
--- and then these octets, even if fewer would do
+-- `octets` are a long form of the length `n` (X.690, 8.1.3.5): 128 plus the number of octets of
+-- the length, which is 1 to 4, and then these octets, even if fewer would do
 pub record IsLongLength (octets : List ℕ) (n : ℕ) : Type 0 where
   pub digits : List ℕ
   pub some : 1 ≤ length digits

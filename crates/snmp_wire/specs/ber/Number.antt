@@ -36,13 +36,14 @@ pub data Form : Type 0 where
   lenient : Form
   strict : Form
 
--- the form allows `content`: in two's complement the high bit of an unsigned number is clear
+-- the form allows `content`: `lenient` allows any; `strict` requires that the high bit of the
+-- first octet is clear, as in two's complement
 abbrev pub Admits : Form → List ℕ → Type 0
 Admits lenient content = Unit {0}
 Admits strict content = slice_index content 0 < 128
 
--- `content` encodes the unsigned number `n` of at most `width` octets: it has 1 to `width` octets,
--- or one more of which the first is zero
+-- `content` encodes the unsigned number `n` in this form: it has 1 to `width` octets, or
+-- `width + 1` octets that begin with a zero
 pub record IsUnsigned (form : Form) (width : ℕ) (content : List ℕ) (n : ℕ) : Type 0 where
   pub some : 1 ≤ length content
   pub few : (length content ≤ width) ⊎ ((length content ≡ width + 1) × (slice_index content 0 ≡ 0))

@@ -13,9 +13,9 @@ pub record ElementSizes : Type 0 where
   pub long_length : (n : ℕ) → 128 ≤ n → length (canon_length n) ≡ 1 + length_size n
   -- there is at least one digit
   pub digits : (base limit more n : ℕ) → 1 ≤ digit_count base limit more n
-  -- a number from 0
+  -- a number that isn't negative takes `number_size` octets
   pub number : (n : ℕ) → length (canon_number (pos n)) ≡ number_size n
-  -- an INTEGER of 32 bits, below zero or not
+  -- an INTEGER of 32 bits takes at most 6 octets, its header included
   pub integer : (z : ℤ) → FitsSigned w32 z → length (canon_value (integer_value z)) ≤ 6
   -- a tag and a length
   pub header : (tag size : ℕ) → length (canon_header tag size) ≡ 1 + length (canon_length size)

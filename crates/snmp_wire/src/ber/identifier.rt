@@ -14,7 +14,7 @@ use crate::ber::BerError;
 use crate::ber::writing::{put_octet, put_text};
 use snmp_oid::Oid;
 
-/// The largest subidentifier: that of 2 and the largest number, 80 + 4294967295.
+/// The largest subidentifier: the numbers 2 and 4294967295 together make 80 + 4294967295.
 const LARGEST_SUBIDENTIFIER: u64 = 4294967375;
 
 /// The number of numbers that may follow the first two.
@@ -27,7 +27,7 @@ fn subidentifier_at(octets: &[u8]) -> Result<(u64, &[u8]), BerError>
     ensures { AgreesBy (λ x. (x.0, x.1.now)) result (reading.subidentifier_at octets.now) }
 {
     match octets {
-        // Most have one octet, and most others two.
+        // Most subidentifiers have one octet, and most others two.
         [octet, rest @ ..] if *octet < 0x80 => Ok((u64::from(*octet), rest)),
         [] | [0x80, ..] => Err(BerError::Content),
         [high, low, rest @ ..] if *low < 0x80 => {
@@ -39,7 +39,8 @@ fn subidentifier_at(octets: &[u8]) -> Result<(u64, &[u8]), BerError>
     }
 }
 
-/// Returns the number of three digits to the base 128. The last digit has a clear high bit.
+/// Returns the number that three base-128 digits write, the lowest seven bits of each octet. The
+/// high bit of `low` must be clear.
 // `inline(always)`: inlined, it is a few instructions for each number of three digits, as most
 // enterprises have.
 #[inline(always)]
@@ -51,9 +52,9 @@ fn three_digits(high: u8, mid: u8, low: u8) -> u64
     (u64::from(high % 128) * 128 + u64::from(mid % 128)) * 128 + u64::from(low)
 }
 
-/// Returns the number of the base-128 digits at the start of `octets`, the last of which has a
-/// clear high bit, and the octets after it. Fails if no octet has, or if the number is above the
-/// largest subidentifier.
+/// Returns the number whose base-128 digits begin `octets` and end at the first octet with a clear
+/// high bit, and the octets after that. Fails if no octet has a clear high bit, or if the number
+/// is above the largest subidentifier.
 #[tactic(auto, using(crate::proofs::ReadIdentifiers::digit_steps))]
 fn digits_at(octets: &[u8]) -> Result<(u64, &[u8]), BerError>
     ensures { AgreesBy (λ x. (x.0, x.1.now)) result (reading.subidentifier_from 0 octets.now) }
@@ -85,7 +86,7 @@ fn number_at(octets: &[u8]) -> Result<(u32, &[u8]), BerError>
 }
 
 /// Does what [`subidentifier_at`] does, for octets that are known to begin with a subidentifier.
-/// Checks nothing again.
+/// One of at most three octets isn't checked again.
 #[inline]
 #[tactic(auto, using(std::proofs::lemmas::Grind::common_steps, crate::proofs::ReadIdentifiers::reads_short))]
 fn subidentifier_in(octets: &[u8]) -> (u64, &[u8])
@@ -122,8 +123,8 @@ fn digits_in(octets: &[u8]) -> (u64, &[u8])
     }
 }
 
-/// Does what [`number_at`] does, for octets that are known to begin with a number. Checks nothing
-/// again.
+/// Does what [`number_at`] does, for octets that are known to begin with a number. It isn't tested
+/// again that the number has 32 bits.
 #[inline]
 fn number_in(octets: &[u8]) -> (u32, &[u8])
     requires { IsOk (reading.number_at octets.now) }
@@ -494,8 +495,8 @@ pub fn put_identifier(out: &mut [u8], end: usize, name: &Oid) -> usize
     put_subidentifier(out, start, first_subidentifier(*first, *second))
 }
 
-/// Writes `numbers` before `end`, each as a subidentifier, and returns their offset.
-/// [`numbers_size`] says what most numbers are.
+/// Writes `numbers` before `end`, each as a subidentifier, and returns their offset. If eight
+/// numbers of one octet precede the last, as in most names, these are written at once.
 // `inline(always)`: its single caller writes each name.
 #[inline(always)]
 #[tactic(auto, using(crate::proofs::WrittenIdentifiers::subidentifier_sizes))]

@@ -11,7 +11,7 @@ use crate::ber::writing::put_octet;
 /// Returns the length that is encoded at the start of `octets`, and the octets after it. Fails
 /// with `cut` if the octets end before the length does.
 #[tactic(auto, unfolding(crate::specs::ber::Decode::length_at))]
-// `inline(always)`: called for each element. Inlined, its result stays in registers.
+// `inline(always)`: called for many elements of a message. Inlined, its result stays in registers.
 #[inline(always)]
 fn length_at(octets: &[u8], cut: BerError) -> Result<(usize, &[u8]), BerError>
     ensures { AgreesBy (λ x. (x.0, x.1.now)) result (reading.length_at cut octets.now) }
@@ -49,7 +49,7 @@ fn long_length_at(first: u8, octets: &[u8], cut: BerError) -> Result<(usize, &[u
 /// Returns the content of an element and the octets after it; `octets` follow the element's tag.
 /// Fails with `cut` if the octets end before the content does.
 #[tactic(auto, unfolding(crate::specs::ber::Decode::content_at))]
-// `inline(always)`: called for each element. Inlined, its result stays in registers.
+// `inline(always)`: called for many elements of a message. Inlined, its result stays in registers.
 #[inline(always)]
 pub fn content_at(octets: &[u8], cut: BerError) -> Result<(&[u8], &[u8]), BerError>
     ensures { AgreesBy (λ x. (x.0.now, x.1.now)) result (reading.content_at cut octets.now) }
@@ -64,7 +64,7 @@ pub fn content_at(octets: &[u8], cut: BerError) -> Result<(&[u8], &[u8]), BerErr
 /// Returns the content of the inner element at the start of `octets`, which must have this tag,
 /// and the octets after it.
 #[tactic(auto, unfolding(crate::specs::ber::Decode::inner_at))]
-// `inline(always)`: called for each element. Inlined, its tag is a constant.
+// `inline(always)`: called for many elements of a message. Inlined, its tag is a constant.
 #[inline(always)]
 pub fn inner_at(tag: u8, octets: &[u8]) -> Result<(&[u8], &[u8]), BerError>
     ensures { AgreesBy (λ x. (x.0.now, x.1.now)) result (reading.inner_at tag octets.now) }
@@ -84,7 +84,7 @@ pub fn inner_at(tag: u8, octets: &[u8]) -> Result<(&[u8], &[u8]), BerError>
 /// Returns the tag and the content of the inner element at the start of `octets`, and the octets
 /// after it.
 #[tactic(auto, unfolding(crate::specs::ber::Decode::element_at))]
-// `inline(always)`: called for each element. Inlined, its result stays in registers.
+// `inline(always)`: called for many elements of a message. Inlined, its result stays in registers.
 #[inline(always)]
 pub fn element_at(octets: &[u8]) -> Result<(u8, &[u8], &[u8]), BerError>
     ensures { AgreesBy (λ x. (x.0, x.1.now, x.2.now)) result (reading.element_at octets.now) }
@@ -98,7 +98,8 @@ pub fn element_at(octets: &[u8]) -> Result<(u8, &[u8], &[u8]), BerError>
     }
 }
 
-/// Returns the number of octets that the long form of a length takes after the first.
+/// Returns the number of octets, 1 to 4, that the long form of a length of at most 32 bits takes
+/// after the first.
 #[inline]
 #[tactic(auto, unfolding(crate::specs::ber::Canon::length_size))]
 fn digits_size(size: u64) -> usize

@@ -26,7 +26,7 @@ pub(crate) fn unsigned(octets: &[u8]) -> u64
 
 /// Returns the INTEGER of 32 bits whose two's complement is `content`, of one to four octets.
 #[tactic(auto, unfolding(crate::specs::ber::Decode::integer_of))]
-// `inline(always)`: called for each value of its type, and for four numbers of each message.
+// `inline(always)`: called for each value of its type that is read.
 #[inline(always)]
 pub(crate) fn integer_of(content: &[u8]) -> Result<i32, BerError>
     ensures { AgreesBy (λ z. z) result (reading.integer_of content.now) }
@@ -64,7 +64,7 @@ pub fn integer_at(octets: &[u8]) -> Result<(i32, &[u8]), BerError>
     ensures { AgreesBy (λ x. (x.0, x.1.now)) result (reading.integer_at octets.now) }
 {
     match octets {
-        // Most have one octet, as the version, the error-status and the error-index.
+        // Most have one octet: the version, the error-status and the error-index, for example.
         [tag::INTEGER, 1, octet, rest @ ..] if *octet < 0x80 => Ok((i32::from(*octet), rest)),
         _ => any_integer_at(octets),
     }
@@ -80,8 +80,8 @@ fn any_integer_at(octets: &[u8]) -> Result<(i32, &[u8]), BerError>
     Ok((integer_of(content)?, rest))
 }
 
-/// Returns whether the content of an unsigned number has 1 to `width` octets, or one octet more of
-/// which the first is zero.
+/// Returns whether the content of an unsigned number has 1 to `width` octets, or `width + 1`
+/// octets that begin with a zero.
 #[inline]
 pub(crate) fn has_width(width: usize, content: &[u8]) -> bool
     requires { width ≤ 8 }
@@ -94,7 +94,7 @@ pub(crate) fn has_width(width: usize, content: &[u8]) -> bool
 }
 
 /// Returns the unsigned number of 32 bits that `content` encodes.
-// `inline(always)`: called for each value of its type, as those of most columns.
+// `inline(always)`: called for each unsigned value of 32 bits that is read, as most columns have.
 #[inline(always)]
 pub(crate) fn unsigned32(content: &[u8]) -> u32
     requires { IsTrue (reading.has_width 4 content.now) }
@@ -213,7 +213,8 @@ pub fn put_integer(out: &mut [u8], end: usize, number: i32) -> usize
     put_octets(out, end, integer_size(number), sign_extended(number))
 }
 
-/// Returns the two's complement of 64 bits, whose lowest octets are the content of the number.
+/// Returns `number` in two's complement of 64 bits. Its lowest octets are the content of the
+/// INTEGER.
 #[inline]
 #[tactic(auto, using(std::proofs::lemmas::Grind::common_steps, crate::proofs::NumberSizes::extended_below, crate::proofs::NumberSizes::extended_above))]
 fn sign_extended(number: i32) -> u64

@@ -22,7 +22,7 @@ impl Model for OctetString {
 }
 
 impl OctetString {
-    /// Returns a copy of `octets`. Allocates memory for it, and fails only if memory runs out.
+    /// Returns a copy of `octets`, in memory of its own. Fails only if memory runs out.
     pub fn from_slice(alloc: Global, octets: &[u8]) -> Result<OctetString, AllocError>
         ensures { IfOk result (λ s. s ≡ octets.now) }
     {

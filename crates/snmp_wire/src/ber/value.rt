@@ -33,7 +33,7 @@ pub enum ValueRef<'a> {
     Null,
     /// OBJECT IDENTIFIER, tag 06.
     ObjectId(Oid),
-    /// IpAddress, tag 40: the four octets of the address, in its order.
+    /// IpAddress, tag 40: the four octets of the address, in network byte order.
     IpAddress([u8; 4]),
     /// Counter32, tag 41.
     Counter32(u32),
@@ -58,7 +58,8 @@ pub enum ValueRef<'a> {
 // `inline(always)`: called for each binding that is checked.
 #[inline(always)]
 pub fn check_value(tag: u8, content: &[u8]) -> Result<(), BerError>
-    // `Ok` if and only if they encode a value: lemmas `value_gives` and `value_again`.
+    // `Ok` if and only if a value has this tag and content: lemmas `value_gives` and
+    // `value_again`.
     ensures { AgreesBy (λ u. u) result (checked (reading.typed_value tag content.now)) }
 {
     match tag {
@@ -75,8 +76,8 @@ pub fn check_value(tag: u8, content: &[u8]) -> Result<(), BerError>
     }
 }
 
-/// Checks that the content of a value is an identifier. Few values are identifiers, so this isn't
-/// inlined.
+/// Checks that the content of a value encodes an identifier. Few values are identifiers, so this
+/// isn't inlined.
 #[inline(never)]
 fn check_object_id(content: &[u8]) -> Result<(), BerError>
     ensures { AgreesBy (λ u. u) result (checked (reading.identifier_of content.now)) }
@@ -85,8 +86,8 @@ fn check_object_id(content: &[u8]) -> Result<(), BerError>
 }
 
 /// Reads the value with this tag and content into `into`. The content must have been checked.
-// `inline(always)`: called for each binding that is read. Over a value of the same type this is a
-// store or two.
+// `inline(always)`: called for each binding that is read. Over a value of the same type this is
+// mostly a store or two.
 #[inline(always)]
 pub fn read_value<'a>(tag: u8, content: &'a [u8], into: &mut ValueRef<'a>)
     requires { IsOk (reading.typed_value tag content.now) }
@@ -141,9 +142,9 @@ fn set_object_id<'a>(content: &'a [u8], into: &mut ValueRef<'a>)
     *into = ValueRef::ObjectId(identifier_of(content));
 }
 
-/// If `value` already has the type of this tag, as the values of a column have, sets it to the
-/// value with this content and returns `true`. Otherwise returns `false`, and so it does for the
-/// types that have no case here. Setting only the content saves writing over 500 octets.
+/// If `value` already has the type of this tag, as in a column, sets it to the value with this
+/// content and returns `true`. Otherwise, and for the types without a case here, returns `false`.
+/// Setting only the content saves writing all octets of a [`ValueRef`], over 500.
 #[tactic(auto, unfolding(crate::specs::ber::Decode::typed_value, crate::specs::ber::Decode::unsigned_of))]
 // `inline(always)`: its single caller calls it for each binding that is read.
 #[inline(always)]

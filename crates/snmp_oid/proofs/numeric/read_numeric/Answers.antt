@@ -24,7 +24,7 @@ returns-then-is_dot-clause-too_long c = (
 pub parts-init : goal.parts-init
 parts-init c = grind (arith, common_steps, parse_begins)
 
--- the next part isn't a numeral
+-- if the next part isn't a numeral, then it is the first bad part, and the text names nothing
 first_bad : (c : goal.In_default-number) → IsFirstBadPart c.args.text.now (length c.args.text.now - length c.in-Some.here.now)
 first_bad c = bad_part_here (rw c.in-Some.is at c.parts.invariant) (rw c.in_default-number.is at c.read_part-number.ensures)
 
@@ -44,13 +44,13 @@ returns-in_default-number-clause-bad_number c =
 pub returns-in_default-number-clause-too_long : goal.returns-in_default-number-clause-too_long
 returns-in_default-number-clause-too_long c = (λ same. (let no : ⊥ = cc in absurd no), λ long. absurd (no_name c long.0 long.1))
 
--- a push appends the number, or there is no room for it
+-- if a push appends n exactly when there is room for it, then `new` is `kept` after the number n
 keeps : (r : Result (Unit {0}) OidError) (kept new : List ℕ) (too_long : Bool) (n : ℕ) → (IsOk r ↔ (length kept < 128)) → OnOk r (new ≡ kept ++ n ∷ [])
     → OnErr r (new ≡ kept) → Keeps kept too_long n new (cond (is_err r) true too_long)
 keeps (Ok u) kept new too_long n variant pushed same = inl (variant.0 refl, pushed, refl)
 keeps (Err fault) kept new too_long n variant pushed same = grind (arith, common_steps)
 
--- one more part is read
+-- after one more part, the text is read up to the end of this part
 pub parts-preserved-then-is_err : goal.parts-preserved-then-is_err
 parts-preserved-then-is_err c =
     let full : is_err c.push.result ≡ true = cc (c.is_err.ensures.value, c.if-is_err.true) in
@@ -70,7 +70,7 @@ parts-preserved c =
 pub parts-preserved-in-Some-read_three : goal.parts-preserved-in-Some-read_three
 parts-preserved-in-Some-read_three c = parse_digits (rw c.in-Some.is at c.parts.invariant) c.in-Some-read_three.ensures.three
 
--- at its end, the whole text is read, and it has too many numbers
+-- after the loop, the whole text is read; `too_long` says whether it has more than 128 numbers
 ended_long : (c : goal.Then-too_long) → IsParsedTo c.args.text.now None c.parts.oid true
 ended_long c = rw (c.in_default.is, c.if-too_long.true) at c.parts.invariant
 

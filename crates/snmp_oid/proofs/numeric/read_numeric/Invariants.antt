@@ -5,7 +5,7 @@ use Rattle.snmp_oid.proofs.numeric.read_numeric.Given as goal
 abbrev pub invariant-parts : goal.invariant-parts
 invariant-parts l = IsParsedTo l.text (option_map (λ s. s.now) l.left) l.oid l.too_long
 
--- the number of octets left and 1, or 0 if nothing is left
+-- one more than the number of octets left, or 0 if nothing is left
 abbrev octets_left : Option (List ℕ) → ℕ
 octets_left None = 0
 octets_left (Some here) = length here + 1

@@ -7,8 +7,8 @@ use Rattle.snmp_wire.proofs.name.compare_ends.Goals.{After-words_alike-at, else-
 use Rattle.snmp_wire.proofs.name.compare_ends.Goals.{else-octet-ge128-via-then-octet-ge128+else-beside-ge128}
 use Rattle.snmp_wire.proofs.name.compare_ends.Goals.{else-octet-ge128-via-then-octet-ge128+then-beside-ge128+else-not-both_end}
 
--- if an octet has the high bit set and the next one ends the subidentifier, it ends there for the
--- first one too
+-- if the octet at `at` has the high bit set, and the next octet is the last of its subidentifier,
+-- then the subidentifier that contains the octet at `at` ends at the next one
 goes_on_to : (content : List ℕ) (at : ℕ) → 128 ≤ get_or content at 0 → EndsAt content (at + 1) (at + 1) → EndsAt content at (at + 1)
 goes_on_to content at high e = grind (arith, common_steps)
 

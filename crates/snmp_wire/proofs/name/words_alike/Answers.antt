@@ -4,7 +4,7 @@ use Rattle.snmp_wire.specs.Name.{IsAlike}
 use Rattle.snmp_wire.proofs.NameOrder.{more_alike, nothing_alike}
 use Rattle.snmp_wire.proofs.name.words_alike.Goals as goal
 
--- at least eight octets are the same, so the first eight are
+-- if the first `count` octets are the same, and these are at least eight, then the first eight are
 first_eight : {octets others : List ℕ} {count : ℕ} → 8 ≤ count → 8 ≤ length octets → 8 ≤ length others
     → ((k : ℕ) → k < count → get_or octets (0 + k) 0 ≡ get_or others (0 + k) 0) → IsAlike octets others 8
 first_eight {octets} {others} all these those same =

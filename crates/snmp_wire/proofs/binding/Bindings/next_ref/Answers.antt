@@ -6,7 +6,7 @@ use Rattle.snmp_wire.proofs.binding.Bindings.next_ref.Goals as goal
 pub returns-then-is_empty-clause-none : goal.returns-then-is_empty-clause-none
 returns-then-is_empty-clause-none c = grind (arith, common_steps, bindings_in_end, none_left)
 
--- the fields at the start of the octets are those of the first binding
+-- the fields at the start of the octets are the fields of the first binding
 
 pub invariant_of-result : goal.invariant_of-result
 invariant_of-result c = (expects _ _ _ c.self.invariant (some_left _ _ c.is_empty.ensures c.if-is_empty.false) c.fields_in.ensures).is_binding
