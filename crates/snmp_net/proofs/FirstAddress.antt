@@ -1,4 +1,4 @@
--- The first item of a kind among those that an iterator over a prefix of a list has left.
+-- The first `n` items of a list, one at a time, for a loop that looks for the first item that passes a test.
 use Rattle.std.proofs.Common.{◌≡◌, ℕ, zero, suc, ◌+◌, ◌<◌, Bool, false, cond, List, [], ◌∷◌, length, take, find, Some, refl, ◌∙◌, ap, arith}
 
 pub first_taken : {A : Type 0} (n m : ℕ) (s t : List A) (x : A) → s ≡ x ∷ t → m + 1 ≡ n → take n s ≡ x ∷ take m t

@@ -29,7 +29,7 @@ host_test text false some finds = (
   λ host. cc,
 )
 
--- an argument is split at the colon after its host
+-- if an argument is a host, a colon and digits, then a split at its first colon returns this host and these digits
 pub parted : (word : List ℕ) (r : Option (Bor (List ℕ) × Bor (List ℕ))) → IsSplitOnceResult 58 word r
     → (host : List ℕ) (port : ℕ) (at : IsPortOfHost word host port)
     → MatchOption r ⊥ (λ x. (x.0.now ≡ host) × (x.1.now ≡ at.digits))

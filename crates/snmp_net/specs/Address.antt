@@ -1,10 +1,10 @@
--- The arguments that say where an agent is reached.
+-- The arguments that name an agent, and the address that a server listens on.
 use Rattle.std.specs.Prelude.{◌≡◌, ◌≢◌, ◌≤◌, ◌⊎◌, ◌++◌, ℕ, List, [], ◌∷◌, Contains, codes}
 use Rattle.std.specs.Str.Parse.{IsNumeral, digits_value}
 use Rattle.snmp_net.specs.declared.address.AgentAddress.{AgentAddress}
 use Rattle.snmp_net.specs.declared.address.AgentAddress.TheVariants as agent
 
--- where an agent is: over the table in a file, or at a UDP port of a host
+-- the address of an agent: the file of the table that it serves in memory, or a UDP port of a host
 pub data Address : Type 0 where
   table : (path : List ℕ) → Address
   udp : (host : List ℕ) → (port : ℕ) → Address
@@ -13,7 +13,7 @@ pub data Address : Type 0 where
 abbrev pub colon : ℕ
 colon = 58
 
--- the text is a host: a name or an IPv4 address
+-- the text can be a host, a name or an IPv4 address: it isn't empty and has no colon
 pub record IsHost (host : List ℕ) : Type 0 where
   pub some : host ≢ []
   pub no_colon : ¬ Contains host colon
@@ -42,15 +42,16 @@ IsTarget word host port =
 abbrev pub LacksPrefix : (word prefix : List ℕ) → Type 0
 LacksPrefix word prefix = (rest : List ℕ) → word ≢ prefix ++ rest
 
--- The argument says where requests are received: a host and its port. It doesn't begin with
+-- The argument is the address that a server listens on: a host and its port. It doesn't begin with
 -- `table:` or `udp:`, the prefixes of an argument that names an agent.
 abbrev pub IsHostAndPort : (word host : List ℕ) → (port : ℕ) → Type 0
 IsHostAndPort word host port =
     LacksPrefix word (codes "table:") × LacksPrefix word (codes "udp:")
     × IsPortOfHost word host port
 
--- The argument says where an agent is. One that begins with `table:` or `udp:` is read as that; a
--- path isn't empty.
+-- The argument names the agent at this address: `table:` and a path that isn't empty; or a host,
+-- perhaps with its port, perhaps after `udp:`. An argument that begins with `table:` or `udp:` has
+-- no other meaning than this prefix says.
 abbrev pub IsAgent : (word : List ℕ) → Address → Type 0
 IsAgent word (table path) = (path ≢ []) × (word ≡ codes "table:" ++ path)
 IsAgent word (udp host port) =

@@ -9,24 +9,24 @@ use Rattle.snmp_walk.specs.declared.memory.MemoryLink.{MemoryLink}
 use Rattle.snmp_net.specs.declared.memory.MemoryAgent.{MemoryAgent}
 use Rattle.snmp_net.specs.declared.memory.MemoryDoor.{MemoryDoor}
 
--- the first of the agents that is reached at the port of the host
+-- the first of the agents with this host and port, if there is one
 abbrev pub agent_at : List MemoryAgent → (host : List ℕ) → (port : ℕ) → Option MemoryAgent
 agent_at agents host port = find (λ a. bytes_eq a.host.now host && (a.port == port)) agents
 
--- the link is to the agent, and nothing was sent over it
+-- the link is to the agent; nothing was sent over it, and nothing failed
 pub record IsLinkTo (agent : MemoryAgent) (link : MemoryLink) : Type 0 where
   pub agents : agents_of link ≡ agents_over (agent.table.now ∷ []) agent.config
   pub traffic : traffic_of link ≡ record { sent = []; ahead = agent.deliveries.now }
   pub no_fault : link.fault_count ≡ 0
   pub honest : IsHonest link
 
--- the link is to the agent that is reached at the port of the host
+-- the link is to the first of the agents with this host and port
 abbrev pub OpensTo : List MemoryAgent → (host : List ℕ) → (port : ℕ) → MemoryLink → Type 0
 OpensTo agents host port link =
     (agent : MemoryAgent) × (agent_at agents host port ≡ Some agent) × IsLinkTo agent link
 
--- no agent is reached at the port of the host; all of the requests are still to come at the door,
--- and nothing has failed there
+-- the door can be opened at this host and port: none of the agents has them, all of the requests
+-- are still to come at the door, and nothing has failed there
 abbrev pub BindsAt : List MemoryAgent → (requests : List (Bor (List ℕ))) → (host : List ℕ)
     → (port : ℕ) → MemoryDoor → Type 0
 BindsAt agents requests host port door =
@@ -48,8 +48,8 @@ HappensAtDoor old receive_failed new = (request : List ℕ)
 HappensAtDoor old (sent peer datagram) new = ahead_of new ≡ ahead_of old
 HappensAtDoor old (send_failed peer datagram) new = ⊥
 
--- The agent served `turns` turns at the door, with the counts `served`, and took it from one state
--- to the other: each request that arrived there, in order, has its reply or is dropped.
+-- The agent served `turns` turns at the door, with the counts `served`, and took the door from the
+-- state `old` to `new`: each request that arrived, in order, has its reply or is dropped.
 abbrev pub AreServed : MemoryDoor → Agent → (turns : ℕ) → Served → MemoryDoor → Type 0
 AreServed old agent turns served new =
     (events : List (Event (Unit {0}))) × AreTurns agent turns served events

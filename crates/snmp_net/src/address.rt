@@ -1,9 +1,9 @@
-//! The arguments that say where an agent is reached, such as `table:FILE`, `router`,
-//! `udp:10.0.0.1:1161`.
+//! The arguments that name an agent, such as `table:FILE`, `router`, `udp:10.0.0.1:1161`, and the
+//! address that a server listens on.
 ghost use Rattle.std.specs.Prelude.{◌≡◌, ◌≢◌, ℕ, List, [], Contains, IsTrue, IfSome, IfNone, ◌↔◌};
 ghost use Rattle.snmp_net.specs.Address.{IsHost, IsHostAndPort, IsPort, IsPortOfHost, IsTarget};
 
-/// The UDP port at which agents listen (RFC 3417, section 3.2).
+/// The UDP port that agents listen on by default (RFC 3417, section 3.2).
 const SNMP_PORT: u16 = 161;
 
 /// A UDP port of a host.
@@ -19,9 +19,9 @@ impl<'a> UdpAddress<'a> {
     ghost use Rattle.std.specs.Prelude.{◌≡◌, ℕ, List, IfSome, IfNone};
     ghost use Rattle.snmp_net.specs.Address.{IsHostAndPort, IsPortOfHost, IsTarget};
 
-    /// Reads `HOST:PORT`, the argument that says where an agent receives requests: a host that
-    /// isn't empty, and a port from 1 to 65535. An argument that begins with `table:` or `udp:`
-    /// isn't read, since it names an agent.
+    /// Reads `HOST:PORT`, the address that a server listens on: a host that isn't empty, and a
+    /// port from 1 to 65535. Returns `None` for any other argument, and for one that begins with
+    /// `table:` or `udp:`, the prefixes of arguments that name an agent.
     pub fn read(word: &'a str) -> Option<UdpAddress<'a>>
         ensures stated { IfSome result (λ at. IsHostAndPort word.now at.host.now at.port) }
         ensures only { IfSome result (λ at. (host : List ℕ) (port : ℕ)
@@ -73,7 +73,7 @@ impl<'a> UdpAddress<'a> {
     }
 }
 
-/// Where an agent is reached.
+/// The address of an agent.
 #[derive(Clone, Copy, Debug, PartialEq, Eq)]
 pub enum AgentAddress<'a> {
     /// The agent is in this process, over the table in the file at this path.
@@ -87,7 +87,8 @@ impl<'a> AgentAddress<'a> {
     ghost use Rattle.snmp_net.specs.Address.{Address, IsAgent, address_of};
 
     /// Reads the argument that names an agent: `table:PATH`, or `HOST` or `HOST:PORT`, perhaps
-    /// after `udp:`. One that begins with `table:` or `udp:` is read as that.
+    /// after `udp:`. What begins with `table:` or `udp:` isn't read as a host of this name with a
+    /// port.
     pub fn read(word: &'a str) -> Option<AgentAddress<'a>>
         ensures stated { IfSome result (λ agent. IsAgent word.now (address_of agent)) }
         ensures only { IfSome result (λ agent. (other : Address)

@@ -1,7 +1,8 @@
-//! The network: which agent an argument names, links to agents over UDP, and sockets at which a
-//! table is served (RFC 3417, section 3).
+//! The network: which agent an argument names, links to agents over UDP, and the sockets of
+//! servers (RFC 3417, section 3).
 //!
-//! Built on the walk, whose links these are, and on the agent. The tools open their links here.
+//! Built on `snmp_walk`, which defines what a link is, and on `snmp_agent`. The tools open their
+//! links here.
 //!
 //! # Examples
 //!
@@ -15,7 +16,7 @@
 //! ```
 //!
 //! A walk over UDP. The caller opens its link through the network of `rt`; a receive over it waits
-//! a second:
+//! up to one second:
 //!
 //! ```
 //! let mut link = UdpLink::open(&rt, "192.0.2.1", 161, 1)?;

@@ -1,4 +1,4 @@
-//! What opens links to agents, and doors: sockets at which a table is served.
+//! The trait [`Links`]: it opens links to agents, and doors, which are the sockets of servers.
 ghost use Rattle.std.specs.Prelude.{◌≡◌, ◌<◌, ◌+◌, [], ℕ, List, IfOk, OnOk, OnErr};
 ghost use Rattle.snmp_io.specs.Count.{HasIncreased};
 ghost use Rattle.snmp_agent.specs.{Reply.Agent, Reply.agent_of, declared.server.Served.Served};
@@ -6,21 +6,21 @@ ghost use Rattle.snmp_agent.specs.{Reply.Agent, Reply.agent_of, declared.server.
 use snmp_agent::{Config, Served, Table};
 use snmp_walk::{Link, LinkFault};
 
-/// A network: it opens links to agents, and doors, at which an agent is served.
+/// A network: it opens links to agents, and doors, which are the sockets of servers.
 ///
-/// What a walk promises rests on the facts of the link that it opens. Of the machine's own links,
-/// only the counts of faults are known.
+/// The contract of a walk is stated with the facts of its link. Of the machine's own links, only
+/// the counts of faults are known.
 pub trait Links {
-    /// A link to an agent. It can't be dropped: the caller of `open` must close it, so that
-    /// `closes` says in which state it ended.
+    /// A link to an agent. It can't be dropped: the caller of `open` must pass it to `close`, so
+    /// that `closes` says what its last state was.
     type Wire: Link;
 
-    /// A door: a socket, or what stands for one in memory, at which an agent receives requests and
-    /// sends its replies.
+    /// A door: a server's socket, or what replaces it in memory. A server receives requests from
+    /// it and sends its replies through it.
     type Door: Drop;
 
     /// `opens old host port seconds wire new`: in state `old`, the link `wire` can be opened to
-    /// this port of `host`, which leaves the network in state `new`. A receive over it waits
+    /// this port of `host`, which leaves the network in state `new`. A receive over it waits up to
     /// `seconds` seconds.
     ghost opens: { Self → (host : List ℕ) → (port seconds : ℕ) → Self.Wire → Self → Type 0 };
 
@@ -37,16 +37,16 @@ pub trait Links {
     /// state `after`.
     ghost serves: { Self → Self.Door → Agent → (turns : ℕ) → Served → Self → Self.Door → Type 0 };
 
-    /// `fails old new`: a call that fails can leave a network in state `old` in state `new`.
+    /// `fails old new`: a call that fails can change the network's state from `old` to `new`.
     ghost fails: { Self → Self → Type 0 };
 
     /// The number of calls that failed.
     ghost fault_count: { Self → ℕ };
 
-    /// Opens a link to the agent at the UDP port `port` of `host`. A receive over it waits
+    /// Opens a link to the agent at the UDP port `port` of `host`. A receive over it waits up to
     /// `seconds` seconds, which must be at least one. If this fails, the fault is counted.
     fn open(&mut self, host: &str, port: u16, seconds: u64) -> Result<Self::Wire, LinkFault>
-        // A receive waits at least a second.
+        // The time limit of a receive is at least a second.
         requires { 0 < seconds }
         ensures opened { IfOk result (λ wire.
             opens self.old host.now port seconds wire self.new) }

@@ -1,4 +1,4 @@
-//! Links to agents, and doors, the sockets of servers, over the machine's UDP sockets.
+//! Links to agents, and doors (the sockets of servers), by the machine's UDP sockets.
 ghost use Rattle.std.specs.{Prelude.◌≡◌, Prelude.◌<◌, Prelude.ℕ, Duration.as_nanos};
 ghost use Rattle.snmp_io.specs.Count.{HasIncreased};
 
@@ -84,15 +84,16 @@ impl<N: Net> Links for MachineLinks<N> {
     }
 }
 
-/// Returns a socket at the first IPv4 address of `host`, over which a receive waits for a turn's
-/// time. Returns `None` if the host has no such address or the system refuses the socket.
+/// Returns a socket bound to `port` of the first IPv4 address of `host`. A receive from it waits
+/// up to one second. Returns `None` if the host has no such address or the system refuses the
+/// socket.
 fn bind_socket<N: Net>(net: &N, host: &str, port: u16) -> Option<UdpSocket> {
     let socket = UdpSocket::bind(net, first_address(net, host, port)?).ok()?;
     socket.set_read_timeout(Some(turn_time())).ok()?;
     Some(socket)
 }
 
-/// Returns how long a server waits for a request in each turn: one second.
+/// Returns how long a server waits for a request in a turn at most: one second.
 fn turn_time() -> Duration
     ensures { as_nanos result ≡ 1_000_000_000 }
 {

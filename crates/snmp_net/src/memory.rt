@@ -8,7 +8,7 @@ use snmp_agent::{Config, Endpoint, EndpointFault, Served, Table, serve_at};
 use snmp_walk::{LinkFault, MemoryLink};
 use std::alloc::Global;
 
-/// An agent in memory, and the host and port at which it is reached.
+/// An agent in memory, with its host and port.
 #[derive(Clone, Copy)]
 pub struct MemoryAgent<'a> {
     /// The host.
@@ -21,12 +21,12 @@ pub struct MemoryAgent<'a> {
     pub config: Config<'a>,
     /// What the receives over a link to it deliver, in order: the reply to the k-th datagram sent,
     /// counted from 1 (`Some(k)`), or nothing (`None`). Later receives deliver the reply to the
-    /// latest datagram.
+    /// latest datagram. If there is no such datagram, or no reply to it, nothing is delivered.
     pub deliveries: &'a [Option<usize>],
 }
 
-/// Links to agents in memory, and doors (in place of the sockets of servers) at which requests
-/// arrive from memory.
+/// Links to agents in memory, and doors: they replace the sockets of servers, and their requests
+/// come from memory.
 #[derive(Drop)]
 pub struct MemoryLinks<'a> {
     alloc: Global,
@@ -38,8 +38,8 @@ pub struct MemoryLinks<'a> {
 impl<'a> MemoryLinks<'a> {
     ghost use Rattle.std.specs.Prelude.{◌≡◌};
 
-    /// Returns links to `agents`, and doors at each of which `requests` arrive. If several agents
-    /// have the same host and port, the first is reached there.
+    /// Returns links to `agents`, and doors: at each door, all of `requests` arrive in order. If
+    /// several agents have the same host and port, a link reaches the first of them.
     pub fn new(
         alloc: Global,
         agents: &'a [MemoryAgent<'a>],
@@ -139,7 +139,7 @@ impl<'a> Links for MemoryLinks<'a> {
     }
 }
 
-/// Returns the first of `agents` that is reached at `port` of `host`.
+/// Returns the first of `agents` with this host and port, if there is one.
 fn agent_at<'a>(agents: &'a [MemoryAgent<'a>], host: &str, port: u16) -> Option<MemoryAgent<'a>>
     ensures { result ≡ agent_at agents.now host.now port }
 {
@@ -151,7 +151,7 @@ fn agent_at<'a>(agents: &'a [MemoryAgent<'a>], host: &str, port: u16) -> Option<
     None
 }
 
-/// A door at which requests arrive from memory, one a turn, and none after the last. Replies are
+/// A door whose requests come from memory, one a turn, and none after the last. Replies are
 /// dropped.
 #[derive(Drop)]
 pub struct MemoryDoor<'a> {

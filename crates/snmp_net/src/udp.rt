@@ -14,14 +14,14 @@ use std::time::Duration;
 
 /// A link to the agent at a UDP port of a host.
 ///
-/// A datagram of another sender is returned as one of no octets, which isn't a reply to any
-/// request. So is a receive that a signal interrupts. If the host is down or the port is closed,
-/// no error says so: nothing is received, as if the datagram had been lost.
+/// If a datagram arrives from another sender, or a signal interrupts a receive, then the receive
+/// returns an empty datagram, which isn't a reply to any request. If the host is down or the port
+/// is closed, no error says so: nothing is received, as if the datagram had been lost.
 ///
-/// Promised are the address that an IPv4 address in text means, and that each fault is counted.
-/// Nothing is promised of the socket: whether a datagram that was sent arrives, what is received,
-/// and how long a receive takes. So a walk over this link has the promises that hold over any
-/// link.
+/// Contracts say which address is used if the host is written as an IPv4 address, and that each
+/// fault is counted. They say nothing of the socket: whether a datagram that was sent arrives,
+/// what is received, and how long a receive takes. So of a walk over this link, only what holds
+/// over any link is known.
 #[derive(Drop)]
 pub struct UdpLink {
     socket: UdpSocket,
@@ -36,12 +36,12 @@ impl UdpLink {
     ghost use Rattle.std.specs.Net.Socket.{IsPlainSocket, socket_ip};
     ghost use Rattle.snmp_io.specs.Count.{HasIncreased};
 
-    /// Opens a link to the first IPv4 address of `host`. A receive over it waits `seconds`
-    /// seconds.
+    /// Opens a link to `port` of the first IPv4 address of `host`. A receive over it waits up to
+    /// `seconds` seconds.
     ///
     /// Fails if the host has no IPv4 address, or if the system refuses a socket.
     pub fn open<N: Net>(net: &N, host: &str, port: u16, seconds: u64) -> Result<UdpLink, LinkFault>
-        // A receive waits at least a second.
+        // The time limit of a receive is at least a second.
         requires { 0 < seconds }
         ensures no_fault { IfOk result (λ link. link.faults ≡ 0) }
         ensures address { IfOk result (λ link. (ip : IpAddr) → IsIpText host.now ip
@@ -122,8 +122,8 @@ impl Link for UdpLink {
     }
 }
 
-/// Returns the first IPv4 address of `host`, with the port `port`. If `host` spells an IPv4
-/// address, it is this one.
+/// Returns the first IPv4 address of `host` with the port `port`, if the host has one. If `host`
+/// is an IPv4 address in text, the result has this address.
 pub(crate) fn first_address<N: Net>(net: &N, host: &str, port: u16) -> Option<SocketAddr>
     ensures { (ip : IpAddr) → IsIpText host.now ip → is_ipv4 ip ≡ true
         → IfSome result (λ at. IsIpText host.now (socket_ip at) × IsPlainSocket at port) }

@@ -1,4 +1,4 @@
--- What is known of a command that has a given shape.
+-- What follows from the shape of a command: its rules and its subcommands.
 use Rattle.std.proofs.Common.{◌≡◌, ◌⊎◌, ◌&&◌, ap, ap₂, refl, sym, inl, inr, true, false, not, true≢false, Bool, List, [], ◌∷◌, Option, Some, None}
 use Rattle.std.proofs.Common.{Result, Ok, subst, cond, option_map, IsSome, is_some, find, ◌∙◌}
 use Rattle.clap.specs.{Built.AddsArg, Built.AddsSubcommand, Walk.Row, Walk.Rule, Walk.Text, Walk.answers_to, Walk.stop_after, Kinds.IsAmong}
@@ -10,14 +10,14 @@ use Rattle.snmp_words.specs.{Command.IsArg, Command.IsMade, Command.snmp_app, de
 use Rattle.snmp_words.specs.Words.{HasFaultOf, IsErrorOf, stated_by, stated_in}
 use Rattle.snmp_words.specs.declared.UsageError.TheVariants.{Memory, Parse}
 
--- a plain command has no global argument
+-- if the test whether a command is plain (`is_plain` of clap) passes, then no argument of it is global
 pub plain_is_local : (groups external globals rest : Bool) → (groups && (external && (not globals && rest))) ≡ true → globals ≡ false
 plain_is_local true true false rest e = refl
 plain_is_local true true true rest e = absurd (true≢false (sym e))
 plain_is_local true false globals rest e = absurd (true≢false (sym e))
 plain_is_local false external globals rest e = absurd (true≢false (sym e))
 
--- if a subcommand is added to a command, then the result has the shape of the command with that of the subcommand added
+-- if a plain subcommand of shape b is added to a command of shape a, then the result has the shape of a with the subcommand b
 pub subcommand_added : (command sub result : Command) (a b : App) → AddsSubcommand command sub result → app_of command ≡ a → app_of sub ≡ b
     → b.top.is_plain ≡ true → app_of result ≡ with_subcommand a b.top
 subcommand_added command sub result a b adds is sub_is plain =
@@ -37,12 +37,12 @@ is_some-map : {X Y : Type 0} (f : X → Y) (o : Option X) → is_some (option_ma
 is_some-map f None = refl
 is_some-map f (Some x) = refl
 
--- each of the commands asks for a job
+-- each of the commands asks for a job, whatever its rows are
 abbrev AllState : List Shape → Type 0
 AllState [] = Unit {0}
 AllState (s ∷ more) = ((rows : List Row) → is_some (stated_by (s.name, rows)) ≡ true) × AllState more
 
--- the first command that passes the test asks for a job, or none passes it
+-- if each command asks for a job, then so does the first one that passes the test, or none passes it
 found_states : (test : Shape → Bool) (subs : List Shape) (words : List Text) → AllState subs
     → (option_map (λ s. rows_at s words) (find test subs) ≡ None)
     ⊎ (is_some (stated_in (option_map (λ s. rows_at s words) (find test subs))) ≡ true)

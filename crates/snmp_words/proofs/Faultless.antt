@@ -11,7 +11,7 @@ use Rattle.clap.specs.Walk.{Held, Names, Row, Text, finished, nothing_held, sett
 use Rattle.snmp_words.specs.{Command.faults_of, Command.is_taken, Command.snmp_app, Words.StateJob, Words.Stated, Words.stated_in}
 use Rattle.snmp_words.proofs.{Commands.stated_or_none, OptionValues.states}
 
--- if a subcommand is required, then a check that passes has met one
+-- if a subcommand is required and the check for one passes, then one was met
 met_if_required : (required met : Bool) → required ≡ true → (not required || met) ≡ true → met ≡ true
 met_if_required true met is e = e
 met_if_required false met is e = absurd (true≢false (sym is))
@@ -20,7 +20,7 @@ met_if_none_wanted : (met required : Bool) → required ≡ true → (not met &&
 met_if_none_wanted true required is e = refl
 met_if_none_wanted false required is e = absurd (true≢false (sym is ∙ e))
 
--- if a level is valid and requires a subcommand, then it has one
+-- if a command requires a subcommand and its rows are valid, then it has a subcommand
 met_by_valid : (s : Shape) (rows : List Row) (has : Bool) → s.subcommand_required ≡ true
     → is_valid s rows has ≡ true → has ≡ true
 met_by_valid s rows has required valid =

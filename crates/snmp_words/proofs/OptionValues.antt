@@ -1,4 +1,4 @@
--- Texts and numbers given to a command.
+-- The texts and numbers that a command's rows have, and the job that they ask for.
 use Rattle.std.proofs.Common.{◌≡◌, ◌∙◌, ◌++◌, ap, ap₂, refl, subst, sym, true, false, Bool, List, [], ◌∷◌, Option, Some, None, ℕ, ◌⊎◌, inl, inr}
 use Rattle.std.proofs.lemmas.Grind.{common_steps}
 use Rattle.std.proofs.Common.{arith, Bor, unwrap_or, option_map, option_and_then}
@@ -30,7 +30,7 @@ number_refused low high text not_in = go (is_unsigned_in low high text) (λ e. n
     go true never = absurd (never refl)
     go false never = refl
 
--- each computed number is the number of its option
+-- the numbers that `numbers_in` computes are the numbers of the options
 are_numbers : (rows : List Row) → AreNumbersOf rows (numbers_in rows)
 are_numbers rows id default low high = by (first_of id rows)
   where
@@ -99,7 +99,7 @@ one_job words job other h k =
         ap₂ (λ (x : Numbers) (r : Text × List Row). stated_among (readings x) r) numbers is in
         let jobs : Some job ≡ Some other = sym e ∙ both ∙ f in cc
 
--- the texts that are returned are those that a look-up found, or none if it found nothing
+-- if a look-up `found` the texts `rows` (or nothing), and `all` is what it found (or empty), then `all` has the texts `rows` (or none)
 pub found_texts : (found : Option (Bor (List (Bor (List ℕ))))) (rows : Option (List (List ℕ))) (none all : Bor (List (Bor (List ℕ))))
     → option_map (λ s. texts s.now) found ≡ rows → none.now ≡ [] → all ≡ unwrap_or found none → texts all.now ≡ unwrap_or rows []
 found_texts None rows none all e empty is = grind (arith, common_steps)

@@ -10,7 +10,7 @@ use Rattle.clap.specs.declared.builder.value_parser.ValueParser.TheVariants.{Uns
 
 -- ---- the rules of options and positional arguments
 
--- an option or a positional argument with one text
+-- the rule of an option or a positional argument with one text
 abbrev pub one_text : Text → Rule
 one_text id = record (new_rule id) { value_names = 1 }
 
@@ -140,12 +140,12 @@ snmp_app = with_commands top_app (translate_app ∷ get_app ∷ walk_app (codes 
     ∷ walk_app (codes "snmpbulkwalk") ∷ serve_app ∷ [])
 
 -- whether the command takes the arguments: they name options and subcommands that it has, with as
--- many texts as these need; each number is in its range; no option that may be given once is given
--- twice; and they don't ask for help
+-- many texts as these need; what is required is given; each number is in its range; no option that
+-- may be given once is given twice; and they don't ask for help or the version
 abbrev pub is_taken : List Text → Bool
 is_taken words = takes snmp_app words
 
--- the kinds of mistake that the arguments have, or that they ask for help
+-- the kinds of the mistakes that the arguments have, and of a request for help or the version
 abbrev pub faults_of : List Text → Kinds
 faults_of words = fault_of snmp_app words
 
@@ -155,6 +155,6 @@ faults_of words = fault_of snmp_app words
 abbrev pub IsArg : Arg → Rule → Type 0
 IsArg arg rule = (rule_of arg ≡ rule) × (arg.global ≡ false)
 
--- the command that was made has these rules, if memory sufficed
+-- if `made` isn't an error, then its command has the rules and subcommands of `app`
 abbrev pub IsMade : {E : Type 0} → Result Command E → App → Type 0
 IsMade made app = IfOk made (λ c. app_of c ≡ app)

@@ -46,8 +46,8 @@ pub record WalkWords : Type 0 where
   pub after : Option Text
   pub name : Option Text
 
--- the arguments of snmpd: its module files, its table file, its community, the address at which
--- requests are received, the greatest size of a reply, and how many turns are served
+-- the arguments of snmpd: its module files, its table file, its community, the address that it
+-- listens on, the greatest size of a reply, and how many turns are served
 pub record ServeWords : Type 0 where
   pub mibs : List Text
   pub table : Text
@@ -64,7 +64,7 @@ pub data Stated : Type 0 where
   snmpbulkwalk : WalkWords → Stated
   snmpd : ServeWords → Stated
 
--- ---- what a command's rows say
+-- ---- what a command's rows say: a row of the parser has the texts that were given for one id
 
 -- the texts given for an id
 abbrev pub texts_of : Text → List Row → List Text
@@ -239,8 +239,8 @@ abbrev pub HasFaultOf : UsageError → Kinds → Type 0
 HasFaultOf Memory faults = ⊤
 HasFaultOf (Parse text help) faults = (k : ErrorKind) × IsAmong k faults × (help ≡ asks_help k)
 
--- how a text for the user ends: with a newline, and on a mistake with the option that shows help
--- before it
+-- the end of a text for the user: a newline if the text is help or the version (`help`); after a
+-- mistake, the end of the line that names the option `--help`
 abbrev pub end_of_text : (help : Bool) → Text
 end_of_text true = codes "\n"
 end_of_text false = codes "--help'.\n"
@@ -255,12 +255,14 @@ IsForUser (Parse text help) = IsTextFor help (string_bytes text)
 
 -- ---- the arguments of a walk
 
--- the arguments of a walk of a table file, shown in numbers, from a name in numbers
+-- the arguments `snmp snmpwalk -On table:PATH .NUMBERS`: a walk of the table file `path` below the
+-- name `numbers`, shown in numbers
 abbrev pub walk_line : Text → Text → List Text
 walk_line path numbers = codes "snmp" ∷ codes "snmpwalk" ∷ codes "-On" ∷ (codes "table:" ++ path)
     ∷ (codes "." ++ numbers) ∷ []
 
--- what these arguments say: letters for numbers, and the defaults for all else
+-- what the arguments `walk_line path numbers` say: the agent, the name, the letter n, and the
+-- defaults for all else
 abbrev pub words_of_walk : Text → Text → WalkWords
 words_of_walk path numbers = record {
   asking = record {
@@ -280,25 +282,27 @@ words_of_walk path numbers = record {
 
 -- ---- for private functions
 
--- the number that the decimal digits of the text write, if it is in the range
+-- the number that the text writes in decimal digits, perhaps after a plus, if it is in the range
 abbrev pub number_in : (low high : ℕ) → Text → Option ℕ
 number_in low high text =
     if is_unsigned_in low high text then Some (digits_value 10
     (without_leading_plus text)) else None
 
--- the numbers of options, computed
+-- the number of the option `id`, computed: the number that its first text writes, if it is in the
+-- range, otherwise `default`
 abbrev pub numbers_in : List Row → Numbers
 numbers_in rows id default low high =
     unwrap_or (option_and_then (number_in low high) (first_of id rows)) default
 
--- the job that the arguments ask for, computed
+-- the job that a command's name and rows ask for, computed; None if there isn't such a command
 abbrev pub stated_by : Text × List Row → Option Stated
 stated_by p = stated_among (readings (numbers_in p.1)) p
 
 abbrev pub stated_in : Option (Text × List Row) → Option Stated
 stated_in = option_and_then stated_by
 
--- the error reports a parse that failed with kind k; memory for its text may have run out
+-- the error can come from a parse that failed with kind k: it says that memory ran out, or its
+-- `help` says whether k is a request for help or the version
 abbrev pub IsErrorOf : UsageError → ErrorKind → Type 0
 IsErrorOf Memory k = ⊤
 IsErrorOf (Parse text help) k = help ≡ asks_help k

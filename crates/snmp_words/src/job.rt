@@ -1,10 +1,10 @@
 //! The job that arguments ask for.
 ghost use Rattle.std.specs.Prelude.{◌≤◌};
 
-/// The job that arguments ask for. Each text is as it was passed.
+/// The job that arguments ask for. Its texts aren't interpreted yet.
 #[derive(Debug, Drop)]
 pub enum Job<'a> {
-    /// `snmptranslate`: names in another form.
+    /// `snmptranslate`: names in another form, or details of them.
     Translate(TranslateJob<'a>),
     /// `snmpget`: the instances of names.
     Get(GetJob<'a>),
@@ -46,7 +46,7 @@ pub struct Asking<'a> {
     pub seconds: u64,
     /// The greatest size of a message of an agent in memory, in octets; 1472 by default.
     pub max_size: u64,
-    /// The agent.
+    /// The argument that names the agent.
     pub agent: &'a str,
     ghost few_retries: { retries ≤ 1000 },
     ghost some_seconds: { 1 ≤ seconds },
@@ -69,8 +69,8 @@ pub struct GetJob<'a> {
 pub struct WalkJob<'a> {
     /// The agent to ask, and how.
     pub asking: Asking<'a>,
-    /// The letters of `-C`: what the walk includes, and what is counted. The letters of several
-    /// `-C` are joined in order.
+    /// The letters of `-C`: what the walk prints, and how many instances a request asks for. The
+    /// letters of several `-C` are joined in order.
     pub letters: String,
     /// The name after which the walk continues (`--after`), if one is given.
     pub after: Option<&'a str>,
@@ -87,7 +87,7 @@ pub struct ServeJob<'a> {
     pub table: &'a str,
     /// The community of the agent; `public` by default.
     pub community: &'a str,
-    /// The address at which requests are received; `127.0.0.1:161` by default.
+    /// The address that the agent listens on; `127.0.0.1:161` by default.
     pub listen: &'a str,
     /// The greatest size of a reply, in octets; 1472 by default.
     pub max_size: u64,

@@ -1,4 +1,4 @@
-//! The texts and numbers given to a command in its arguments.
+//! Makes a job from what the parser read: the texts and numbers given to a command.
 ghost use Rattle.std.specs.Prelude.{◌≡◌, ◌≤◌, IfOk, IfSome, IsSome, Some, option_map, string_bytes};
 ghost use Rattle.clap.specs.{Walk.first_of, Walk.rows_of, Words.found_of, Words.subcommand_rows_of};
 ghost use Rattle.snmp_words.specs.Words.{asking_of_rows, asking_words, get_of_rows, get_words};
@@ -11,7 +11,8 @@ use crate::job::{Asking, GetJob, Job, ServeJob, TranslateJob, WalkJob};
 use clap::ArgMatches;
 use std::alloc::{AllocError, Global};
 
-/// Returns the job of the subcommand that was given.
+/// Returns the job of the subcommand that was given. The caller must pass matches that have one of
+/// the five subcommands.
 pub(crate) fn job_of<'a>(alloc: Global, matches: &ArgMatches<'a>) -> Result<Job<'a>, AllocError>
     requires { IsSome (stated_in (subcommand_rows_of matches.now)) }
     ensures { IfOk result
@@ -81,7 +82,7 @@ fn serve_job<'a>(alloc: Global, given: &ArgMatches<'a>) -> Result<ServeJob<'a>, 
     })
 }
 
-/// Returns how an agent is asked.
+/// Returns the options and arguments that say which agent to ask, and how.
 fn asking_of<'a>(alloc: Global, given: &ArgMatches<'a>) -> Result<Asking<'a>, AllocError>
     ensures { let rows = rows_of (found_of given.now) in
         IfOk result (λ asking. asking_words asking ≡ asking_of_rows (numbers_in rows) rows) }
@@ -98,7 +99,7 @@ fn asking_of<'a>(alloc: Global, given: &ArgMatches<'a>) -> Result<Asking<'a>, Al
     })
 }
 
-/// Returns the first text given for `id`, if there is one.
+/// Returns the first text given for the option or argument `id`, if there is one.
 fn first_text<'a>(given: &ArgMatches<'a>, id: &str) -> Option<&'a str>
     ensures { option_map (λ text. text.now) result
         ≡ first_of id.now (rows_of (found_of given.now)) }
@@ -141,7 +142,8 @@ fn number(given: &ArgMatches<'_>, id: &str, default: u64, low: u64, high: u64) -
     }
 }
 
-/// Returns the number that the decimal digits of `text` write, if it is in the range.
+/// Returns the number that `text` writes in decimal digits, perhaps after a `+`, if it is from
+/// `low` to `high`.
 fn number_in(text: &str, low: u64, high: u64) -> Option<u64>
     ensures value { result ≡ number_in low high text.now }
     ensures range { IfSome result (λ n. (low ≤ n) × (n ≤ high)) }

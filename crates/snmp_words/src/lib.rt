@@ -40,7 +40,7 @@ use thiserror::Error;
 #[derive(Debug, Drop, Error)]
 pub enum UsageError {
     /// The parser refused the arguments, or they ask for help or the version. `text` is for the
-    /// user and ends with a newline; `help` says whether the arguments ask for it.
+    /// user and ends with a newline; `help` says whether they ask for help or the version.
     #[error("{text}")]
     Parse { text: String, help: bool },
     /// Memory ran out.
@@ -56,9 +56,9 @@ impl From<AllocError> for UsageError {
     }
 }
 
-/// Reads the arguments of a command line, of which the first is the program's name. Both `-On` and
-/// `-O n` give the option its letters. Arguments that the command takes are refused only if memory
-/// runs out.
+/// Returns the job that the arguments of a command line ask for. The first of `words` is the
+/// program's name. The letters of an option can follow it at once or in the next argument: `-On`
+/// or `-O n`. Arguments that fit the rules of their command are refused only if memory runs out.
 pub fn read_words<'a>(alloc: Global, words: &'a [&'a str]) -> Result<Job<'a>, UsageError>
     ensures job { IfOk result (λ job.
         StateJob (texts words.entry.now) (job_words job)) }
@@ -75,8 +75,8 @@ pub fn read_words<'a>(alloc: Global, words: &'a [&'a str]) -> Result<Job<'a>, Us
     }
 }
 
-/// The arguments of a walk of any table file from any numeric name, with `-On`, are taken and ask
-/// for that walk.
+/// The arguments `snmp snmpwalk -On table:PATH .NUMBERS` are accepted for each `path` and
+/// `numbers`, and ask for that walk.
 ///
 /// A law: the call does nothing, and its caller may use what it ensures.
 pub fn walks_are_taken()

@@ -8,7 +8,7 @@ use crate::command::VERSION;
 use clap::error::ErrorKind;
 use std::alloc::{AllocError, Global};
 
-// What a mistake can name, each with a tip.
+// Tips: what a mistake can name (a command, an option), each with what to do instead.
 type Tips = &'static [(&'static str, &'static str)];
 
 const NOT_HERE: &str =
@@ -43,7 +43,7 @@ const FOLDERS: &str = "no folder is searched for modules: --mib FILE names each 
 
 const USERS: &str = "there is SNMPv2c alone: a community (-c), and neither users nor keys";
 
-// A second tip, if the arguments ask for another version.
+// The tip for a `-v` with another text than `2c`. It follows the tip on the mistake, if any.
 const VERSIONS: &str = "2c is the only version, and the default: leave -v out";
 
 const DUMPS: &str = "messages are shown by tcpdump -vv -s0 udp port 161";
@@ -176,8 +176,9 @@ fn command_of<'a>(kind: ErrorKind, words: &[&'a str]) -> Option<&'a str> {
 }
 
 /// Returns the parser's text with a tip of this program instead of the parser's tips, and with
-/// `version`, the tip on the version. If this program has no tip on the mistake, the first of the
-/// parser's is used.
+/// `version`, the tip on the version, if there is one ([`push_tips`]). If this program has no tip
+/// on the mistake, the tip that [`tip_among_parsers`] returns is used, if any. The last line names
+/// the help on `command`, or the program's help.
 ///
 /// The parser's text has parts with an empty line between them: the mistake; tips, or none; the
 /// usage, or none; and the help to read.
@@ -206,8 +207,8 @@ fn with_own_tips(
     Ok(explained)
 }
 
-/// Appends the tip on a mistake and the tip on the version, unless the first one covers the
-/// version already.
+/// Appends `tip` and `version`, each if it isn't `None`, and an empty line unless both are `None`.
+/// Leaves out `version` if `tip` is [`USERS`], which names the version already.
 fn push_tips(
     text: &mut String,
     tip: Option<&str>,
@@ -226,7 +227,8 @@ fn push_tips(
     Ok(())
 }
 
-/// Returns the tip on the version if `words` ask for a version other than 2c.
+/// Returns the tip on the version if the text after a `-v`, in the same word or in the next one
+/// that isn't empty, isn't `2c`. So `-v=2c` has the tip too.
 fn tip_on_version(words: &[&str]) -> Option<&'static str> {
     let mut is_next = false;
     for word in words {
@@ -262,7 +264,7 @@ fn tip_among_parsers(tips: &str) -> Option<&str> {
     (!tip.starts_with("to pass '")).then_some(tip)
 }
 
-/// Returns what to write instead of what the mistake names, if there is a tip on it.
+/// Returns this program's tip on a mistake, if there is one. `mistake` is the parser's sentence.
 fn tip_on(mistake: &str, command: Option<&str>) -> Option<&'static str> {
     if let Some(name) = between("error: unrecognized subcommand '", mistake, "'") {
         return tip_among(COMMANDS, name);
@@ -288,7 +290,7 @@ fn tip_on_value(option: &str, command: Option<&str>) -> Option<&'static str> {
     tip_among(own, option).or(tip_among(VALUES, option))
 }
 
-/// Returns what to write instead of an argument that isn't known, if there is a tip on it.
+/// Returns the tip on `word`, an argument that `command` doesn't have, if there is one.
 fn tip_on_word(word: &str, command: Option<&str>) -> Option<&'static str> {
     match command {
         None => Some("the command comes first, as in snmp snmpwalk -On AGENT"),
