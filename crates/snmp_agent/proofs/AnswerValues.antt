@@ -1,4 +1,4 @@
--- What a view answers: names that have an encoding, and values that a reply can have.
+-- What a MIB view answers has a value that a reply can have (`get_value`, `next_value`), and a name with an encoding (`next_name`).
 use Rattle.std.proofs.{Common.arith, Common.◌≡◌, Common.ℕ, Common.zero, Common.suc, Common.List, Common.sym, Common.subst, lemmas.Grind.common_steps}
 use Rattle.snmp_oid.specs.Identifier.{IsWire}
 use Rattle.snmp_wire.specs.{Message.Datum, Message.VarBind, Message.Datum.end_of_mib_view}
@@ -7,7 +7,7 @@ use Rattle.snmp_agent.specs.table.Table.{MibView, IsMibView, IsInstanceValue, Is
 instance_answer : (v : Datum) → IsInstanceValue v → IsAnswerValue v
 instance_answer v h = grind (arith, common_steps)
 
--- what holds of a binding holds of one that equals it
+-- what holds of a binding `q` holds of a binding `p` that equals it
 at_binding : (Q : VarBind → Type 0) (p q : VarBind) → p ≡ q → Q q → Q p
 at_binding Q p q same h = subst Q (sym same) h
 

@@ -1,4 +1,4 @@
--- The steps of a search by halves.
+-- Each step of a search by halves leaves `IsHalvedTo` true (`passes`, `fails`); at its end, both indices are the same (`met`).
 use Rattle.std.proofs.{lemmas.Grind.common_steps, lemmas.List.get_or_default}
 use Rattle.std.proofs.Common.{◌≡◌, ℕ, ◌+◌, ◌≤◌, ◌<◌, Bool, true, false, List, length, slice_index_or, refl, sym, ap, ◌∙◌, arith}
 use Rattle.std.specs.List.Sorted.{IsPartitionedBy}

@@ -1,4 +1,5 @@
--- One row that is inserted among others, or removed.
+-- If a row is inserted among others or removed, then the entries change as `put` and `without_name` say, and the view stays a MIB view (`put_good`,
+-- `removed_good`).
 use Rattle.std.proofs.{lemmas.Grind.common_steps, lemmas.Option.slice_get-get_or, lemmas.Option.slice_get_within}
 use Rattle.std.proofs.Common.{◌≡◌, ℕ, suc, ◌-◌, Bool, true, false, not, cond, is_some, List, [], ◌∷◌, ◌++◌, length, take, drop, Some, slice_index_or}
 use Rattle.std.proofs.Common.{None, slice_set, refl, sym, ◌∙◌, ap, subst, arith, Ordering, Less, Result, Ok, Err, IfOk, IfErr}
@@ -82,7 +83,7 @@ nothing_after o es h = ap is_some (sym (ap (find cmp o) (sym (append-nil es)) �
 pub halves : (rows : List VarBind) (index : ℕ) → entries_of rows ≡ entries_of (take index rows) ++ entries_of (drop index rows)
 halves rows index = ap entries_of (sym (take-append-drop index rows)) ∙ map-append entry_of (take index rows) (drop index rows)
 
--- the entries of rows with a row between them are those before it, its own, and those after it
+-- if `row` is at index `index` of a list, then the entries of the list are the entries before it, its own entry, and the entries after it
 pub entries_around : (rows : List VarBind) (index : ℕ) (row : VarBind) → entries_of (take index rows ++ row ∷ drop (suc index) rows)
     ≡ entries_of (take index rows) ++ entry_of row ∷ entries_of (drop (suc index) rows)
 entries_around rows index row = map-append entry_of (take index rows) (row ∷ drop (suc index) rows)
@@ -135,7 +136,7 @@ module _ (o : List ℕ) (rows : List VarBind) (index : ℕ) where
   abbrev back : Entries
   back = entries_of (drop (suc index) rows)
 
-  -- the entries before, at and after the row of the name
+  -- if a row has the name `o`, then all entries are the entries before it, its own entry, and the entries after it
   with_it : (h : HasNameAt o rows index)
       → entries_of rows ≡ prefix ++ (o, h.found.value) ∷ back
   with_it h =
@@ -209,7 +210,7 @@ module _ (o : List ℕ) (es fs : Entries) (rising : IsSorted es) where
 pub tied : (o p : List ℕ) (b : Bool) → eq_by_cmp cmp o p ≡ b → b ≡ true → o ≡ p
 tied o p b is yes_it = grind (arith, common_steps, same_name)
 
--- what the comparison of a row's name with `o` says
+-- if `b` says whether the comparison of a row's name with `o` is equal, then the row has the name `o` if and only if `b` is true
 module _ (o : List ℕ) {row name : List ℕ} {r : Ordering} {b : Bool} (is : name ≡ row) (compared : r ≡ cmp name o) (test : b ≡ is_eq r) where
   tie : b ≡ eq_by_cmp cmp row o
   tie = test ∙ ap is_eq (compared ∙ ap (λ (p : List ℕ). cmp p o) is)
@@ -234,7 +235,7 @@ nothing_removed m o none =
 -- ---- views
 
 module _ (view : MibView) (good : IsMibView view) (o : List ℕ) where
-  -- a variable of the changed view is the one that was put, or one that was there before
+  -- each variable of the changed view has a name and a value of an instance, since it is the one that was put, or was there before
   module _ (v : Datum) (name : IsInstanceName o) (value : IsInstanceValue v) where
     put_variable : (p : VarBind) → IsRow (with_row view o v) p → IsInstanceName p.name × IsInstanceValue p.value
     put_variable p row =

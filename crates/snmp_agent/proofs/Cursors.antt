@@ -1,4 +1,5 @@
--- Positions among the variables of a view, and what names are given from there.
+-- The position that the code has after some rounds is `cursor_of` (`cursor_past`, `cursor_passed`); a GetNext from it returns the result of the next round
+-- (`returned_there`).
 use Rattle.std.proofs.{lemmas.Grind.common_steps}
 use Rattle.std.proofs.Common.{arith, ◌≡◌, ◌↔◌, ℕ, zero, suc, ◌+◌, true, List, [], ◌∷◌, map, take, drop, refl, ap, subst, ◌∙◌, add-one}
 use Rattle.std.specs.{FinMap.entries, List.list_all}
@@ -14,7 +15,7 @@ Entries = List (List ℕ × Datum)
 
 -- ---- the position of a name
 
--- after `round` variables after the name, the position is the one after `round` rounds
+-- if `back` are the variables after the name `o`, then the position past the first `round` of them is the position after `round` rounds
 pub cursor_past : (view : MibView) (round : ℕ) (o : List ℕ) (back : List (List ℕ × Datum)) (name : List ℕ) (rest : List (List ℕ × Datum))
     → AreAllAfter view o back → name ≡ last_name o (take round back) → rest ≡ drop round back → record { name = name; rows = rest } ≡ cursor_of view round o
 unfolding cursor_of
@@ -24,7 +25,7 @@ cursor_past view round o back name rest h at left =
     let rest_at : rest ≡ drop round (entries_after o (entries view.rows)) = left ∙ ap (drop round) all in
     λ i. record { name = name_at i; rows = rest_at i }
 
--- the first variable after the name is what a GetNext returns
+-- the first variable after the name `o`, or `o` with endOfMibView if there is none, is what a GetNext returns
 pub first_there : (view : MibView) (o : List ℕ) (back : List (List ℕ × Datum)) → AreAllAfter view o back
     → first_or_end o (map var_of back) ≡ next_at (cursor_of view 0 o)
 first_there view o back h = ap next_at (cursor_past view 0 o back o back h refl refl)
@@ -45,7 +46,7 @@ pub cursors_passed : (view : MibView) (round : ℕ) (names : List VarBind) → m
 cursors_passed view round [] = refl
 cursors_passed view round (p ∷ names) = grind (arith, common_steps, cursors_passed view round names, cursor_passed)
 
--- ---- what names are given
+-- ---- what GetNexts return
 
 has_end : (o : List ℕ) (es : Entries) → has_none es ≡ true → (first_or_end o (map var_of es)).value ≡ end_of_mib_view
 has_end o es over = grind (arith, common_steps)
@@ -58,7 +59,7 @@ module _ (view : MibView) (mib : IsMibView view) where
   at_end o [] h end = refl
   at_end o (e ∷ es) h end = absurd (not_end e.1 (mib.values (var_of e) (first_row view o e es h)) end)
 
-  -- a name is given endOfMibView if and only if no variable was left for it
+  -- a GetNext from the position after `round` rounds returns endOfMibView if and only if no variable is left there
   ends_here : (round : ℕ) (o : List ℕ) → (is_over (cursor_of view round o) ≡ true) ↔ ((next_at (cursor_of view round o)).value ≡ end_of_mib_view)
   unfolding cursor_of
   ends_here round o = grind (arith, common_steps, has_end, at_end, after_past, after_name)
@@ -68,7 +69,7 @@ module _ (view : MibView) (mib : IsMibView view) where
   all_end round (p ∷ names) = grind (arith, common_steps, all_end round names, ends_here)
 
 module _ (order : IsOrder) (view : MibView) (round : ℕ) where
-  -- what the name is given from its position after `round` rounds is the result of that round
+  -- what a GetNext returns from the position after `round` rounds is the result of the round after these
   pub returned_there : (o : List ℕ) → IsNextAfter view round o (next_at (cursor_of view round o))
   unfolding cursor_of
   returned_there o =

@@ -1,4 +1,4 @@
--- Decimal digits, read one at a time.
+-- If the digits of a text are read one at a time, then the number is their value (`read_more`, `read_all`); a text has at most one value (`same_decimal`).
 use Rattle.std.proofs.{lemmas.Grind.common_steps, Math.Nat.pow-suc, Math.Nat.one-le-pow, Math.Nat.le-mul_of_pos_right}
 use Rattle.std.proofs.Common.{◌≡◌, ◌≢◌, ℕ, ◌+◌, ◌-◌, ◌*◌, ◌^◌, ◌≤◌, ◌<◌, true, List, [], ◌∷◌, ◌++◌, length, drop, get_or, refl, sym, ◌∙◌}
 use Rattle.std.proofs.Common.{arith, drop-cons, add-one}

@@ -1,4 +1,4 @@
--- What a draft stores after one more line, and why the reading stops at a line.
+-- If a draft stores what some lines define, then it does so with one more line (`row_added`), or the reading stops there (`row_halted`, `stopped`).
 use Rattle.std.proofs.lemmas.Grind.{common_steps}
 use Rattle.std.proofs.Common.{◌≡◌, ℕ, List, [], ◌∷◌, ◌++◌, refl, sym, ap, subst, Result, IfOk, IfErr, MatchResult, append-nil, ◌∙◌, Bool}
 use Rattle.std.proofs.Common.{◌+◌, ◌<◌, ◌≤◌, append_assoc, arith, length, length-append}
@@ -18,13 +18,13 @@ pub either : {A B : Type 0} {P P' : A → Type 0} {Q Q' : B → Type 0} (r : Res
     → IfErr r Q → ((a : A) → P a → P' a) → ((b : B) → Q b → Q' b) → MatchResult r P' Q'
 either r p q f g = grind (arith, common_steps)
 
--- if reading stops for a fault of which `P` holds, and `Q` holds if `P` does, then it stops for a fault of which `Q` holds
+-- if each fault that satisfies `P` satisfies `Q`, and a reading stops by `HaltsBy P`, then it stops by `HaltsBy Q`
 halts_weaker : (P Q : TableError → Type 0) (exact : Bool)
     → ((fault : TableError) → P fault → Q fault) → (e : Halt) → HaltsBy P exact e
     → HaltsBy Q exact e
 halts_weaker P Q exact f e k = grind (arith, common_steps)
 
--- if the reading stops because memory ran out, then any property of faults holds of its stop, since there is no fault
+-- if the reading stops because memory ran out, then it stops by `HaltsBy P` for any `P`, since it stops at a fault of no line
 pub full : (P : TableError → Type 0) (exact : Bool) (e : Halt) → IsFull exact e
     → HaltsBy P exact e
 full P exact = halts_weaker (λ _. ⊥) P exact (λ fault none. absurd none)
@@ -50,7 +50,7 @@ module _ (format : Format) (before : List (List ℕ)) (line : List ℕ) (number 
   abbrev Here : TableError → Type 0
   Here fault = AreTable format before × IsFaultAfter format before line number fault
 
-  -- the reading stops at a row that another row has the name of
+  -- if the reading stops at a row since another row has its name, then it stops at the faulty line of this row
   pub row_halted : (row : VarBind) → States format line (instance row) → (e : Halt)
       → IsHaltAt row.name (draft_entries old) number old.exact e
       → IsHalt format before line number old.exact e
@@ -64,14 +64,14 @@ module _ (format : Format) (before : List (List ℕ)) (line : List ℕ) (number 
             (refl, double format before line h.0 (draft_objects old) h.1 row k.2 states there),
       ))
 
-  -- the reading stops at a fault, after lines whose rows differ in name
+  -- if the reading stops at the fault `wrong` of the line, after rows that differ in name, then it stops at this faulty line
   pub stopped : (wrong : TableError) → IsFaultAfter format before line number wrong → (e : Halt)
       → IsStop (draft_entries old) old.exact wrong e
       → IsHalt format before line number old.exact e
   stopped wrong faulty = halts_weaker (λ fault. (fault ≡ wrong) × AreDistinct (draft_entries old))
       Here old.exact (λ fault k. (table_before k.1, rw k.0 faulty))
 
--- if no rows are collected, no two rows have the same name
+-- if all collected rows were inserted, then no two rows have the same name
 pub settled_distinct : (old new : TableBuilder) → IsPermutation (draft_entries old) (draft_entries new)
     → new.late.items ≡ [] → AreDistinct (draft_entries old)
 settled_distinct old new moved none =
@@ -136,7 +136,7 @@ module _ (format : Format) (text rest line after : List ℕ) (old : TableBuilder
         cases good error.Memory j = tt
         cases good fault j = (h.done, line, after_good good (number_of fault) j.0, j.1)
 
--- if all lines were read and all collected rows inserted, then the rows and object prefixes are those of the table of the text
+-- if all lines were read and all collected rows inserted, then the draft has the rows and the object prefixes of the table that the text defines
 pub all_read : (format : Format) (text : List ℕ) (old new : TableBuilder) (number : ℕ)
     → IsReadTo format text [] old number → IsPermutation (draft_entries old) (draft_entries new)
     → new.late.items ≡ [] → new.objects ≡ old.objects

@@ -81,7 +81,7 @@ module _ (order : IsOrder) where
       let back = after_name view o in
       (first_or_end o (map var_of (entries_after o (entries view.rows))), is_next order view o back.0 (entries_after o (entries view.rows)) back.1)
 
-  -- two successors have the same name, since neither is between the name and the other
+  -- two successors of a name are the same binding, since neither is between the name and the other
   same_successor : (view : MibView) (o : List ℕ) (p q : VarBind) → IsSuccessor view o p → IsSuccessor view o q → p ≡ q
   same_successor view o p q h k = by_order (slice_cmp nat_cmp p.name q.name) refl
     where

@@ -1,4 +1,4 @@
--- Which bindings have an encoding, and how long they are.
+-- The bindings of a decoded message (`read_message`) and the answers of a table (`answer_value`) have encodings; an encoding is longer than its content.
 use Rattle.std.proofs.{lemmas.Grind.common_steps}
 use Rattle.std.proofs.Common.{ℕ, ◌<◌, List, [], ◌∷◌, length, ⊎_elim, arith, length-append}
 use Rattle.snmp_wire.specs.Message.{Datum, VarBind, Message}

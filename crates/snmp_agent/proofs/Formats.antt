@@ -1,4 +1,5 @@
--- Names in the two formats.
+-- If a line has no bar, or none outside quotes, then no bar ends a name on it (`no_end_first`, `no_end_second`). The first line decides on the format
+-- (`marked_by_first`).
 use Rattle.std.proofs.Common.{arith, ◌≡◌, ◌↔◌, ℕ, List, [], ◌∷◌, Option, None, MatchOption, codes}
 use Rattle.std.proofs.lemmas.Grind.{common_steps}
 use Rattle.snmp_io.specs.Quotes.{HasNoneOutside}

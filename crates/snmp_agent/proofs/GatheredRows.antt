@@ -55,7 +55,7 @@ taken total m n xs ys row had h put has hasnt =
     IsPermutation-trans _ _ _ h (IsPermutation-trans _ _ _ (to_first (entries m) xs ys (entry_of row))
     (IsPermutation-append_left (xs ++ ys) _ _ (row_moves m n row had put has hasnt)))
 
--- the same, if the row is the last of the remaining ones
+-- if the last of the remaining rows is inserted under a name that no row has, then the rows and the remaining ones are together as before
 pub last_moves : (total : Entries) (m n : Rows) (rows rest : List VarBind) (row : VarBind) (had : Bool)
     → IsPermutation total (entries m ++ entries_of rows) → rows ≡ rest ++ row ∷ []
     → n ≡ insert m row.name row.value → had ≡ contains_key m row.name → had ≡ false
@@ -64,7 +64,7 @@ last_moves total m n rows rest row had h parts put has hasnt =
     rw (append-nil (entries_of rest)) at (taken total m n (entries_of rest) [] row had
     (rw (parts, rows-append rest (row ∷ [])) at h) put has hasnt)
 
--- the first row of a page is inserted, after other rows
+-- if the first row of a page is inserted after some of the other rows, under a name that no row has, then all rows are together as before
 pub page_row_moves : (total : Entries) (l m n : Rows) (others left : List VarBind) (row : VarBind)
     (rest : List VarBind) (had : Bool)
     → IsPermutation total (entries l ++ (entries_of others ++ entries_of (row ∷ rest)))
@@ -96,7 +96,7 @@ pub merge_ends : (total new : Entries) (m : Rows) (others : List VarBind) (pages
     → IsPermutation (entries m ++ entries_of others) new → IsPermutation total new
 merge_ends total new m others pages h none put = grind (arith, common_steps, IsPermutation-trans, append-nil)
 
--- if collected rows were inserted in another order, then the entries are still the old ones and those of the collected rows
+-- if collected rows were inserted in another order, then the entries are still the old entries and the entries of the collected rows
 pub sorted_moves : (m : Rows) (new : Entries) (late put : List VarBind) → IsPermutation late put
     → IsPermutation (entries m ++ entries_of put) new
     → IsPermutation (entries m ++ entries_of late) new
@@ -122,7 +122,7 @@ placed_moves old m n gathered late row had h none put has hasnt =
     rw (none, append-nil (entries n)) (IsPermutation-trans _ _ _ (IsPermutation-append_left (entry_of row ∷ []) _ _
     (rw (none, append-nil (entries m)) at h)) (row_moves m n row had put has hasnt))
 
--- the row is appended to the rows that are in order
+-- if a row is appended to the inserted entries `ms`, then all entries are the entries before and this one, in another order
 pub appended_moves : (ms ns late : Entries) (row : VarBind) → ns ≡ ms ++ entry_of row ∷ []
     → IsPermutation ((ms ++ late) ++ entry_of row ∷ []) (ns ++ late)
 appended_moves ms ns late row appended =

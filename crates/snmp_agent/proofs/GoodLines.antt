@@ -1,4 +1,4 @@
--- Good lines define a table.
+-- If lines are good, and no two of them are rows of the same name, then they define a table (`table_of_lines`).
 use Rattle.std.proofs.Common.{◌≡◌, ℕ, List, [], ◌∷◌, ◌++◌, Some, None, refl, T, append_assoc, append-nil}
 use Rattle.std.specs.{List.Sorted.IsPermutation, Ordering.nat_cmp, FinMap.find, FinMap.is_sorted, FinMap.put, FinMap.Entries.is_sorted-put}
 use Rattle.std.proofs.lemmas.List.Sorted.{IsPermutation-append_left, IsPermutation-refl, IsPermutation-trans}
@@ -13,7 +13,7 @@ use Rattle.snmp_agent.proofs.{Faultless.earlier_differs, Faultless.line_good, Va
 use Rattle.snmp_agent.proofs.OneStatement.{StatesOnly, states_only}
 use Rattle.snmp_agent.proofs.TableDrafts.{holds_instance, holds_no_lines, holds_nothing, holds_object, put_moves, whole}
 
--- the entries and the object prefixes of the lines, and the entries in the order of names
+-- there are entries `es` and object prefixes that the lines define, and `fs` are these entries in the order of names
 abbrev HasDraft : Format → List (List ℕ) → Type 0
 HasDraft format lines = (es : List (List ℕ × Datum)) × (fs : List (List ℕ × Datum))
     × (objects : List (List ℕ)) × HoldsLines format lines es objects × IsPermutation es fs
@@ -23,7 +23,7 @@ holds_table : (format : Format) (lines : List (List ℕ)) (h : HasDraft format l
     → HoldsTable format lines h.1 h.2
 holds_table format lines h = whole format lines h.0 h.1 h.2 h.3 h.4 h.5
 
--- what holds of a draft of the lines `done`, in a table whose next line is `line`
+-- if the lines `done` have a draft, and `line` is the next line of a table, then the lines with `line` have one (`one_more`)
 module _ (format : Format) (done : List (List ℕ)) (line : List ℕ) (rest : List (List ℕ))
     (good : AreTable format (done ++ line ∷ rest)) (h : HasDraft format done) where
   no_row : (p : VarBind) → IsRowLine format line p → find (slice_cmp nat_cmp) p.name h.1 ≡ None

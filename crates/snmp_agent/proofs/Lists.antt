@@ -1,4 +1,4 @@
--- Lists: prefixes, elements at an index, and last elements.
+-- General laws of lists, about prefixes (`same_prefix`, `inside`), elements at an index (`around`), and last elements (`last_in_prefix`).
 use Rattle.std.proofs.lemmas.Grind.{common_steps}
 use Rattle.std.proofs.Common.{◌≡◌, ℕ, zero, suc, ◌-◌, ◌≤◌, ◌<◌, List, [], ◌∷◌, ◌++◌, length, take, drop, get_or, map, Some, arith, refl, sym, ap}
 use Rattle.std.proofs.Common.{subst, ◌∙◌, ◌+◌}

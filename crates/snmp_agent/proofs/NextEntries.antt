@@ -1,4 +1,5 @@
--- What follows a name in a list of entries with increasing names: the results of GetNexts.
+-- In a list of entries with increasing names, the first entry after a name is the result of a GetNext (`is_next`), and the next ones are the results of
+-- repeated GetNexts (`asked_past`).
 use Rattle.std.proofs.{lemmas.Grind.common_steps, lemmas.List.Elements.Contains-append_cases, lemmas.List.Elements.Contains-append_right}
 use Rattle.std.proofs.Common.{◌≡◌, ◌↔◌, ℕ, zero, suc, inl, inr, T, List, [], ◌∷◌, ◌++◌, map, Some, true, false, cond, refl, sym, ◌∙◌, ap, subst}
 use Rattle.std.proofs.Common.{append_assoc, Less, ◌+◌, ◌≤◌, length, take, drop, arith, ◌-◌}
@@ -27,7 +28,7 @@ listed : (view : MibView) (o : List ℕ) (prefix back : Entries) → IsSplitAt v
     → Contains (prefix ++ back) (q.name, q.value)
 listed view o prefix back apart q row = listed_from_find q.name q.value (prefix ++ back) (sym (apart.found q.name) ∙ row)
 
--- the two parts of the rows after one entry was passed
+-- if `o` splits the rows into `prefix` and `p ∷ back`, then the name of `p` splits them after `p`
 past : (view : MibView) (o : List ℕ) (prefix back : Entries) (p : List ℕ × Datum) → IsSplitAt view.rows o prefix (p ∷ back)
     → IsSplitAt view.rows p.0 (prefix ++ p ∷ []) back
 past view o prefix back p apart =
@@ -94,7 +95,7 @@ module _ (order : IsOrder) where
 
 -- ---- rows after a name
 
--- entries with increasing names consist of those up to a name and those after it
+-- if entries have increasing names, then they are the entries up to the name `o`, followed by the entries after it
 parting : (o : List ℕ) (es : Entries) → T (is_sorted (slice_cmp nat_cmp) es)
     → (prefix : Entries) × (es ≡ prefix ++ entries_after o es) × IsBeforeNone o prefix × IsBeforeAll o (entries_after o es)
 parting o [] rising = ([], refl, tt, tt)
@@ -133,7 +134,7 @@ all_after view o back h =
     (λ q. h.1.found q ∙ sym (get-from_sorted (slice_cmp nat_cmp) es q h.1.rising)) in
     sym (ap (entries_after o) (ap entries same ∙ entries-from_sorted (slice_cmp nat_cmp) es h.1.rising) ∙ after_both o h.0 back h.1.passed h.1.ahead)
 
--- the first of these entries is a variable
+-- the first entry after a name is a variable of the view
 pub first_row : (view : MibView) (o : List ℕ) (e : List ℕ × Datum) (es : List (List ℕ × Datum)) → AreAllAfter view o (e ∷ es) → IsRow view (var_of e)
 first_row view o e es h = h.1.found e.0 ∙ find-listed e (h.0 ++ e ∷ es) h.1.rising (Contains-append_right h.0 (e ∷ es) e (0, omega arith, refl))
 

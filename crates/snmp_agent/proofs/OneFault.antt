@@ -40,7 +40,7 @@ module _ (format : Format) (line : List ℕ) where
 
 -- ---- which line is faulty
 
--- what a fault says of lines, if it isn't a lack of memory
+-- the fault says what is wrong with a line of `lines`, and the lines before that line define a table
 abbrev IsFaulty : Format → List (List ℕ) → TableError → Type 0
 IsFaulty format lines fault = (prefix : List (List ℕ)) × (line : List ℕ)
     × IsAfterGoodLines format lines (number_of fault) prefix line × IsWrong format prefix line fault

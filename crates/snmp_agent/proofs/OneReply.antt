@@ -42,7 +42,7 @@ same_answers R one _ _ other h k = absurd h
 
 -- ---- longest prefixes
 
--- a longest prefix is no longer than another
+-- if `a` and `b` are longest prefixes of the same bindings, then `a` is no longer than `b`
 no_longer : (max_size : ℕ) (q : Message) (all a b : List VarBind) → IsLongestPrefix max_size q all a → IsLongestPrefix max_size q all b → length a ≤ length b
 no_longer max_size q all a b h k = grind (arith, common_steps)
 
@@ -53,7 +53,7 @@ one_prefix max_size q all a b h k =
 -- ---- rounds
 
 module _ (nexts : HasNextsAfter) (view : MibView) (repetitions : ℕ) (names : List VarBind) where
-  -- no round follows all rounds of a GetBulk
+  -- if `rounds` are all rounds of a GetBulk, then `rounds` with other rounds after them are not
   no_more : (rounds more : List (List VarBind)) (round : List VarBind) → AreRounds view repetitions names rounds
       → AreRounds view repetitions names (rounds ++ round ∷ more) → ⊥
   no_more rounds more round h k =

@@ -40,7 +40,7 @@ module _ (one_name : (text o p : List ℕ) → IsNumericName text o → IsNumeri
   name_once first_format text o p h k = one_name text o p h.named k.named
   name_once (second_format names) text o p h k = one_meant names text o p h.1 k.1
 
-  -- a string is at most one value
+  -- after a tag, a string represents at most one value
   one_value : (format : Format) (tag text : List ℕ) (v w : Datum) → IsValueText format tag text v → IsValueText format tag text w → w ≡ v
   one_value format tag text v w h k = grind (arith, common_steps, same_signed, same_string, name_once, decode_of-same)
 

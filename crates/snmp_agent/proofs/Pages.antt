@@ -1,4 +1,5 @@
--- Pages of rows: how a change of one page changes the list of all rows, and how a page is split.
+-- If one page is changed, then only its part of the list of all rows changes (`spliced`); if a page is split in two, then the list stays the same
+-- (`divided_rows`).
 use Rattle.std.proofs.{lemmas.Grind.common_steps, lemmas.List.Edits.length-remove}
 use Rattle.std.proofs.Common.{◌≡◌, ℕ, suc, ◌+◌, ◌-◌, ◌≤◌, ◌<◌, false, List, [], ◌∷◌, ◌++◌, length, take, drop, None, Some, slice_set, slice_index_or}
 use Rattle.std.proofs.Common.{refl, sym, ◌∙◌, ap, subst, inl, inr, arith, append_assoc, length-append, add-one, true, is_some, Less}
@@ -24,7 +25,7 @@ Entries = List (List ℕ × Datum)
 -- ---- one page among the others
 
 module _ (pages : List Page) (index : ℕ) where
-  -- the rows of all pages if one page is replaced
+  -- if the page at `index` is replaced by one with the entries `es`, then all entries are the entries before it, `es`, and the entries after it
   spliced : (new : Page) (es : Entries) → index < length pages → entries_of new.rows.items ≡ es
       → entries_in (slice_set pages index new) ≡ prefix pages index ++ (es ++ back pages index)
   spliced new es low same = set-parts pages index new low ∙ ap (λ (fs : Entries). prefix pages index ++ (fs ++ back pages index)) same
@@ -38,7 +39,7 @@ module _ (pages : List Page) (index : ℕ) where
       → entries_in (slice_set pages index new) ≡ entries_in pages
   same_rows found new low read same = grind (arith, common_steps, spliced, parts, slice_get_read)
 
-  -- the rows of all pages without one row of a page
+  -- if the row at index `row` of a page is removed, then all entries are the entries without the entry of this row
   pub without_row_of : (page found new : Page) (row : ℕ) → slice_get pages index ≡ Some page → found ≡ slice_index_or pages index found
       → new.rows.items ≡ remove_at found.rows.items row
       → entries_in (slice_set pages index new) ≡ prefix pages index ++ (entries_of (remove_at page.rows.items row) ++ back pages index)
@@ -46,7 +47,7 @@ module _ (pages : List Page) (index : ℕ) where
       spliced new _ (slice_get_within pages index page at)
       (ap entries_of (removed ∙ ap (λ (p : Page). remove_at p.rows.items row) (page_read page found at read)))
 
-  -- the rows of all pages without a page of one row
+  -- if a page of one row is removed, then all entries are the entries without the entry of this row
   pub without_page : (page : Page) (row : ℕ) → row < length page.rows.items → length page.rows.items ≤ 1
       → entries_in (remove_at pages index) ≡ prefix pages index ++ (entries_of (remove_at page.rows.items row) ++ back pages index)
   without_page page row low one =
@@ -86,7 +87,7 @@ module _ (pages : List Page) (index : ℕ) (o : List ℕ) (h : IsPageOf o pages 
   pub get_in_page : ArePages pages → get (from_sorted {R = slice_cmp nat_cmp} (entries_in pages)) o ≡ find (slice_cmp nat_cmp) o (entries_of page.rows.items)
   get_in_page rising = get_in o pages rising ∙ find_in_page
 
-  -- the rows up to an index of a page, and those after it
+  -- if the rows after `o` begin at index `n` of the only page that can have a row of `o`, then `o` splits all rows at that index
   pub apart_in_page : ArePages pages → (n : ℕ) → IsIndexAfter o page.rows.items n → IsSplitAt (from_sorted (entries_in pages)) o
       (prefix pages index ++ entries_of (take n page.rows.items)) (entries_of (drop n page.rows.items) ++ back pages index)
   apart_in_page rising n there =

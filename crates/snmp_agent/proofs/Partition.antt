@@ -1,4 +1,4 @@
--- The index at which the rows after a name begin, on a page and among the pages (`page_before`).
+-- The rows after a name begin at the index that a search finds, on a page (`index_found`) and among the pages (`page_before`).
 use Rattle.std.proofs.lemmas.Grind.{common_steps}
 use Rattle.std.proofs.Common.{◌≡◌, ℕ, zero, suc, ◌-◌, ◌≤◌, ◌<◌, true, false, List, [], ◌∷◌, ◌++◌, ◌∙◌, length, take, drop, slice_index_or, slice_set}
 use Rattle.std.proofs.Common.{refl, ap, subst, arith, append_assoc, Some, Less}
@@ -62,7 +62,7 @@ pub pages-append : (xs ys : List Page) → entries_in (xs ++ ys) ≡ entries_in 
 pages-append [] ys = refl
 pages-append (page ∷ xs) ys = grind (arith, common_steps, pages-append xs ys, append_assoc)
 
--- the rows before a page, on it and after it
+-- `prefix` are the entries before the page at `index`, and `back` the entries after it; together with its own they are all entries (`parts`)
 module _ (pages : List Page) (index : ℕ) where
   abbrev pub prefix : List (List ℕ × Datum)
   prefix = entries_in (take index pages)
@@ -117,8 +117,7 @@ pages_ahead o (page ∷ pages) (suc n) rising h =
     pages_ahead o pages n (rising_rest (entries_of page.rows.items) (entries_in pages) rising)
     (λ k d from below. h (suc k) d (omega (arith, from)) (omega (arith, below)))
 
--- the page before the first one that begins after the name is the only one that can have a row of
--- the name
+-- the last page whose first name isn't greater than `o`, or page 0 if there is none, is the only one that can have a row of `o`
 pub page_before : (o : List ℕ) (pages : List Page) (n : ℕ) → ArePages pages → IsHalvedTo (λ page. begins_up_to o page.rows.items) pages n n
     → IsPageOf o pages (n - 1)
 page_before o pages zero rising h = record {

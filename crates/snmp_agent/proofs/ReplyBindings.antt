@@ -46,7 +46,7 @@ fill_full h (p ∷ more) full = ap (λ (g : Held). fill g more) (add_full h p fu
 
 -- ---- prefixes
 
--- the first of the bindings has no room after `total` octets
+-- there are no bindings, or the first of them has no room after `total` octets
 abbrev pub HasNoRoom : ℕ → ℕ → List VarBind → Type 0
 HasNoRoom room total [] = Unit {0}
 HasNoRoom room total (p ∷ more) = room < total + length (canon_binding p)
@@ -107,7 +107,7 @@ all_prefix room all fresh reply out new empty left same = grind (arith, common_s
 
 -- ---- whether a message with these bindings stays within its limit
 
--- the length of bindings is that of the bindings before one of them, of this one, and of those after it
+-- the length of bindings is the sum of three lengths: of the bindings before `p`, of `p`, and of the bindings after it
 pub longer_by : (prefix rest : List VarBind) (p : VarBind)
     → length (canon_bindings (prefix ++ p ∷ rest)) ≡ length (canon_bindings prefix) + (length (canon_binding p) + length (canon_bindings rest))
 unfolding canon_bindings

@@ -1,4 +1,5 @@
--- Requests and the Responses to them.
+-- The whole Response that is computed for a request is the one that the standard describes (`whole_response`), and its length is computed right
+-- (`response_size`).
 use Rattle.std.proofs.{lemmas.Grind.common_steps, lemmas.Int.to_z-of_z}
 use Rattle.std.specs.Cmp.Lexicographic.{pointwise, same_text, other_text}
 use mir.Syntax.{w32}
@@ -18,7 +19,7 @@ same_head : (m : Message) (total : ℕ) → canon_head (record m { bindings = []
 unfolding canon_head canon_prefix canon_opening canon_fields
 same_head m total = refl
 
--- `f` computes an answer to each binding
+-- if `f` returns an answer to any binding, then `map f` returns answers to a list of bindings
 each : (R : VarBind → VarBind → Type 0) (f : VarBind → VarBind) → ((asked : VarBind) → R asked (f asked))
     → (asked : List VarBind) → AreAnswers R asked (map f asked)
 each R f one [] = tt
@@ -41,7 +42,7 @@ by_kind order view q kind.SetRequest e h other = unwritten e (ap (λ bs. respons
 by_kind order view q kind.GetBulkRequest e h other = absurd (other refl)
 by_kind order view q _ e h other = absurd h
 
--- the whole Response to a request is the one that is computed
+-- the whole Response to a request other than a GetBulk is the one that is computed
 pub whole_response : IsOrder → (view : MibView) (q : Message) → IsServed q.kind → (q.kind ≡ kind.GetBulkRequest → ⊥)
     → IsWhole view q (response q (whole_status q.kind) (whole_index q.kind q.bindings) (answers_to view q.kind q.bindings))
 whole_response order view q h other = by_kind order view q q.kind refl h other
@@ -55,8 +56,8 @@ response_size sizes q status index returned =
     ap (λ head. length head + length (canon_bindings returned)) (same_head (response q status index returned) (length (canon_bindings returned)))
     ∙ sym (sizes.whole (response q status index returned))
 
--- a message of parts `m` whose bindings are the first octets of the output, written to `part`, the
--- part of the output that a message may take
+-- if the first `total` octets of `out` are the bindings of the message `r`, and its head and these octets are written to the start of `part`, the octets
+-- that a message may take, then `r` is written (`is_written`)
 module _ (sizes : MessageSizes) (pieces : HasPieces) (limit total : ℕ) (m r : Message) (out part rest : List ℕ) (parts : m ≡ record r { bindings = [] })
     (octets : take total out ≡ canon_bindings r.bindings) (long : length (take total out) ≡ total) (room : length part ≡ limit) where
   total_size : total ≡ length (canon_bindings r.bindings)

@@ -1,4 +1,5 @@
--- The rounds of a GetBulk.
+-- Appending the rounds one after the other appends all rounds of the GetBulk (`rounds_next`, `rounds_over`), and these are the rounds of the standard
+-- (`is_bulk`).
 use Rattle.std.proofs.{lemmas.Grind.common_steps, lemmas.List.append-nil}
 use Rattle.std.proofs.Common.{◌≡◌, ◌⊎◌, inl, inr, ℕ, zero, suc, ◌+◌, ◌-◌, ◌≤◌, ◌<◌, true, false, cond, List, [], ◌∷◌, ◌++◌, length, take, drop, refl}
 use Rattle.std.proofs.Common.{sym, ap, subst, ◌∙◌, arith}
@@ -15,7 +16,7 @@ not_empty (r ∷ before) later round e = cc
 
 -- ---- rounds that are appended, one after the other
 
--- `now` is the reply after `round` rounds: appending the remaining rounds to it gives the same as
+-- `now` is the reply after `round` rounds: appending the remaining rounds to it results in the same as
 -- appending all rounds to `old`
 abbrev pub AreLeft : MibView → List VarBind → ℕ → Held → ℕ → Held → Type 0
 AreLeft view names repetitions old round now = (left : ℕ) → round + left ≡ repetitions
@@ -38,7 +39,7 @@ module _ (view : MibView) (names : List VarBind) (repetitions : ℕ) (old : Held
           ∙ fill_both now (bindings_in_round view round names) (joined rest)
           ∙ ap (λ (h : Held). fill h (joined rest)) (sym added)
 
-      -- no room is left for other rounds, or none follows
+      -- if no room is left after this round, or no round follows it, then all rounds were appended
       pub rounds_over : round < repetitions → (new.left ≡ 0) ⊎ (list_all is_over (cursors_of view round names) ≡ true)
           → new ≡ fill old (joined (rounds_from view names 0 repetitions))
       rounds_over below (inl full) =
@@ -52,10 +53,10 @@ module _ (view : MibView) (names : List VarBind) (repetitions : ℕ) (old : Held
           ∙ ap (λ over. fill now (bindings_in_round view round names ++ joined (cond over [] (rounds_from view names (round + 1) left)))) over
           ∙ ap (fill now) (append-nil (bindings_in_round view round names)) ∙ sym added)
 
--- ---- the rounds are those of the standard
+-- ---- the computed rounds are the rounds of the standard
 
 module _ (order : IsOrder) (view : MibView) (mib : IsMibView view) (names : List VarBind) where
-  -- the round at an index has what the names are given, and no round follows one that is
+  -- the round at an index has the results of that round for the names, and no round follows one that is
   -- endOfMibView throughout
   at_index : (i left : ℕ) (before later : List (List VarBind)) (round : List VarBind) → rounds_from view names i left ≡ before ++ round ∷ later
       → AreInRound view (i + length before) names round × (AreEnds round → later ≡ [])
@@ -111,7 +112,7 @@ module _ (order : IsOrder) (view : MibView) (mib : IsMibView view) (names : List
     closed = (early 0 repetitions).1;
   }
 
--- the bindings that are computed for a GetBulk are those that it asks for
+-- the bindings that are computed for a GetBulk are all that it asks for
 pub is_bulk : IsOrder → (view : MibView) → IsMibView view → (q : Message) → IsBulk view q (bulk_of view q)
 is_bulk order view mib q = record {
   singles = bindings_in_round view 0 (take (or_zero q.a) q.bindings);

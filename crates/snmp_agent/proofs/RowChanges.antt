@@ -1,4 +1,5 @@
--- How a change of one row affects Gets and other changes.
+-- If a row is put or removed, then Gets of other names stay the same (`got_elsewhere`, `still_got`); two changes can be exchanged or combined (`two_names`,
+-- `put_and_removed`).
 use Rattle.std.proofs.Common.{◌≡◌, ◌↔◌, ◌∙◌, Bool, true, false, cond, List, ℕ, Some, None, Ordering, refl, sym, ap}
 use Rattle.std.specs.{Ordering.nat_cmp, Ordering.is_eq, Ordering.eq_by_cmp, Cmp.tied_itself, Cmp.Lexicographic.slice_cmp}
 use Rattle.std.specs.Cmp.Lexicographic.{nat_list_cmp_total}
@@ -27,7 +28,7 @@ other_name o q other =
 
 -- ---- Gets
 
--- a Get of `q` depends on no row but that of `q`
+-- if a look-up of `q` finds the same in `view.rows` and in `rows`, then a Get of `q` returns the same from both
 same_get : (view : MibView) (rows : Rows) (q : List ℕ) (p : VarBind) → get view.rows q ≡ get rows q → IsGet view q p
     → IsGet (record { rows = rows; objects = view.objects }) q p
 same_get view rows q p same (variable named row) =

@@ -1,4 +1,4 @@
--- The look-up of a row and of an object prefix by name.
+-- If no row has a name, then a Get returns the exception that the object prefixes decide (`get_no_instance`, `get_no_object`).
 use Rattle.std.proofs.Common.{◌≡◌, ℕ, zero, suc, ◌+◌, ◌<◌, List, [], ◌∷◌, map, length, take, Some, None, refl, sym, ◌∙◌, ap, subst, arith}
 use Rattle.std.proofs.Common.{◌||◌, true, false, Vec, Global, length-append}
 use Rattle.std.specs.{Ordering.nat_cmp, Ordering.is_eq, Ordering.eq_by_cmp, Cmp.Lexicographic.slice_cmp, Cmp.Lexicographic.nat_list_cmp_total}
@@ -31,7 +31,7 @@ get_no_object view objects o same nothing never = unknown_object nothing (λ h. 
 
 -- ---- object prefixes
 
--- a look-up finds an identifier among the keys if it is among their numbers
+-- a look-up of `o` among the keys finds it if and only if `o` is among the lists of their numbers
 pub list_any-items : (o : List ℕ) (keys : List (Vec ℕ Global))
     → list_any (λ key. is_eq (slice_cmp nat_cmp o key.items)) keys ≡ list_any (eq_by_cmp (slice_cmp nat_cmp) o) (map (λ key. key.items) keys)
 list_any-items o [] = refl

@@ -1,4 +1,4 @@
--- The turns of a server.
+-- The counts of a server are right after each turn (`no_turns`, `more_turns`), and so is the fault count of its endpoint (`risen_in_turn`).
 use Rattle.std.proofs.{lemmas.Grind.common_steps, lemmas.List.flat_map_more, lemmas.List.length_push, lemmas.List.Sums.sum_by_push}
 use Rattle.std.proofs.Common.{◌≡◌, ℕ, ◌+◌, List, [], ◌∷◌, ◌++◌, ap, ◌∙◌, subst, arith}
 use Rattle.std.specs.Prelude.{cond, count_by}
@@ -42,11 +42,11 @@ module _ {Peer : Type 0} where
   one_more_counts : (done : List (TurnDone Peer)) (d : TurnDone Peer) → one_more d.turn (tally done) ≡ tally (done ++ d ∷ [])
   one_more_counts done d = grind (arith, common_steps, one_more_of, count_push)
 
-  -- if nothing was counted, then the counts are those of no turns
+  -- if nothing was counted, then the counts are right for no turns
   pub no_turns : (agent : Agent) (s : Served) → s ≡ record { replies = 0; dropped = 0; idle = 0; faults = 0 } → AreTurns {Peer = Peer} agent 0 s []
   no_turns agent s none = grind (arith, common_steps, All-nil)
 
-  -- if one more turn is counted after n turns, then the counts are those of n + 1 turns
+  -- if the counts are right for `n` turns, and one more turn is counted, then they are right for `n + 1` turns
   pub more_turns : (agent : Agent) (n : ℕ) (s more : Served) (events : List (Event Peer)) (t : Turn) (now : List (Event Peer)) → more ≡ one_more t s
       → AreTurns agent n s events → IsTurn agent t now → AreTurns agent (n + 1) more (events ++ now)
   more_turns agent n s more events t now counted so_far is =
@@ -70,7 +70,7 @@ risen_more n m a b c h k = grind (arith, common_steps)
 faults_with : (t : Turn) (s : Served) → s.faults + cond (same_turn turn.Failed t) 1 0 ≡ (one_more t s).faults
 faults_with t s = grind (arith, common_steps)
 
--- if the faults counted are those by which the count increased, then so they are after one more turn, which counts as a fault if it failed
+-- if the endpoint's count increased by the faults counted so far, and in one more turn by 1 if that failed, then it increased by the faults then counted
 pub risen_in_turn : (t : Turn) (s more : Served) (a b c : ℕ) → more ≡ one_more t s → HasIncreasedBy s.faults a b
     → HasIncreasedBy (cond (same_turn turn.Failed t) 1 0) b c → HasIncreasedBy more.faults a c
 risen_in_turn t s more a b c is h k = grind (arith, common_steps, faults_with, risen_more)

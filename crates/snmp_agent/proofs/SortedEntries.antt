@@ -1,4 +1,4 @@
--- Lists of entries with increasing names.
+-- In a list of entries with increasing names, a name before the first entry comes before all (`before_from`), and `find` finds each entry (`find-listed`).
 use Rattle.std.proofs.{lemmas.Grind.common_steps, lemmas.List.Elements.Contains-append_right}
 use Rattle.std.proofs.Common.{arith, ◌≡◌, ℕ, zero, suc, Bool, true, false, cond, ◌&&◌, T, List, [], ◌∷◌, ◌++◌, Some, refl, sym, ◌∙◌, ap, subst}
 use Rattle.std.proofs.Common.{Ordering, Less, Equal, Greater}

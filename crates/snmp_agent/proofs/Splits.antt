@@ -1,4 +1,4 @@
--- Strings that are split at an octet, and at line ends.
+-- A search for an octet splits a string where this octet occurs first (`cut`); the first line of a text ends at the first LF (`lines_first`).
 use Rattle.std.proofs.{lemmas.Grind.common_steps, lemmas.List.get_or-take, lemmas.List.get_or_default, lemmas.List.length-take-le}
 use Rattle.std.proofs.{lemmas.List.Splits.length-slice_split, lemmas.List.Splits.slice_split_at, lemmas.List.Splits.slice_split_none}
 use Rattle.std.proofs.{lemmas.Option.slice_get-get_or, Common.eqb-true, Common.false, Common.eqb, Common.[], Common.refl}
@@ -10,7 +10,7 @@ use Rattle.snmp_agent.proofs.Lists.{around}
 pub others : (octet : ℕ) (text : List ℕ) → ((k : ℕ) → k < length text → get_or text k 0 ≡ octet → ⊥) → All (λ o. o ≢ octet) text
 others octet text none = λ k d low same. none k low (get_or_default text k 0 d low ∙ same)
 
--- the string is split at index `index`, where `octet` is for the first time
+-- `index` is the index of the first `octet` in `text`, and splits `text` there
 pub record Cut (octet : ℕ) (text : List ℕ) (index : ℕ) : Type 0 where
   pub parts : text ≡ take index text ++ octet ∷ drop (suc index) text
   pub prefix : All (λ o. o ≢ octet) (take index text)
@@ -29,7 +29,7 @@ cut octet text index low at none = record {
 is_other : (octet : ℕ) → octet ≢ 10 → eqb octet 10 ≡ false
 is_other octet other = grind (arith, common_steps, eqb-true)
 
--- of two or more parts between newlines, the first line is the first part without a CR at its end, and the other lines are those of the other parts
+-- if a text has two or more parts between newlines, then its first line is the first part without a CR at its end; its other lines come from the other parts
 line_before : (line : List ℕ) (parts : List (List ℕ)) → 0 < length parts
     → lines_of_parts (line ∷ parts) ≡ strip_carriage_return line ∷ lines_of_parts parts
 line_before line parts some = grind (arith, common_steps)

@@ -1,4 +1,4 @@
--- What lines contain.
+-- What the code reads from a line is what the line contains (`object_states`, `row_states`), or says why it isn't good (`row_faults`).
 use Rattle.std.proofs.{lemmas.Grind.common_steps, lemmas.List.append_cancel_left, lemmas.Map.Views.Contains-from_any}
 use Rattle.std.proofs.lemmas.List.Elements.{All-nil, All-cons}
 use Rattle.std.proofs.Common.{◌≡◌, ◌≢◌, ℕ, ◌^◌, ◌<◌, inl, inr, List, [], ◌∷◌, ◌++◌, Result, IfErr, IfOk, refl, sym, ◌∙◌, append_assoc, arith, codes}

@@ -1,4 +1,5 @@
--- What lines define together, and the draft that stores it.
+-- If a draft stores what some lines define, and one more line is added, then it stores what they define together (`holds_more`). Sorted, its entries are the
+-- entries of the table (`whole`).
 use Rattle.std.proofs.{lemmas.Grind.common_steps, Math.Bool.or-true, lemmas.Bool.or_cases, lemmas.List.Quantifiers.all_pairs_push}
 use Rattle.std.proofs.Common.{◌≡◌, Option, is_some, ℕ, ◌⊎◌, inl, inr, ◌↔◌, true, false, cond, ◌||◌, List, [], ◌∷◌, ◌++◌, map, Some, None, refl}
 use Rattle.std.proofs.Common.{sym, ◌∙◌, T, ap, Less, get_or, Equal, Greater, Vec, Global, ◌+◌, ◌≤◌, arith}
@@ -23,7 +24,7 @@ use Rattle.snmp_agent.proofs.SortedEntries.{before_all, find-listed, first_of_bo
 counted_itself : (o : List ℕ) (v : Datum) → has_key o (o, v) ≡ 1
 counted_itself o v = ap (λ r. cond (is_eq r) 1 0) (tied_itself nat_list_cmp_total o)
 
--- an entry of the name counts as at least one
+-- if `es` contains an entry of the name `o`, then at least one entry is counted for `o`
 contained_counts : (o : List ℕ) (v : Datum) (es : List (List ℕ × Datum)) → Contains es (o, v)
     → 1 ≤ sum_by (has_key o) es
 contained_counts o v es h =
@@ -73,7 +74,7 @@ put_moves o v (e ∷ es) absent =
 
 -- ---- one more line
 
--- one of the lines contains it: for an instance this is `HasRow`, for an object prefix `HasPrefix`
+-- one of the lines contains the statement `s`: for an instance this is `HasRow`, for an object prefix `HasPrefix`
 abbrev IsStated : Format → List (List ℕ) → Statement → Type 0
 IsStated format lines s = (line : List ℕ) × Contains lines line × States format line s
 
@@ -107,7 +108,7 @@ holds_no_lines format es os no_entries no_objects = rw (no_entries, no_objects) 
         (λ found. (let no : ⊥ = cc in absurd no), λ h. absurd (omega (arith, h.1.1)));
   }
 
--- what entries and object prefixes hold after `line`, if they held the lines `before` until then
+-- if `es` and `os` are the entries and the object prefixes of the lines `before`, then `holds_more` says what they are with `line` after these
 module _ (format : Format) (before : List (List ℕ)) (line : List ℕ)
     (es : List (List ℕ × Datum)) (os : List (List ℕ)) (h : HoldsLines format before es os) where
   -- what the lines then contain is what they contained before, and what this one contains
@@ -121,7 +122,7 @@ module _ (format : Format) (before : List (List ℕ)) (line : List ℕ)
     λ is. new.1 (elim (stated_either format before line t is) [ inl earlier ↦ inl (old.1 earlier) | inr now ↦ inr (only.1 t now) ]),
   )
 
-  -- the entries and the object prefixes then, by what they were and what the line contains
+  -- if `fs` and `more` are `es` and `os` with what `line` contains, then they are the entries and the object prefixes of `before` and `line`
   holds_more : (s : Statement) → StatesOnly format line s → (fs : List (List ℕ × Datum)) (more : List (List ℕ))
       → ((p : VarBind) → Contains fs (entry_of p) ↔ (Contains es (entry_of p) ⊎ (instance p ≡ s)))
       → ((o : List ℕ) → (list_any (eq_by_cmp (slice_cmp nat_cmp) o) more ≡ true)

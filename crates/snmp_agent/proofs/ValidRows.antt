@@ -13,7 +13,7 @@ use Rattle.snmp_agent.proofs.Statements.{name_numbers}
 identifier : (text o : List ℕ) → IsName text o → IsIdentifier o
 identifier text o h = record { short = h.short; numbers = name_numbers text o h.named }
 
--- a name is the name of an identifier
+-- if `text` is a name of `o`, then `o` is an identifier
 is_identifier : (format : Format) (text o : List ℕ) → IsNameIn format text o → IsIdentifier o
 is_identifier format text o h = grind (arith, common_steps, identifier)
 

@@ -2,7 +2,7 @@
 use Rattle.std.specs.Prelude.{◌≡◌, ℕ, List, [], ◌∷◌, take, Option, Some, None, Result, Ok, Err}
 use Rattle.snmp_agent.specs.declared.endpoint.EndpointFault.{EndpointFault}
 
--- an event: a datagram came from a peer, none came in time, or a receive failed; or a reply was
+-- an event: a datagram came from a peer, none came in time, or a receive failed; or a datagram was
 -- sent to a peer, or its send failed
 pub data Event (Peer : Type 0) : Type 0 where
   came : Peer → List ℕ → Event Peer
@@ -11,8 +11,8 @@ pub data Event (Peer : Type 0) : Type 0 where
   sent : Peer → List ℕ → Event Peer
   send_failed : Peer → List ℕ → Event Peer
 
--- the steps lead from state `old` to state `new`, each from the state in which the previous one
--- ended
+-- the steps of the list, one after the other, change the state `old` into the state `new`; each
+-- begins in the state that the previous one left
 abbrev pub InTurn : {L X : Type 0} → (L → X → L → Type 0) → L → List X → L → Type 0
 InTurn {L} step old [] new = new ≡ old
 InTurn {L} step old (x ∷ more) new =

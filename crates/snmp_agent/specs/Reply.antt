@@ -77,10 +77,10 @@ abbrev pub failed_index : List VarBind → ℤ
 failed_index [] = pos 0
 failed_index (_ ∷ _) = pos 1
 
--- `r` is the whole Response to the request `q`, whatever its length. It has one binding for each
--- binding of the request: for a Get the results of a Get (4.2.1), for a GetNext the successors
--- (4.2.2), and for a Set the request's own bindings with an error, since nothing can be written
--- (4.2.5).
+-- `r` is the whole Response to the request `q`, whatever its length. `q` isn't a GetBulk, and `r`
+-- has one binding for each binding of `q`: for a Get the results of a Get (4.2.1), for a GetNext
+-- the successors (4.2.2), and for a Set the request's own bindings with an error, since nothing
+-- can be written (4.2.5).
 pub data IsWhole (view : MibView) (q r : Message) : Type 0 where
   got : (bindings : List VarBind) → q.kind ≡ kind.GetRequest
       → AreAnswers (λ asked returned. IsGet view asked.name returned) q.bindings bindings
@@ -130,8 +130,8 @@ pub record AreRounds (view : MibView) (repetitions : ℕ) (names : List VarBind)
       × AreEnds round
 
 -- `bindings` are all that a GetBulk asks for, whatever their length: the successors of its first
--- names, as many as non-repeaters says, or of all if there are fewer, and then max-repetitions
--- rounds of the other names. A negative number counts as 0.
+-- names, as many as non-repeaters says, or of all if there are fewer, and then the rounds of the
+-- other names, at most max-repetitions (`AreRounds`). A negative number counts as 0.
 pub record IsBulk (view : MibView) (q : Message) (bindings : List VarBind) : Type 0 where
   pub singles : List VarBind
   pub rounds : List (List VarBind)
@@ -140,8 +140,8 @@ pub record IsBulk (view : MibView) (q : Message) (bindings : List VarBind) : Typ
       (or_zero q.a) q.bindings) singles
   pub are_rounds : AreRounds view (or_zero q.b) (drop (or_zero q.a) q.bindings) rounds
 
--- `bindings` are the longest prefix of `all` with which the Response fits, or empty if it fits
--- with none
+-- `bindings` are the longest prefix of `all` with which the Response fits, or empty if the Response
+-- doesn't fit even without bindings
 pub record IsLongestPrefix (max_size : ℕ) (q : Message) (all bindings : List VarBind) : Type 0 where
   pub more : List VarBind
   pub prefix : all ≡ bindings ++ more

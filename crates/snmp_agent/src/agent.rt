@@ -40,7 +40,7 @@ pub fn answer(
     out: &mut [u8; MAX_DATAGRAM],
 ) -> Outcome
     // The Response to a GetBulk has as many of its bindings as fit. If another Response doesn't
-    // fit, the reply is the error tooBig.
+    // fit, the reply is the error tooBig, if that fits.
     ensures reply { (n : ℕ) → result ≡ Outcome.Reply n
         → IsReply (agent_of table.now config.now) request.now (take n out.new) }
     ensures length { (n : ℕ) → result ≡ Outcome.Reply n → n ≤ config.now.max_size }
@@ -58,8 +58,8 @@ pub fn answer(
 }
 
 /// Does what [`answer`] does, faster for a series of requests: a name whose position is in `hint`
-/// is found without a search. Records in `hint` where a search found a name, and the position of
-/// the last row that a GetNext or a GetBulk of one name returned.
+/// is found without a search. Records in `hint` positions of names that were searched, and mostly
+/// also the position of the last row that a GetNext, or a GetBulk of one name, returned.
 ///
 /// The reply doesn't depend on `hint`, which may even come from another table.
 pub fn answer_near(
@@ -202,7 +202,7 @@ fn paired_reply(
         hint,
     );
     // If a binding had no room, `left` is 0. Then `total` is `max_size`, so no head fits, and the
-    // reply is the error tooBig (RFC 3416, section 4.2.1).
+    // reply is the error tooBig if that fits (RFC 3416, section 4.2.1).
     let total = room - bindings.left;
     match seal_reply(&parts, total, config, out) {
         Some(size) => Some(size),

@@ -98,8 +98,8 @@ fn append_exception(
     reply.append(out, &binding)
 }
 
-/// Appends what a GetNext of the name of `asked` returns, and records the row in `hint` as the
-/// last one returned.
+/// Appends what a GetNext of the name of `asked` returns. If that is a row, records it in `hint`
+/// as the last one returned.
 pub fn append_next(
     table: &Table,
     asked: &BindingRef<'_>,

@@ -1,7 +1,7 @@
 //! The bindings of the reply to a GetBulk (RFC 3416, section 4.2.3).
 //!
-//! Like those of other replies, they are written to the start of the output. They end before the
-//! first that has no room.
+//! A round is one repetition: a GetNext of each repeating name. The bindings are written to the
+//! start of the output, as for other replies. They end before the first binding that has no room.
 ghost use Rattle.std.specs.Prelude.{◌≡◌, ◌≢◌, ◌⊎◌, ◌≤◌, [], ◌∷◌, ◌++◌, true, false, take, drop};
 ghost use Rattle.std.specs.{Prelude.map, Prelude.length, List.list_all};
 ghost use Rattle.snmp_wire.specs.Parts.{parts_message};
@@ -92,7 +92,7 @@ fn append_singles<'a>(
     reply
 }
 
-/// Appends the rounds of the bindings, at most `repetitions` of them.
+/// Appends the rounds of `bindings`, the repeating ones: at most `repetitions` rounds.
 fn append_repeaters<'a>(
     table: &'a Table,
     repetitions: usize,
@@ -111,8 +111,9 @@ fn append_repeaters<'a>(
     }
 }
 
-/// Appends the rounds of a single binding, as a walk requests them. Each round begins where the
-/// previous one ended, so nothing is searched. Records the last row in `hint`.
+/// Appends the rounds of a single binding, as a walk requests them. Each round begins at the row
+/// that the previous one returned, so only the first may search. Records the position that it
+/// reaches in `hint`: mostly that of the last row returned. If the rows end, it may record nothing.
 fn append_column<'a>(
     table: &'a Table,
     repetitions: usize,
@@ -187,8 +188,8 @@ fn push_cursors<'a>(
     }
 }
 
-/// Appends the rounds of `bindings`. The first of them have the positions `cursors`: each round
-/// begins where the previous one ended, and nothing is searched. The remaining ones, `others`, are
+/// Appends the rounds of `bindings`. The first bindings have the positions `cursors`, which each
+/// round moves on, so nothing is searched. The names of the remaining bindings, `others`, are
 /// searched in each round; a reply has room for few of them.
 fn append_rounds<'a>(
     table: &'a Table,
@@ -214,9 +215,10 @@ fn append_rounds<'a>(
     reply
 }
 
-/// Appends what a GetNext returns from each of `cursors`, and moves these on. Then appends what
-/// each of `others` gets after `round` rounds. Also returns whether no round follows: there is no
-/// room left, or no row was left at any position.
+/// Appends what a GetNext returns from each of `cursors`, and moves each on. Then appends, for each
+/// of `others`, what a GetNext returns from the position that its name has after `round` rounds.
+/// Stops at the first binding that has no room: the cursors after it aren't moved. Also returns
+/// whether no round follows: no room is left, or no row was left at any position.
 fn append_round<'a>(
     table: &'a Table,
     round: usize,

@@ -14,7 +14,7 @@ use std::marker::Model;
 #[derive(Drop)]
 pub enum Previous<'a> {
     /// No name was requested: the default, for arrays of positions. The name of a position always
-    /// has an encoding, so this one's is 0.0.
+    /// has an encoding, so the default has the name 0.0.
     Nothing,
     /// Nothing yet. Holds the name in the request.
     Asked(EncodedName<'a>),
@@ -23,7 +23,8 @@ pub enum Previous<'a> {
 }
 
 impl Previous<'_> {
-    /// Reads the name into `into`. It has an encoding by the contract of `content`.
+    /// Reads the name into `into`. The calls of `content` show, by its contract, that the name has
+    /// an encoding.
     fn read_name(&self, into: &mut Oid)
         ensures name { into.new ≡ name_of self.now }
         ensures wire { IsWire into.new }
@@ -48,7 +49,7 @@ impl Previous<'_> {
 pub struct Cursor<'a> {
     /// What was returned for the name last.
     previous: Previous<'a>,
-    /// The rows after that.
+    /// The rows after the row that was returned last, or after the name in the request.
     rows: Successors<'a>,
 }
 

@@ -19,10 +19,10 @@ pub trait Endpoint {
     type Peer: Copy;
 
     /// `happens old event new`: in state `old`, `event` can happen and leave the endpoint in state
-    /// `new`. It says nothing of a socket.
+    /// `new`. For a socket it always holds, so it says nothing.
     ghost happens: { Self → Event Self.Peer → Self → Type 0 };
 
-    /// The number of receives and replies that failed.
+    /// The number of receives and replies that failed, at most 18446744073709551615.
     ghost fault_count: { Self → ℕ };
 
     /// Receives a datagram into the start of `buffer`, and returns its length and its sender.

@@ -46,8 +46,8 @@ pub fn one_fault()
         → fault ≢ TableError.Memory → other ≢ TableError.Memory → fault ≡ other }
 {}
 
-/// Lines without the mark of the second format define the same table whatever the names, and have
-/// the same first fault: those of the first format.
+/// If lines don't begin with the mark of the second format, `#snmptab 2`, then the first format
+/// decides which table they define, if any, and what their first fault is, whatever the names.
 pub fn unmarked_table()
     ensures table { (names : Names) (lines : List (List ℕ)) (view : MibView)
         → (IsMarked lines → ⊥) → (IsTableOf names lines view ↔ IsTableIn first_format lines view) }
@@ -97,8 +97,9 @@ pub fn one_reply()
     one_spelling();
 }
 
-/// A reply is the shortest encoding of its Response: it is strict, and every other strict encoding
-/// is longer. The agent must serve a MIB view, as a table is
+/// A reply is the shortest encoding of its Response: it is strict (unsigned numbers too are in
+/// two's complement), and every other strict encoding is longer. The agent must serve a MIB view,
+/// as a table is
 /// ([`Table::is_mib_view`](crate::Table::is_mib_view)), with messages of at most 65535 octets; a
 /// configuration allows at most 65507.
 pub fn shortest_reply()

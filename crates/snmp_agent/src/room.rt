@@ -94,8 +94,8 @@ impl ReplyBindings {
         self.full()
     }
 
-    /// Returns `false` if the value is a string of more than 65535 octets. A table has no such
-    /// string; a Set may contain one, and it fits in no reply.
+    /// Returns `false` if the value is a string of more than 65535 octets, otherwise `true`. A
+    /// table has no such string; a Set may contain one, and it fits in no reply.
     fn is_short(value: &ValueRef<'_>) -> bool
         ensures { IsTrue result ↔ IsShortValue (datum value.now) }
     {

@@ -14,13 +14,13 @@ use std::net::UdpSocket;
 /// The number of turns of a server, by how they ended.
 #[derive(Clone, Copy, Debug, Default, PartialEq, Eq)]
 pub struct Served {
-    /// Turns in which a datagram was received and its reply was sent.
+    /// Turns that received a datagram and sent its reply.
     pub replies: u64,
-    /// Turns in which a datagram was received that has no reply.
+    /// Turns that received a datagram that has no reply.
     pub dropped: u64,
-    /// Turns in which no datagram was received in time.
+    /// Turns that received no datagram in time.
     pub idle: u64,
-    /// Turns in which a receive or a send failed.
+    /// Turns that failed to receive or to send.
     pub faults: u64,
 }
 
@@ -35,8 +35,8 @@ pub enum Turn {
 
 /// Serves a table over a UDP socket (RFC 3417, section 3) for `turns` turns. In each turn one
 /// datagram is received, or the socket's time-out passes. The agent's reply goes to the address
-/// that the datagram came from. A turn in which a receive or a send fails counts only under
-/// `faults`, and the next turn follows.
+/// that the datagram came from. A turn whose receive or send fails counts only under `faults`, and
+/// the next turn follows.
 ///
 /// A socket without a time-out waits for each datagram. Allocates nothing.
 pub fn serve(socket: &UdpSocket, table: &Table, config: &Config<'_>, turns: u64) -> Served

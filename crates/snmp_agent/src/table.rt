@@ -61,8 +61,8 @@ impl Model for Table {
 }
 
 impl Drop for Table {
-    // Written out, so that it is proved only here. A derived one would be proved in each crate
-    // above, with those of the types of its rows.
+    // Written out, so that it is proved only here. A derived drop would be proved again in each
+    // crate that uses this one, with the drops of all types in a table.
     fn drop(self) {
         let Table {
             alloc: _alloc,
@@ -83,8 +83,8 @@ impl Table {
     ghost use Rattle.snmp_agent.specs.table.Table.{IsAnswerValue, IsGet, IsMibView};
 
     /// Reads the table that `text` defines (`docs/REFERENCE.md`), with numeric names. If a line is
-    /// faulty, returns the fault of the first such line. If memory runs out, returns `Memory`
-    /// instead of any other result.
+    /// faulty, returns the fault of the first such line. If there isn't enough memory, returns
+    /// `Memory` instead of any other result.
     ///
     /// A line ends with LF, with CR LF or at the end of the text. A CR that isn't followed by LF
     /// belongs to its line.
@@ -145,8 +145,8 @@ impl Table {
         let _ = &self.rows;
     }
 
-    /// Returns the exception that a Get of `name` yields, which no instance has (see
-    /// [`Table::get`]).
+    /// Returns the exception that a Get of `name` yields (see [`Table::get`]). No instance may
+    /// have this name.
     #[tactic(auto, using(crate::proofs::RowSearch::get_no_instance, crate::proofs::RowSearch::get_no_object))]
     pub(crate) fn exception(&self, name: &Oid) -> ValueRef<'_>
         requires { get self.now.rows name.now ≡ None }
@@ -181,7 +181,7 @@ impl Table {
     ghost use Rattle.snmp_agent.specs.table.Table.{IsInstanceValue, IsNextAfter, IsPutError};
     ghost use Rattle.snmp_agent.specs.table.Table.{with_row, without_row};
 
-    /// Returns the value that a Get of `name` yields: that of its instance. If there is no
+    /// Returns the value that a Get of `name` yields: the value of its instance. Without an
     /// instance, this is `NoSuchInstance` if an object prefix equals or begins `name`, otherwise
     /// `NoSuchObject` (RFC 3416, section 4.2.1).
     pub fn get(&self, name: &Oid) -> ValueRef<'_>

@@ -15,8 +15,8 @@ use Rattle.snmp_agent.specs.Reply.{joined, or_zero}
 use Rattle.snmp_agent.specs.private.Cursor.{bindings_in_round, is_over, next_at, cursor_of}
 use Rattle.snmp_agent.specs.private.Cursor.{cursors_of}
 
--- what the reply to a Get, a GetNext or a Set has for one binding of the request, and for each of
--- them
+-- what the reply to a Get, a GetNext or a Set has for one binding of the request; `answers_to` is
+-- for all bindings
 abbrev pub answer_to : MibView → Kind → VarBind → VarBind
 answer_to view kind.GetRequest asked = got_at view asked.name
 answer_to view kind.GetNextRequest asked = next_at (cursor_of view 0 asked.name)
@@ -58,8 +58,8 @@ abbrev pub whole_index : Kind → List VarBind → ℤ
 whole_index kind.SetRequest bindings = failed_index bindings
 whole_index _ bindings = pos 0
 
--- if `Some n`: the message was written to the start of `out`, its length is `n`, and this is at
--- most `limit`; if `None`: the message is longer than `limit`
+-- the result is `Some n` if the message `r` was written to the start of `out`, and its length `n`
+-- is at most `limit`; it is `None` if `r` is longer than `limit`
 abbrev pub IsWritten : ℕ → Message → Option ℕ → List ℕ → Type 0
 IsWritten limit r None out = limit < length (canon r)
 IsWritten limit r (Some n) out =
@@ -87,29 +87,30 @@ pub record Held : Type 0 where
 abbrev pub held : ReplyBindings → List ℕ → Held
 held reply out = record { octets = take reply.total out; left = reply.left }
 
--- the octets are appended if there is room for them; otherwise no room is left
+-- the bindings `h` with `octets` appended if there is room for them, otherwise with no room left
 abbrev pub put : Held → List ℕ → Held
 put h octets = cond (leb (length octets) h.left)
     (record { octets = h.octets ++ octets; left = h.left - length octets })
     (record { octets = h.octets; left = 0 })
 
--- one binding is appended
+-- the bindings `h` with the binding `p` appended, or with no room left
 unfoldable pub add : Held → VarBind → Held
 add h p = put h (canon_binding p)
 
--- the bindings are appended, one after the other
+-- the bindings `h` with these bindings appended, one after the other, until one has no room
 abbrev pub fill : Held → List VarBind → Held
 fill h [] = h
 fill h (p ∷ more) = fill (add h p) more
 
 -- ---- GetBulk
 
--- the same as `bindings_in_round`, in the standard's words; proofs compare the two
+-- the second list has the results of the round after `round` others for the names in the first, as
+-- the standard says; proofs compare this with `bindings_in_round`, which computes them
 abbrev pub AreInRound : MibView → ℕ → List VarBind → List VarBind → Type 0
 AreInRound view round = AreAnswers (λ asked returned. IsNextAfter view round asked.name returned)
 
--- the rounds of the names after `round` others, at most `left`; none follows a round before which
--- no variable was left for any name
+-- the rounds of the names after `round` others, at most `left` rounds; a round that began with no
+-- variable left for any name is the last
 abbrev pub rounds_from : MibView → List VarBind → ℕ → ℕ → List (List VarBind)
 rounds_from view names round zero = []
 rounds_from view names round (suc left) = bindings_in_round view round names

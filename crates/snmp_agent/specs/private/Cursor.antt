@@ -9,7 +9,8 @@ use Rattle.snmp_agent.specs.{table.Pages.entries_after, declared.cursor.Previous
 use Rattle.snmp_agent.specs.table.Entries.{last_name, var_of}
 use Rattle.snmp_agent.specs.declared.cursor.Previous.TheVariants as previous
 
--- the name of what was returned last
+-- the name of the row that was returned last; before the first, the name in the request; 0.0 if no
+-- name was requested
 abbrev pub name_of : Previous → List ℕ
 name_of previous.Nothing = 0 ∷ 0 ∷ []
 name_of (previous.Asked name) = name
@@ -33,7 +34,7 @@ next_at cursor = first_or_end cursor.name (map var_of cursor.rows)
 abbrev pub passed : CursorView → CursorView
 passed cursor = cursor_past_first cursor.name cursor.rows
 
--- whether there are no entries
+-- whether the list of entries is empty
 abbrev pub has_none : List (List ℕ × Datum) → Bool
 has_none [] = true
 has_none (e ∷ es) = false
@@ -42,8 +43,8 @@ has_none (e ∷ es) = false
 abbrev pub is_over : CursorView → Bool
 is_over cursor = has_none cursor.rows
 
--- the position of the name `o` after `round` rounds, each of which passes a variable: its name is
--- that of the last variable passed, and the others follow
+-- the position of the name `o` after `round` rounds. Each round passes a variable, if one is left.
+-- The position has the name of the last variable passed, or `o`, and the variables after it.
 unfoldable pub cursor_of : MibView → ℕ → List ℕ → CursorView
 cursor_of view round o =
     let back = entries_after o (entries view.rows) in

@@ -11,7 +11,8 @@ abbrev pub IsTag : List ℕ → Type 0
 IsTag tag = Contains (codes "2" ∷ codes "4" ∷ codes "4x" ∷ codes "6" ∷ codes "64" ∷ codes "65" ∷
     codes "66" ∷ codes "67" ∷ codes "68x" ∷ codes "70" ∷ []) tag
 
--- the line has two bars with a known tag between them, and is neither blank nor an object's
+-- `line` is `name`, a bar, the known tag `tag`, a bar and `text`, and isn't blank or an object
+-- prefix's line
 pub record IsRowForm (format : Format) (line name tag text : List ℕ) : Type 0 where
   pub not_blank : IsBlank line → ⊥
   pub no_object : (object : List ℕ) → line ≢ codes "object " ++ object
@@ -35,7 +36,8 @@ pub record IsBadLine (format : Format) (line : List ℕ) : Type 0 where
   pub no_object : (object : List ℕ) → line ≢ codes "object " ++ object
   pub no_row : (name tag text : List ℕ) → IsRowForm format line name tag text → ⊥
 
--- the name on the line isn't the name of an object prefix or of an instance
+-- the line has the form of an object prefix's line, but its text isn't the name of one; or it has
+-- the form of a row's line, but its name isn't the name of an instance
 abbrev pub IsBadName : Format → List ℕ → Type 0
 IsBadName format line =
     ((text : List ℕ) × (line ≡ codes "object " ++ text)
@@ -43,7 +45,8 @@ IsBadName format line =
     ⊎ ((name : List ℕ) × (tag : List ℕ) × (text : List ℕ) × IsRowForm format line name tag text
     × ((o : List ℕ) → IsInstanceText format name o → ⊥))
 
--- the name on the line is good, and its text isn't a value of the tag
+-- the line has the form of a row's line, with the name of an instance, but its text isn't a value
+-- of the tag
 abbrev pub IsBadValue : Format → List ℕ → Type 0
 IsBadValue format line =
     (name : List ℕ) × (tag : List ℕ) × (text : List ℕ) × IsRowForm format line name tag text

@@ -15,7 +15,8 @@ pub record IsName (text o : List ℕ) : Type 0 where
   pub named : IsNumericName text o
   pub short : length o ≤ 128
 
--- which texts are names: the numeric ones, or those that a meaning, passed by the caller, defines
+-- the texts that are names: the numeric names, or the texts for which `meaning`, which the caller
+-- passes, returns an identifier
 pub data Names : Type 0 where
   numeric_names : Names
   names_by : (meaning : List ℕ → Option (List ℕ)) → Names
@@ -24,7 +25,7 @@ abbrev pub Means : Names → (text o : List ℕ) → Type 0
 Means numeric_names text o = IsName text o
 Means (names_by meaning) text o = (meaning text ≡ Some o) × IsIdentifier o
 
--- a format: the first has numeric names, the second those of a reader
+-- a format: the first has numeric names, the second has these names
 pub data Format : Type 0 where
   first_format : Format
   second_format : Names → Format
@@ -33,7 +34,8 @@ pub data Format : Type 0 where
 abbrev pub IsMarked : List (List ℕ) → Type 0
 IsMarked lines = (more : List (List ℕ)) × (lines ≡ codes "#snmptab 2" ∷ more)
 
--- lines with that mark have the second format, with these names, and all others have the first
+-- `lines` that begin with the mark of the second format have the second format, with `names`, and
+-- all others have the first
 abbrev pub IsFormat : Names → (lines : List (List ℕ)) → Format → Type 0
 IsFormat names lines first_format = IsMarked lines → ⊥
 IsFormat names lines (second_format returned) = IsMarked lines × (returned ≡ names)
@@ -50,9 +52,9 @@ abbrev pub EndsAtBar : Format → (name : List ℕ) → Type 0
 EndsAtBar first_format name = All (λ octet. octet ≢ bar) name
 EndsAtBar (second_format names) name = IsClosed name × HasNoneOutside bar name
 
--- what a reader of names finds at the start of `text`: the name and the length of the prefix
--- before the first bar outside quotes, or of the whole text if there is no such bar; or that this
--- isn't a name
+-- `found` is what a reader of names finds at the start of `text`: the identifier that the prefix
+-- before the first bar outside quotes names, and the length of this prefix; or `None` if this
+-- isn't a name. Without such a bar, the prefix is all of `text`.
 pub record IsLeadingName (names : Names) (text : List ℕ) (found : Option (List ℕ
     × ℕ)) : Type 0 where
   pub prefix : List ℕ

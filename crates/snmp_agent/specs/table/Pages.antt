@@ -59,7 +59,8 @@ pub record IsIndexAfter (o : List ℕ) (rows : List VarBind) (index : ℕ) : Typ
   pub passed : IsBeforeNone o (entries_of (take index rows))
   pub ahead : IsBeforeAll o (entries_of (drop index rows))
 
--- the row at index `index` has the name `o`
+-- the row at index `index` has the name `o`; the names of the rows before it are smaller, and those
+-- of the rows after it are greater
 pub record HasNameAt (o : List ℕ) (rows : List VarBind) (index : ℕ) : Type 0 where
   pub found : VarBind
   pub at : slice_get rows index ≡ Some found
@@ -103,7 +104,7 @@ abbrev pub IsRowIn : List Page → ℕ → ℕ → Type 0
 IsRowIn pages index row = (page : Page) × (slice_get pages index ≡ Some page)
     × (row < length page.rows.items)
 
--- `es` are the entries without that row
+-- `es` are the entries of all pages without the row at index `row` of the page at index `index`
 abbrev pub IsWithoutRow : List Page → ℕ → ℕ → List (List ℕ × Datum) → Type 0
 IsWithoutRow pages index row es = (page : Page) → slice_get pages index ≡ Some page
     → es ≡ entries_in (take index pages) ++ (entries_of (remove_at page.rows.items row)

@@ -31,7 +31,7 @@ abbrev pub IsDouble : Format → List (List ℕ) → List ℕ → Type 0
 IsDouble format prefix line = (p : VarBind) × (q : VarBind) × IsRowLine format line p
     × HasRow format prefix q × (q.name ≡ p.name)
 
--- what is wrong with a line that comes after the lines `prefix`
+-- the error says what is wrong with `line`, which comes after the lines `prefix`
 abbrev pub IsWrong : Format → (prefix : List (List ℕ)) → (line : List ℕ) → TableError → Type 0
 IsWrong format prefix line (error.BadLine number) = IsBadLine format line
 IsWrong format prefix line (error.BadName number) = IsBadName format line
@@ -47,7 +47,8 @@ number_of (error.BadValue number) = number
 number_of (error.Double number) = number
 number_of error.Memory = 0
 
--- why lines of this format don't define a table: what is wrong with the first line that isn't good
+-- the error says why `lines` of this format don't define a table: what is wrong with the first
+-- line that isn't good; `Memory` says nothing of the lines
 abbrev pub IsFirstFaultIn : Format → List (List ℕ) → TableError → Type 0
 IsFirstFaultIn format lines error.Memory = Unit {0}
 IsFirstFaultIn format lines fault = (prefix : List (List ℕ)) × (line : List ℕ)
@@ -59,12 +60,12 @@ IsFirstFaultIn format lines fault = (prefix : List (List ℕ)) × (line : List �
 abbrev pub AreTableBy : Names → (lines : List (List ℕ)) → Type 0
 AreTableBy names lines = (format : Format) × IsFormat names lines format × AreTable format lines
 
--- `view` is the table that the lines define
+-- `view` is the table that the lines define, in the format that they have
 abbrev pub IsTableOf : Names → (lines : List (List ℕ)) → MibView → Type 0
 IsTableOf names lines view =
     (format : Format) × IsFormat names lines format × IsTableIn format lines view
 
--- why the lines don't define a table
+-- the error says why the lines, in the format that they have, don't define a table
 abbrev pub IsFirstFault : Names → (lines : List (List ℕ)) → TableError → Type 0
 IsFirstFault names lines error =
     (format : Format) × IsFormat names lines format × IsFirstFaultIn format lines error

@@ -106,8 +106,8 @@ with_row view o v = record { rows = insert view.rows o v; objects = view.objects
 abbrev pub without_row : MibView → List ℕ → MibView
 without_row view o = record { rows = remove view.rows o; objects = view.objects }
 
--- why a variable isn't put, by the first reason that applies: an instance can't have the name, or
--- it can't hold the value, or memory ran out
+-- the error says why the value `v` isn't put under the name `o`, by the first reason that applies:
+-- an instance can't have the name, or it can't hold the value, or memory ran out
 abbrev pub IsPutError : List ℕ → Datum → PutError → Type 0
 IsPutError o v refusal.BadName = IsInstanceName o → ⊥
 IsPutError o v refusal.BadValue = IsInstanceName o × (IsInstanceValue v → ⊥)

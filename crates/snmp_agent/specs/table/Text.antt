@@ -33,8 +33,8 @@ pub record IsAddressText (text octets : List ℕ) : Type 0 where
   pub four : length octets ≡ 4
   pub small : All (λ octet. octet < 256) octets
 
--- the value that a text represents after a tag. The tags are those of the encoding, in decimal;
--- with an `x`, the octets are hexadecimal
+-- `text` represents this value after the tag `tag`. The tags are the tags of the encoding, in
+-- decimal; with an `x`, the octets are hexadecimal
 abbrev pub IsValueText : Format → (tag text : List ℕ) → Datum → Type 0
 IsValueText format tag text (integer_value z) = (tag ≡ codes "2") × IsSignedDecimal text z
     × FitsSigned w32 z

@@ -39,8 +39,8 @@ pub struct TableBuilder {
     /// While rows are collected, the hashes of the names of all rows but the last few inserted
     /// ones.
     hashes: Hashes,
-    /// The number of those last rows. A row after all others has a new name, which is hashed only
-    /// when another row is collected.
+    /// The number of the last inserted rows whose names aren't hashed yet. A row after all others
+    /// has a new name, which is hashed only when another row is collected.
     unhashed: usize,
     /// Whether no more rows are collected, since the hash of a new name wasn't new.
     no_more: bool,
@@ -72,7 +72,7 @@ impl TableBuilder {
     ghost use Rattle.snmp_agent.specs.private.table.TableBuilder.{IsFull, IsHalt, IsHaltAt, IsStop};
     ghost use Rattle.snmp_agent.specs.private.table.TableBuilder.{draft_entries, draft_objects};
 
-    /// Returns a draft of no lines.
+    /// Returns the builder before the first line is read.
     fn new(alloc: Global, exact: bool) -> TableBuilder
         ensures draft { (format : Format) → IsDraft format [] result }
         ensures exact { result.exact ≡ exact }

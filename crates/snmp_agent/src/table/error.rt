@@ -2,7 +2,7 @@
 
 use thiserror::Error;
 
-/// Why a text doesn't define a table: what is wrong with its first faulty line.
+/// Why no table is read from a text: what is wrong with its first faulty line, or memory ran out.
 #[derive(Clone, Copy, Debug, PartialEq, Eq, Error)]
 pub enum TableError {
     /// The line is neither empty, a comment nor an object prefix, and hasn't two bars with a known

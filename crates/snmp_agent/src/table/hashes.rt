@@ -12,12 +12,13 @@ const FEW_BUCKETS: usize = 32;
 /// The greatest number of successive buckets that are searched for a hash.
 const LOOKS: usize = 16;
 
-/// An odd number: each bit of its product with another depends on the bits of the other up to it.
+/// An odd number. Each bit of its product with another number depends on the same bit of that
+/// number and on all lower bits.
 const FACTOR: u64 = 0x9E37_79B9_7F4A_7C15;
 
 /// Hashes of names, which show that a name is new. Only speed depends on them.
 ///
-/// They take little memory, since touching a page of memory takes as long as several rows.
+/// They take little memory, since touching a page of memory takes as long as reading several rows.
 #[derive(Drop)]
 pub struct Hashes {
     /// A power of two of buckets, or none. Each has the high halves of hashes, and then zeros. The

@@ -16,11 +16,11 @@ const _: () = prove!(PAGE_ROWS < 256);
 #[derive(Clone, Copy)]
 pub struct Hint {
     last: Last,
-    /// Where names are. The high 16 bits of a number are the index of the page plus one, or 0 if
-    /// there is no name or the index is too large. The next 8 bits are the number of rows of that
-    /// page whose names aren't greater than the name. The low 8 bits are those of the hash. The
-    /// first number of a pair was stored after the second, and their hashes differ in the low 8
-    /// bits.
+    /// Where names are, by one number for each name. Its high 16 bits are the index of the page
+    /// plus one, or 0 if no name is stored or the index is too large. The next 8 bits are the
+    /// number of rows of that page whose names aren't greater than the name. The low 8 bits are
+    /// the low 8 bits of the name's hash. The first number of a pair was stored after the second,
+    /// and their low 8 bits differ if both are for names.
     kept: [[u32; 2]; PAIRS],
 }
 
@@ -127,7 +127,8 @@ impl<'h> Guesses<'h> {
         self.last.pages = left.1;
     }
 
-    /// Returns a guess of where `name` is. It refers to no page if nothing is stored for the name.
+    /// Returns a guess of where `name` is. It refers to no page if nothing is stored for the hash
+    /// of the name.
     #[inline]
     pub(crate) fn guess(&self, name: &EncodedName<'_>) -> Guess {
         if self.kept.is_empty() {
@@ -148,8 +149,8 @@ impl<'h> Guesses<'h> {
         Guess::of(hash, kept)
     }
 
-    /// Records where a name is: the index of its page, and the number of rows of that page whose
-    /// names aren't greater than the name.
+    /// Records where a name is, if the hint stores names: the index of its page, and the number of
+    /// rows of that page whose names aren't greater than the name.
     #[inline]
     pub(crate) fn keep(&mut self, guess: Guess, page: usize, row: usize) {
         let Some(pair) = self.kept.get_mut(pair_index(guess.hash)) else {
@@ -194,10 +195,11 @@ fn pair_index(hash: u32) -> usize {
 }
 
 /// Returns the hash of a name: a number below 131,072. It is computed from the last sixteen
-/// octets, in which rows mostly differ. Of a longer name, it also depends on the second, third and
-/// fourth eight octets, which contain the column of a row with a long index. If fewer than eight
-/// octets precede the last eight, their first four and last four are used, or none if there are
-/// fewer than four. Names with the same hash cost comparisons, and no more.
+/// octets, since rows mostly differ in these. For a longer name, it also depends on the second,
+/// third and fourth eight octets, which contain the column of a row with a long index. If fewer
+/// than eight octets precede the last eight, their first four and last four are used, or none if
+/// there are fewer than four; the same holds for a name of fewer than eight octets. Names with the
+/// same hash cost comparisons, and no more.
 #[inline]
 fn hash_of(content: &[u8]) -> u32 {
     let (prefix, last) = last_word(content);
@@ -206,8 +208,8 @@ fn hash_of(content: &[u8]) -> u32 {
     (mixed >> 47) as u32
 }
 
-/// Returns the second, third and fourth eight octets as one number, as far as there are any. The
-/// first eight are the same in most names.
+/// Returns a number that depends on the second, third and fourth eight octets, as far as there are
+/// eight of each. The first eight are the same in most names.
 #[inline]
 fn middle_of(octets: &[u8]) -> u64 {
     let [_, _, _, _, _, _, _, _, rest @ ..] = octets else {
@@ -234,7 +236,8 @@ fn mix(number: u64, other: u64) -> u64 {
         .wrapping_mul(0x9e37_79b9_7f4a_7c15)
 }
 
-/// Returns the first eight octets as a number, and the octets after them.
+/// Returns the first eight octets as a number, and the octets after them, or `None` if there are
+/// fewer than eight.
 #[inline]
 fn first_word(octets: &[u8]) -> Option<(u64, &[u8])> {
     match octets {

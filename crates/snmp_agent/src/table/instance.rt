@@ -14,8 +14,8 @@ pub fn is_instance_name(name: &Oid) -> bool
     numbers.len() >= 3 && name.is_wire()
 }
 
-/// Returns whether an instance may hold `value`. Numbers are read but not used: to read one tells
-/// the proof that it is within the range of its type.
+/// Returns whether an instance may hold `value`. Numbers are read but not used: that a number was
+/// read shows to the proof that it is within the range of its type.
 pub fn is_instance_value(value: &ValueRef<'_>) -> bool
     ensures { IsTrue result ↔ IsInstanceValue (datum value.now) }
 {

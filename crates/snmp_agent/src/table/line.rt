@@ -65,7 +65,7 @@ enum Form<'a> {
 }
 
 /// Reads what a line contains. Its name, and a value that needs no memory of its own, are read
-/// into `into`: moving or zeroing a binding takes as long as reading it.
+/// into `into`, so that no binding is moved or zeroed: that would take as long as reading it.
 pub fn read_line<'a, F: LineFormat>(
     alloc: Global,
     format: &F,

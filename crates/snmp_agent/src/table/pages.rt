@@ -27,7 +27,7 @@ use std::mem;
 #[derive(Drop)]
 pub struct Pages {
     list: Vec<Page>,
-    /// Whether the rows that were inserted among others came in some order.
+    /// What shows whether the rows that were inserted among others came in some order.
     order: PutOrder,
 }
 
@@ -39,7 +39,7 @@ struct PutOrder {
     rows: u32,
     /// The pages of these rows: bit `i` for the pages whose index modulo 128 is `i`.
     pages: u128,
-    /// The number of samples, in a row and up to the last, whose rows came to many pages.
+    /// The number of successive samples, up to the last whole one, whose rows came to many pages.
     scattered: u32,
 }
 
@@ -53,14 +53,14 @@ const NO_GUESS: usize = usize::MAX;
 /// The number of rows in a sample.
 const SAMPLE: u32 = 128;
 
-/// The least number of pages to which the rows of a sample in no order come. The rows of a
-/// conceptual table that is listed row by row come to one page for each column.
+/// If the rows of a sample came to this number of pages or more, they are taken to be in no order.
+/// The rows of a conceptual table that is listed row by row come to one page for each column.
 const MANY_PAGES: u32 = 68;
 
-/// The number of such samples in a row after which rows are taken to be in no order.
+/// The number of successive samples in no order after which all rows are taken to be in no order.
 const MANY_SAMPLES: usize = 3;
 
-/// The number of pages for which there must be one such sample.
+/// With many pages, one sample in no order is needed for each group of this number of pages.
 const PAGES_FOR_SAMPLE: usize = 32;
 
 impl Model for Pages {
@@ -105,7 +105,7 @@ impl Pages {
     }
 
     /// Returns the row of `name`, if there is one. If the hint is right, nothing is searched;
-    /// otherwise records in it where the name is.
+    /// otherwise records in it where the name is, if there are rows.
     pub fn find_near(
         &self,
         name: &EncodedName<'_>,
@@ -129,7 +129,8 @@ impl Pages {
     }
 
     /// Returns the rows after `name`, for a walk, which mostly asks from the row that was returned
-    /// last. If the hint is right, nothing is searched; otherwise records in it where the name is.
+    /// last. If the hint is right, nothing is searched; otherwise records in it where the name is,
+    /// if there are rows.
     // `inline(always)`: called for each request of a walk.
     #[inline(always)]
     pub fn after_last(&self, name: &EncodedName<'_>, hint: &mut Guesses<'_>) -> Successors<'_>
@@ -141,8 +142,8 @@ impl Pages {
         }
     }
 
-    /// Returns the rows after `name` if its row is the one that was returned last. If it isn't,
-    /// records in the hint the position of that row under its name, since another walk may
+    /// Returns the rows after `name` if its row is the one that was returned last. If another row
+    /// was, records in the hint the position of that row under its name, since another walk may
     /// continue from there.
     #[inline(always)]
     fn after_row(&self, name: &EncodedName<'_>, hint: &mut Guesses<'_>) -> Option<Successors<'_>>
@@ -167,8 +168,8 @@ impl Pages {
     }
 
     /// Returns the rows after `name`. If the hint's guess of its position is right, nothing is
-    /// searched; otherwise records the position in the hint. `inline(never)`, so that the usual
-    /// path of a walk stays short.
+    /// searched; otherwise records the position in the hint, if there are rows. `inline(never)`, so
+    /// that the usual path of a walk stays short.
     #[inline(never)]
     pub fn after_near(&self, name: &EncodedName<'_>, hint: &mut Guesses<'_>) -> Successors<'_>
         ensures { (prefix : List (List ℕ × Datum)) × IsSplitAt self.now name.now prefix result }
@@ -212,8 +213,8 @@ impl Pages {
     }
 
     /// Returns whether the last rows that were inserted among others came to many pages, as rows
-    /// in no order do: each step of the search for such a row waits for memory. This takes samples
-    /// in proportion to the number of pages, since what is done about it looks at each row.
+    /// in no order do: each step of the search for such a row waits for memory. With more pages,
+    /// more samples must show it, since collecting and sorting rows then looks at each row.
     #[inline]
     pub fn are_scattered(&self) -> bool {
         let samples = self.order.scattered as usize;
@@ -473,8 +474,9 @@ fn splits_at(name: &EncodedName<'_>, prefix: &[EncodedBinding], rows: &[EncodedB
     }
 }
 
-/// Returns the index of the only page that may have a row of `name`: the last page that is up to
-/// the name, or the first page if none is. If the guess is right, nothing is searched.
+/// Returns the index of the only page that may have a row of `name`: the last page whose first name
+/// isn't greater than `name`, or the first page if there is none. If the guess is right, nothing is
+/// searched.
 fn page_near(pages: &[Page], name: &EncodedName<'_>, guess: usize) -> usize
     requires { ArePages pages.now }
     ensures { IsPageOf name.now pages.now result }

@@ -78,8 +78,8 @@ impl PendingRow {
 }
 
 /// Sorts rows by decreasing names. If many rows have the same key, they get new keys, from the
-/// octets after those that their names share: comparing names takes longer, as it reads two rows
-/// each time.
+/// octets after those that their names share, unless too many keys were set already: comparing
+/// names takes longer, as it reads two rows each time.
 pub fn sort_decreasing(rows: &mut Vec<PendingRow>)
     ensures { IsPermutation rows.old.items rows.new.items }
 {

@@ -20,7 +20,7 @@ held_all : (c : After-append_answers-bindings)
     × (c.args.config.now.max_size < length (canon_bindings (answers_to c.args.table.now c.args.request.now.kind c.args.request.now.bindings))))
 held_all c = grind (arith, common_steps, all_or_full, length-take-le, prefix)
 
--- the whole Response
+-- the whole Response to the request `q`, whatever its length
 abbrev large : MibView → Message → Message
 large view q = response q (whole_status q.kind) (whole_index q.kind q.bindings) (answers_to view q.kind q.bindings)
 

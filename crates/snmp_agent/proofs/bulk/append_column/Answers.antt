@@ -16,7 +16,7 @@ added : (c : After-append_next-reply) → held c.append_next-reply.result c.appe
     ≡ fill (held c.rounds.reply c.rounds.out) (bindings_in_round c.args.table.now c.rounds.counter (c.args.asked ∷ []))
 added c = c.append_next-reply.ensures.added ∙ ap (λ (cursor : CursorView). add (held c.rounds.reply c.rounds.out) (next_at cursor)) c.rounds.invariant.cursor
 
--- whether the round is the last one
+-- no row is left for the name in this round if and only if `is_last` is true
 last : (c : After-append_next-reply) → list_all is_over (cursors_of c.args.table.now c.rounds.counter (c.args.asked ∷ [])) ≡ c.is_at_end-is_last.result
 last c = and-true _ ∙ ap is_over (sym c.rounds.invariant.cursor) ∙ sym c.is_at_end-is_last.ensures
 

@@ -62,7 +62,7 @@ others-init c =
       over = list_all-append is_over cursors others ∙ ap (λ b. b && list_all is_over others) (sym c.are_at_end-are_over.ensures);
     }
 
--- appending the bindings of the whole round is appending those of the names that are left to the reply so far
+-- appending the bindings of the whole round to the first reply results in the same as appending the bindings of the names that are left to the reply so far
 more : (c : After-append_next-reply-in-Some) → fill (held c.args.reply c.args.out.now)
     (map next_at (c.args.cursors.now ++ cursors_of c.args.table.now c.args.round c.args.others))
     ≡ fill (held c.append_next-reply-in-Some.result c.append_next-reply-in-Some.new.out) (bindings_in_round c.args.table.now c.args.round c.next_ref.new.self)

@@ -11,7 +11,7 @@ use Rattle.snmp_agent.proofs.bulk.append_rounds.Goals as goal
 pub rounds-init : goal.rounds-init
 rounds-init c = grind (arith, common_steps, rounds_first)
 
--- the stored positions, followed by those of the other names, are the positions of all names
+-- the stored positions, followed by the positions of the other names, are the positions of all names
 all : (c : After-append_round-is_over) → c.rounds.cursors ++ cursors_of c.args.table.now c.rounds.round c.remaining.result
     ≡ cursors_of c.args.table.now c.rounds.round c.args.bindings.now
 all c = ap (λ (bs : List VarBind). c.rounds.cursors ++ cursors_of c.args.table.now c.rounds.round bs) c.remaining.ensures ∙ c.rounds.invariant.cursors

@@ -3,7 +3,7 @@ use Rattle.snmp_io.specs.Count.{HasIncreasedBy}
 use Rattle.snmp_agent.specs.{Reply.agent_of, Serving.Event, Serving.InTurn, Serving.AreTurns}
 use Rattle.snmp_agent.proofs.server.serve_at.Given as goal
 
--- the turns so far, and what happened in them
+-- `events` happened in the turns so far, and `served` counts these turns
 abbrev pub invariant-turns : goal.invariant-turns
 invariant-turns g l = record {
   sum : l.served.replies + l.served.dropped + l.served.idle + l.served.faults ≡ l.counter;

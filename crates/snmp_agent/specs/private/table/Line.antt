@@ -24,7 +24,8 @@ IsForm format l (Some (form.Object text)) = l ≡ codes "object " ++ text.now
 IsForm format l (Some (form.Row name tag text)) =
     IsRowForm format l name.now (tag_text tag) text.now
 
--- the object prefix that the text names, or why there is none
+-- the result is the object prefix that the text names, or says why it names none; `Memory` says
+-- nothing of the text
 abbrev pub IsObjectRead : Format → List ℕ → Result Line LineFault → Type 0
 IsObjectRead format text (Ok (line.Object numbers)) = IsObjectText format text numbers.items
 IsObjectRead format text (Ok line.Nothing) = ⊥
@@ -34,7 +35,8 @@ IsObjectRead format text (Err fault.Name) = (o : List ℕ) → IsObjectText form
 IsObjectRead format text (Err fault.Value) = ⊥
 IsObjectRead format text (Err fault.Memory) = Unit {0}
 
--- the instance that the parts of a line define, or why there is none
+-- the result is the instance that the parts of a line define, or says why they define none;
+-- `Memory` says nothing of them
 abbrev pub IsInstanceRead : Format → (name tag text : List ℕ) → Result Line LineFault → Type 0
 IsInstanceRead format name tag text (Ok (line.Instance row)) =
     IsInstanceText format name row.name × IsValueText format tag text row.value
@@ -48,7 +50,7 @@ IsInstanceRead format name tag text (Err fault.Value) =
     × ((v : Datum) → IsValueText format tag text v → ⊥)
 IsInstanceRead format name tag text (Err fault.Memory) = Unit {0}
 
--- what is wrong with a line by itself
+-- the fault says what is wrong with the line by itself; `Memory` says nothing of it
 abbrev pub IsLineFault : Format → List ℕ → LineFault → Type 0
 IsLineFault format l fault.Line = IsBadLine format l
 IsLineFault format l fault.Name = IsBadName format l

@@ -6,7 +6,7 @@ use Rattle.snmp_agent.specs.{declared.table.value.Tag.Tag, declared.table.value.
 use Rattle.snmp_agent.specs.declared.table.value.Tag.TheVariants as tag
 use Rattle.snmp_agent.specs.declared.table.value.RowText.TheVariants as value
 
--- the value that the one of a row represents
+-- the value that a `RowText` holds
 abbrev pub datum_of : RowText → Datum
 datum_of (value.Octets octets) = octet_string octets.items
 datum_of (value.ObjectId numbers) = object_id numbers.items
@@ -17,7 +17,7 @@ abbrev pub name_length : RowText → ℕ
 name_length (value.ObjectId numbers) = length numbers.items
 name_length _ = 0
 
--- an identifier has at most 128 numbers
+-- if the value is an identifier, it has at most 128 numbers
 abbrev pub IsShort : RowText → Type 0
 IsShort v = name_length v ≤ 128
 
@@ -34,7 +34,7 @@ tag_text tag.TimeTicks = codes "67"
 tag_text tag.HexOpaque = codes "68x"
 tag_text tag.Counter64 = codes "70"
 
--- reading a value of the tag allocates memory, for clauses of private functions
+-- reading a value of the tag can allocate memory, for clauses of private functions
 abbrev pub TakesMemory : Tag → Type 0
 TakesMemory tag.HexOctetString = Unit {0}
 TakesMemory tag.ObjectId = Unit {0}

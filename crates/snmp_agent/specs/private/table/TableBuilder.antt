@@ -1,4 +1,4 @@
--- What a draft stores while the text of a table is read.
+-- What a draft, a `TableBuilder`, stores while the text of a table is read.
 use Rattle.std.specs.Prelude.{◌≡◌, ℕ, ◌↔◌, ◌≤◌, ◌++◌, T, Bool, true, false, List, map, Some, cond}
 use Rattle.std.specs.Prelude.{All, AllPairs, Contains}
 use Rattle.std.specs.{List.list_any, List.sum_by, List.Sorted.IsPermutation, Ordering.nat_cmp}
@@ -47,7 +47,7 @@ pub record HoldsLines (format : Format) (lines : List (List ℕ)) (es : List (Li
       → (list_any (eq_by_cmp (slice_cmp nat_cmp) object) objects ≡ true)
       ↔ HasPrefix format lines object
 
--- the entries of the draft: those that were inserted, and those of the rows that it collects
+-- the entries of the draft: the inserted ones, and the entries of the rows that it collects
 abbrev pub draft_entries : TableBuilder → List (List ℕ × Datum)
 draft_entries draft = entries draft.rows ++ entries_of draft.late.items
 
@@ -56,14 +56,16 @@ abbrev pub IsDraft : Format → List (List ℕ) → TableBuilder → Type 0
 IsDraft format lines draft = (es : List (List ℕ × Datum))
     × HoldsLines format lines es (draft_objects draft) × IsPermutation es (draft_entries draft)
 
--- what is wrong with the line of this number, which comes after the lines `before`
+-- the error says what is wrong with `line`, which has this number and comes after the lines
+-- `before`; `Memory` says nothing of it
 abbrev pub IsFaultAfter : Format → List (List ℕ) → List ℕ → ℕ → TableError → Type 0
 IsFaultAfter format before line number error.Memory = Unit {0}
 IsFaultAfter format before line number fault =
     (number_of fault ≡ number) × IsWrong format before line fault
 
--- why a reading stops: a fault that satisfies `P`; or memory ran out in an exact reading; or, in
--- another reading, the text must be read again, since collected rows may have taken the memory
+-- the reading stops for this reason: a fault that satisfies `P`; or, in an exact reading, memory
+-- ran out; or, in another reading, the text must be read again, since collected rows may have
+-- taken the memory
 abbrev pub HaltsBy : (TableError → Type 0) → (exact : Bool) → Halt → Type 0
 HaltsBy P exact (halt.Fault fault) = P fault
 HaltsBy P exact halt.Memory = exact ≡ true
@@ -73,17 +75,19 @@ HaltsBy P exact halt.Again = exact ≡ false
 abbrev pub IsFull : (exact : Bool) → Halt → Type 0
 IsFull exact = HaltsBy (λ _. ⊥) exact
 
--- the reading stops at this fault, after entries of which no two have the same name
+-- the reading stops at the fault `wrong`, after the entries `es`, of distinct names; or it stops
+-- because memory ran out
 abbrev pub IsStop : List (List ℕ × Datum) → (exact : Bool) → TableError → Halt → Type 0
 IsStop es exact wrong = HaltsBy (λ fault. (fault ≡ wrong) × AreDistinct es) exact
 
--- the reading stops at a row of the name `o`, on the line of this number: one of the entries, of
--- which no two have the same name, already has that name
+-- the reading stops at a row of the name `o`, on the line of this number, since one of the entries
+-- `es`, of distinct names, has that name; or it stops because memory ran out
 abbrev pub IsHaltAt : List ℕ → List (List ℕ × Datum) → ℕ → (exact : Bool) → Halt → Type 0
 IsHaltAt o es number exact = HaltsBy (λ fault. (fault ≡ error.Double number)
     × AreDistinct es × (v : Datum) × Contains es (o, v)) exact
 
--- the reading stops at the line of this number, which is faulty, after lines that define a table
+-- the reading stops at `line`, which has this number and is faulty, after lines that define a
+-- table; or it stops because memory ran out
 abbrev pub IsHalt : Format → List (List ℕ) → List ℕ → ℕ → (exact : Bool) → Halt → Type 0
 IsHalt format before line number exact =
     HaltsBy (λ fault. AreTable format before × IsFaultAfter format before line number fault) exact

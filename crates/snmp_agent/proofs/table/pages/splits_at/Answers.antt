@@ -17,10 +17,10 @@ begins : (o : List ℕ) (rows : List VarBind) (next : VarBind) → slice_get row
     → begins_up_to o rows ≡ false
 begins o rows next at after = grind (arith, common_steps)
 
--- `prefix` ends with the row of the name
+-- if the names are equal, then `prefix` ends with the row of the name
 pub returns-in-Equal : goal.returns-in-Equal
 returns-in-Equal c = grind (arith, common_steps, order, last_of, same_name)
 
--- `prefix` ends with a smaller name, and `rows` begins with a greater one
+-- if the last name of `prefix` is smaller, then the answer is whether `rows` begins with a greater name
 pub returns-in-Some-first : goal.returns-in-Some-first
 returns-in-Some-first c = grind (arith, common_steps, order, greater, last_of, begins)

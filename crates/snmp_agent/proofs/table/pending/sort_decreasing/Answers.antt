@@ -3,7 +3,7 @@ use Rattle.std.proofs.Common.{◌≡◌, ◌++◌, ℕ, List, length, take, drop
 use Rattle.std.specs.List.Sorted.{IsPermutation}
 use Rattle.snmp_agent.proofs.table.pending.sort_decreasing.Goals as goal
 
--- a list, after all of its slice was overwritten by a permutation of it
+-- if all of a list is overwritten by a permutation of the list, then the new list is a permutation of the old one
 written : {X : Type 0} (n : ℕ) (xs ys zs : List X) → IsPermutation zs ys → zs ≡ xs → length zs ≡ n
     → IsPermutation xs (take n (ys ++ drop (length ys) xs))
 written n xs ys zs moved same size = grind (arith, common_steps, length_permutation, drop_all, append-nil, take_all)
