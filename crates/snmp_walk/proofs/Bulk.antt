@@ -64,7 +64,7 @@ module _ (codec : Codec) (view : MibView) (good : IsMibView view) where
       let same : a.0 ≡ b.0 = one_after i o a.0 b.0 a.1 b.1 in
       one_next b.0.name p q (subst (λ (r : VarBind). IsNext view r.name p) same a.2) b.2
 
-  -- o is the name reached from `asked` after this many rounds
+  -- o is the name reached from `asked` by this many GetNexts, each of the name that the one before returned
   abbrev IsSuccessor : List ℕ → ℕ → List ℕ → Type 0
   IsSuccessor asked zero o = o ≡ asked
   IsSuccessor asked (suc i) o = (q : VarBind) × IsNextAfter view i asked q × (q.name ≡ o)
@@ -73,7 +73,7 @@ module _ (codec : Codec) (view : MibView) (good : IsMibView view) where
   next_after asked zero o p at h = subst (λ (n : List ℕ). IsNext view n p) (sym at) h
   next_after asked (suc i) o p at h = grind (arith, common_steps, one_after)
 
-  -- rounds of one name are a chain
+  -- of the rounds of a GetBulk of one name, each has one binding; those after `before` are a chain from o, the name that `before` reached
   chained : (asked : List ℕ) (repetitions : ℕ) (rounds : List (List VarBind)) → AreRounds view repetitions (asked_of asked) rounds
       → (rest before : List (List VarBind)) (o : List ℕ) → rounds ≡ before ++ rest → IsSuccessor asked (length before) o
       → IsChain (IsNext view) o (joined rest) × (length (joined rest) ≡ length rest)
@@ -90,7 +90,8 @@ module _ (codec : Codec) (view : MibView) (good : IsMibView view) where
         ap length first ∙ omega (arith, rest.1),
       )
 
-  -- what a GetBulk of one name asks for
+  -- `all` is what a GetBulk of the name `asked` asks for: a chain of at most |`repetitions`| bindings; with at least one repetition, it isn't empty, and is
+  -- shorter only if it has an endOfMibView
   pub record IsOneBulk (asked : List ℕ) (repetitions : ℤ) (all : List VarBind) : Type 0 where
     pub chain : IsChain (IsNext view) asked all
     pub few : length all ≤ unsigned_abs repetitions

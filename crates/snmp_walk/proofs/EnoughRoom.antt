@@ -1,5 +1,5 @@
--- If each binding of each table fits into a message and there are enough ids, a walk ends with `Done`, by the link or by the sink (`swift_end`), or, if
--- replies can be lost, with `NoResponse` (`left_end`).
+-- If a walk has the agents' community, each binding of each table fits into a message and there are enough ids, the walk ends with `Done`, by the link or
+-- by the sink (`swift_end`), or, if replies can be lost, with `NoResponse` (`left_end`).
 use Rattle.std.proofs.lemmas.Grind.{common_steps}
 use Rattle.std.proofs.Common.{◌≡◌, ◌≢◌, ◌⊎◌, ◌≤ℤ◌, inl, inr, ℕ, ◌+◌, ◌≤◌, false, List, [], ◌∷◌, ◌++◌, length, refl, sym, ◌∙◌, ap, subst, arith, pos}
 use Rattle.std.proofs.Common.{length-append}
@@ -31,7 +31,7 @@ pub opening_is_get : (m : Mode) → opening_gets m ≤ gets m
 opening_is_get mode.Plain = omega arith
 opening_is_get _ = omega arith
 
--- agents serve each request of a walk
+-- each request of a walk is of a kind that agents serve
 served : (p : Phase) (m : Method) → IsServed (request_kind p m)
 served phase.Rows method.Next = tt
 served _ _ = tt
@@ -168,7 +168,7 @@ module _ (codec : Codec) (agents : Agents) (first : WalkState) (good_views : Are
         (agent_in agents view) community (served w.phase w.method) response_fits
 
   module _ (k : ℕ) (bound : HasFew Next first k) (ids : first.id + k + 2 ≤ 2147483647) where
-    -- the lawful ends are those by which a walk is done or cut off
+    -- if the end is lawful, the walk is done, or the link or the sink stopped it, or no reply arrived
     pub left_end : (Silent : WalkState → Type 0) (rows : List VarBind) (end : WalkEnd) → IsLawfulEnd agents Silent first rows end → IsDoneOrCutOff end
     left_end Silent rows (ending.Fault status index) h = no_refusal h.0.id rows h.0.asked h.0.phase h.1.stage h.2.2
     left_end Silent rows (ending.NoProgress o) h =
@@ -182,7 +182,7 @@ module _ (codec : Codec) (agents : Agents) (first : WalkState) (good_views : Are
     left_end Silent rows (ending.Sink fault) h = tt
     left_end Silent rows _ h = h.5
 
-    -- if no reply was lost, they are those by which it is done or stopped
+    -- if the end is lawful, and a reply fails to arrive only if an agent has none, then the walk is done, or the link or the sink stopped it
     pub swift_end : (rows : List VarBind) (end : WalkEnd) → IsLawfulEnd agents (HasNone agents) first rows end → IsDoneOrStopped end
     swift_end rows ending.NoResponse h = no_drop h.0 rows h.1 h.2 h.3.view h.3.one h.3.why h.3.dropped
     swift_end rows why h = left_end (HasNone agents) rows why h

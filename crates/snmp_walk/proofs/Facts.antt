@@ -1,4 +1,4 @@
--- From what a run over any tables satisfies to what is promised over one table (`facts`, `send_facts`).
+-- What a walk promises over its agents' tables follows from what holds of its run over any tables (`facts`, `send_facts`).
 use Rattle.std.proofs.Common.{◌≡◌, ◌≢◌, inl, inr, ℕ, ◌+◌, ◌*◌, ◌≤◌, ◌<◌, List, [], ◌∷◌, ◌++◌, length, sym, ◌∙◌, ap, subst, arith, length-append}
 use Rattle.std.proofs.Common.{Option}
 use Rattle.snmp_wire.specs.{Message.VarBind, Canon.canon}
@@ -36,7 +36,7 @@ lawful_whole : (agents : Agents) (Silent : WalkState → Type 0) (first : WalkSt
 lawful_whole agents Silent first rows (ending.Done n) d h = h.5.1
 lawful_whole agents Silent first rows _ d h = absurd d
 
--- if no delivery was ahead, none lost the reply
+-- if no reply to the request of w arrived, and no delivery was ahead, then one of the agents has no reply to it
 none_lost : (agents : Agents) (tries : ℕ) (old new : Traffic) (w : WalkState) → 0 < tries → old.ahead ≡ [] → HasNoReply agents tries old new w
     → HasNone agents w
 none_lost agents tries old new w some none h = elim h.lost [
@@ -117,7 +117,7 @@ module _ (codec : Codec) (agents : Agents) (Silent : WalkState → Type 0) (firs
 module _ (codec : Codec) (agents : Agents) (tries : ℕ) (old new : Traffic) (first : WalkState) (rows refused : List VarBind) (end : WalkEnd) (some : 0 < tries)
     (fresh : IsFresh first) (views : AreViews agents.tables) (part : IsPartOfWalk (IsNextFrom agents) (IsGotFrom agents) first (rows ++ refused))
     (lawful : IsLawfulEnd agents (HasNoReply agents tries old new) first rows end) where
-  -- if no delivery was ahead, nothing was lost
+  -- if no delivery was ahead, the end is lawful, and no reply arrived only if one of the agents has none
   replied : old.ahead ≡ [] → IsLawfulEnd agents (HasNone agents) first rows end
   replied none = lawful_by agents (HasNoReply agents tries old new) (HasNone agents) first rows end
       (λ w h. none_lost agents tries old new w some none h) lawful

@@ -23,7 +23,7 @@ use Rattle.snmp_agent.specs.{Reply.IsResponse, table.Table.MibView}
 use Rattle.snmp_walk.specs.Link as outcome
 use Rattle.snmp_walk.proofs.OwnReply.{IsAnsweredBy, answered_by}
 
--- whether bindings are for names, by one name and the others
+-- if p is for o, and `more` is for `names`, then `p ∷ more` is for `o ∷ names`
 pub for_more : (o : List ℕ) (names : List (List ℕ)) (p : VarBind) (more : List VarBind)
     → ((p.name ≡ wire o) × (p.value ≡ end_of_mib_view → ⊥)) × AreFor names more → AreFor (o ∷ names) (p ∷ more)
 for_more o names p more h = grind (arith, common_steps)
@@ -52,11 +52,11 @@ for_decided names bindings = ((λ e. absurd (false≢true e)), (λ h. let named 
 pub means_to_get : (names : List (List ℕ)) (m : Message) → MeansToGet names m (answers_of names m)
 means_to_get names m = grind (arith, common_steps, Decides-int_eq, for_decided)
 
--- how a Get may end over any link
+-- a Get of these names can end so, if the link may do anything
 abbrev pub MayEnd : Message → List (List ℕ) → WalkEnd → Type 0
 MayEnd request names end = IsEndOfGet (λ _ _. Unit {0}) (Unit {0}) (Unit {0}) request names end
 
--- the ends that come by the reply
+-- the end isn't one that a Get of at least one name has without a reply: `RequestTooLong`, `NoResponse` or `Link`
 abbrev pub IsByReply : WalkEnd → Type 0
 IsByReply ending.RequestTooLong = ⊥
 IsByReply ending.NoResponse = ⊥
@@ -65,7 +65,7 @@ IsByReply _ = Unit {0}
 
 module _ {S : Type 0} (takes : S → VarBind → Result (Unit {0}) SinkFault → S → Type 0) (request : Message) (names : List (List ℕ))
     (Tried : Outcome → Type 0) (From : Message → Type 0) (before after : S) where
-  -- the Get ended with `end`, for its own reason, after the sink was given `rows` and refused `refused`
+  -- the Get ended with `end`, which has its reason, after the sink took `rows` and perhaps refused one more
   pub record IsGot (end : WalkEnd) : Type 0 where
     pub rows : List VarBind
     pub refused : List VarBind
@@ -123,7 +123,7 @@ module _ {S : Type 0} (takes : S → VarBind → Result (Unit {0}) SinkFault →
     by_reply given what is d = by_step (answers_of names m) (means_to_get names m) what (subst (λ (x : Step). Delivers takes x before what after) is d)
 
 module _ (names : List (List ℕ)) (Tried : Outcome → Type 0) (From : Message → Type 0) (rows refused : List VarBind) where
-  -- what was given and refused is a prefix of a reply's bindings, all of them if the Get is done; or it is empty
+  -- `rows` and `refused` are a prefix of a reply's bindings, and all of them if the Get is done; or they are empty
   abbrev pub IsPrefixOfReply : WalkEnd → Type 0
   IsPrefixOfReply end = ((m : Message) × (left : List VarBind) × From m × MeansToGet names m (Ok ((rows ++ refused) ++ left))
       × (IsDone end → (left ≡ []) × (refused ≡ []))) ⊎ ((rows ++ refused ≡ []) × (IsDone end → ⊥))
@@ -217,7 +217,7 @@ module _ (codec : Codec) (community : List ℕ) (id : ℕ) (names : List (List �
       (d, tried, spelt),
     )
 
-    -- if none arrived, the request was lost
+    -- if no reply arrived over an honest link, one of the agents has no reply to the request, or the deliveries lost the reply (`IsLostGet`)
     pub lost_get : IsGetTried facts link after tries community id names outcome.missed → IsHonestFrom facts id link
         → (facts.traffic after).sent ≡ (facts.traffic link).sent ++ replicate tries (canon Asked)
         → IsLostGet (facts.agents link) tries (facts.traffic link) (canon Asked) (facts.traffic after)

@@ -21,7 +21,7 @@ for_more names i o p more h e is = rw (drop-cons names i o h, ← e, add-one, is
 pub for_none : (names : List (List ℕ)) (i : ℕ) (o : List ℕ) → i < length names → o ≡ get_or names i o → are_for (drop i names) [] ≡ false
 for_none names i o h e = rw (drop-cons names i o h)
 
--- the encoding of two lists of bindings, one after the other, is that of the first followed by that of the second
+-- the encoding of `ps ++ qs` is the encoding of `ps` followed by the encoding of `qs`
 canon_append : (ps qs : List VarBind) → canon_bindings (ps ++ qs) ≡ canon_bindings ps ++ canon_bindings qs
 unfolding canon_bindings
 canon_append ps qs = flat_map-append canon_binding ps qs
@@ -43,12 +43,12 @@ longer_all names i =
     ∙ ap canon_bindings (map-append _ (take i names) (drop i names)) ∙ canon_append (asked_names (take i names)) (asked_names (drop i names)) in
     omega (arith, ap length whole, length-append (canon_bindings (asked_names (take i names))) (canon_bindings (asked_names (drop i names))))
 
--- what comes before the bindings is the same, whatever they are
+-- the encoding of a message before its bindings depends on their total length, but not on the bindings
 pub head_of : (m : Message) (total : ℕ) → canon_head (record m { bindings = [] }) total ≡ canon_head m total
 unfolding canon_head canon_prefix canon_opening canon_fields
 head_of m total = refl
 
--- the request is its head and then its bindings
+-- the encoding of m is its head and then its bindings
 module _ (law : HasPieces) (m bare : Message) (same : bare ≡ record m { bindings = [] }) where
   pub pieces_of : (total : ℕ) (text : List ℕ) → total ≡ length (canon_bindings m.bindings) → text ≡ canon_bindings m.bindings
       → canon_head bare total ++ text ≡ canon m
@@ -81,7 +81,7 @@ pub range_more : (names : List (List ℕ)) (i : ℕ) (o : List ℕ) → i < leng
     → AllByRecursion IsBindingInRange (asked_names (take i names)) → AllByRecursion IsBindingInRange (asked_names (take (i + 1) names))
 range_more names i o h e here prefix = rw (take_more names i o h, ← e, map-append) (range_push _ _ prefix here)
 
--- without an error status, and for just these names, a reply has what `answers_of` computes
+-- if m has no error status, and its bindings are for these names, then `answers_of` computes `Ok` of them
 pub answered_all : (names : List (List ℕ)) (m : Message) (rows : List VarBind) → int_eq m.a (pos 0) ≡ true → are_for names m.bindings ≡ true
     → rows ≡ take (length names) m.bindings
     → Ok rows ≡ answers_of names m

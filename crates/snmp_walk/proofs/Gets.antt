@@ -30,7 +30,7 @@ use Rattle.snmp_walk.proofs.Moves.{Suits, agrees, moved_of, sent_of, tries_as, m
 use Rattle.snmp_walk.specs.Link as outcome
 use Rattle.snmp_walk.specs.Responses as sending
 
--- the results of Gets of the names are one list
+-- two lists of the results of Gets of the same names, in one view, are equal
 one_got : (view : MibView) → IsMibView view → (names : List (List ℕ)) (a b : List VarBind) → AreGot view names a → AreGot view names b → a ≡ b
 one_got view good [] [] [] h k = refl
 one_got view good (o ∷ names) (p ∷ a) (q ∷ b) h k = grind (arith, common_steps, one_got view good names a b h.1 k.1, get_one)
@@ -46,7 +46,7 @@ unless_silent : (end : WalkEnd) → (end ≡ ending.NoResponse → ⊥) → IsDo
 unless_silent ending.NoResponse other h = absurd (other refl)
 unless_silent _ other h = h
 
--- What came of the Get's request is this reply to it, and over an honest link a Response that one of the agents may send.
+-- m is the reply to the Get's request, in a datagram that answered the request (`Tried`), and over an honest link a Response that one of the agents may send.
 abbrev MayBeDelivered : (Tried : Outcome → Type 0) → Agents → (honest : Type 0) → List ℕ → ℕ → List (List ℕ) → Message → Type 0
 MayBeDelivered Tried agents honest community id names m = IsResponseTo community id m
     × (honest → (view : MibView) × OneOf agents.tables view × (community ≡ agents.community)
@@ -79,7 +79,7 @@ module _ (agents : Agents) (lawful : AreLawful agents) (community : List ℕ) (i
   from_whole view m (got_next bindings k answers e) = let no : ⊥ = cc in absurd no
   from_whole view m (unwritten k e) = let no : ⊥ = cc in absurd no
 
-  -- m is tooBig, since the Response with these results doesn't fit
+  -- m is tooBig, and the Response with the results of Gets of the names doesn't fit
   abbrev IsBigReply : MibView → Message → Type 0
   IsBigReply view m = (m ≡ response Request (pos 1) (pos 0) []) × ((all : List VarBind) × AreGot view names all
       × (Fits agents.max_size (response Request (pos 0) (pos 0) all) → ⊥))
@@ -95,7 +95,7 @@ module _ (agents : Agents) (lawful : AreLawful agents) (community : List ℕ) (i
   may_respond view m (shortened large is no_fit e) = sending.shortened large is no_fit e
   may_respond view m (bulk all bindings k asked longest e) = let no : ⊥ = cc in absurd no
 
-  -- a reply without an error has the results of Gets of the names, and one with an error is tooBig
+  -- a reply without an error has the results of Gets of the names
   brought_all : (view : MibView) (m : Message) → MayRespond view agents.max_size Request m → m.a ≡ pos 0 → AreGot view names m.bindings
   brought_all view m is status = grind (arith, common_steps, from_response)
 
@@ -120,7 +120,7 @@ module _ (agents : Agents) (lawful : AreLawful agents) (community : List ℕ) (i
     same_rows v one rows h =
         one_got view one_good names rows all (subst (λ (w : MibView). AreGot w names rows) (only_one view v agents.tables one_view one) h) are
 
-  -- the facts of a Get, by how it ended
+  -- a Get over an honest link ended with `end`, after the sink took `rows` and perhaps refused one more
   module _ (honest : Type 0) (is_honest : honest) (Tried : Outcome → Type 0) (rows refused : List VarBind) (end : WalkEnd) where
     abbrev Brought : Message → Type 0
     Brought = MayBeDelivered Tried agents honest community id names
@@ -143,7 +143,7 @@ module _ (agents : Agents) (lawful : AreLawful agents) (community : List ℕ) (i
           λ room. absurd (big.1.1.2 (room.response_fits from.0 big.1.1.0 from.1 big.1.1.1)),
         )
 
-    -- with one table, what was given is a prefix of the results
+    -- with one table, `rows` and `refused` are a prefix of the results `all`, and `rows` are all of these if the Get is done
     given_prefix : IsPrefixOfReply names Tried Brought rows refused end → (view : MibView) (all : List VarBind) → agents.tables ≡ view ∷ []
         → AreGot view names all
         → ((more : List VarBind) × (all ≡ (rows ++ refused) ++ more)) × (IsDone end → rows ≡ all)
@@ -165,7 +165,7 @@ module _ (agents : Agents) (lawful : AreLawful agents) (community : List ℕ) (i
         }
 
   module _ (codec : Codec) (own : length (canon Request) ≤ 65507 → Spells Request (canon Request)) (tries : ℕ) (some : 0 < tries) (old new : Traffic) where
-    -- if there is room and no deliveries are ahead, a reply arrives
+    -- if there is room and no deliveries are ahead, the reply isn't lost
     never_lost : HasRoomForGet agents Request names → old.ahead ≡ [] → IsLostGet agents tries old (canon Request) new → ⊥
     never_lost room none lost = elim lost.lost [
       | inl u ↦ no_drop codec Request (own room.request_fits) refl (agent_in agents u.view) room.community tt (response_fits room u.view u.one) u.why u.dropped
@@ -202,7 +202,7 @@ module _ {W : Type 0} (codec : Codec) (facts : LinkFacts W) (link after : W) (tr
   abbrev tried_events : (what : Outcome) → Was what → (events : List (Event (Unit {0}))) × InTurn (Happens facts) link events after
   tried_events what h = all_tries facts q (IsNotAwaited community id) tries link after what h
 
-  -- only the request was sent, so that a reply is to it
+  -- in a run of a Get, only its request is sent, so that each reply of the agents is a reply to it
   module _ (agents : Agents) (good : AreLawful agents) where
     abbrev IsFromThese : Message → Type 0
     IsFromThese m = MayBeDelivered Was agents (Unit {0}) community id names m
@@ -232,7 +232,7 @@ module _ {W : Type 0} (codec : Codec) (facts : LinkFacts W) (link after : W) (tr
     abbrev Known : WalkEnd → Type 0
     Known end = HasHappened facts link after end (λ agents why. GotFacts agents (get_request community id names) names rows refused why)
 
-    -- an error ended the Get, and nothing was given
+    -- an error status ended the Get, and nothing was passed to the sink
     abbrev IsFailed : WalkEnd → Type 0
     IsFailed end = (rows ++ refused ≡ []) × ((status index : ℤ) × (end ≡ ending.Fault status index))
 
@@ -335,7 +335,7 @@ module _ {W S : Type 0} (facts : LinkFacts W) (link : W) (tries : ℕ) (communit
   abbrev IsOver : W → S → WalkEnd → Type 0
   IsOver after sunk end = IsRun takes before end sunk (λ given refused. IsGotOver facts link after tries community id names given refused end)
 
-  -- what a Get comes to, by what `exchange` returned
+  -- how the Get ended, by what `exchange` returned; it never continues
   abbrev pub IsGetTurn : W → S → WalkEnd → Result (Option Course) LinkFault → Type 0
   IsGetTurn after sunk end (Ok (Some course.GoesOn)) = ⊥
   IsGetTurn after sunk end (Ok (Some course.Ends)) = IsOver after sunk end
@@ -350,7 +350,7 @@ module _ {W S : Type 0} (facts : LinkFacts W) (link : W) (tries : ℕ) (communit
   moved_none end fine unsent =
       (0, omega arith, (λ named fits. absurd (unsent named fits)), 0, moves_as facts (omega arith) (λ f. absurd f) fine (moves_none facts link))
 
-  -- without names, a Get is done and returns nothing
+  -- if there are no names, `GotFacts` holds of a Get that is done and returned nothing
   nothing_got : (agents : Agents) → names ≡ [] → GotFacts agents Asked names [] [] (ending.Done 0)
   nothing_got agents none = grind (arith, common_steps, none_got)
 
@@ -453,7 +453,7 @@ module _ {W S : Type 0} (facts : LinkFacts W) (link : W) (tries : ℕ) (communit
           all_lower_sent Asked ranged no_set id (id + 1) refl (omega arith) (facts.traffic link).sent (facts.traffic after).sent y.0 y.2
           (all_lower_more (facts.traffic link).sent id (id + 1) (omega arith) low))
 
-      -- the reply was read, and its bindings were given to the sink
+      -- the reply d was read, and its bindings were passed to the sink
       abbrev IsReadSo : {V : Type 0} → V → S → List ℕ → Heard → Type 0
       IsReadSo {V} new sunk d what = IsReadAs d community id (λ m given (_ : V). given ≡ got_step names m) takes before new sunk what
 

@@ -31,7 +31,7 @@ use Rattle.snmp_walk.proofs.{Bulk.chain_prefix, Bulk.one_bulk, OwnReply.one_spel
 
 -- ---- an element with its length in another form
 
--- lengths determine where the content begins
+-- if two contents, each after its own length, are the same octets, then they are the same content
 by_lengths : (l k a b : List ℕ) → IsLength l (length a) → IsLength k (length b) → l ++ a ≡ k ++ b → a ≡ b
 by_lengths l k a b (inl s) (inl t) e =
     let both : length a ∷ a ≡ length b ∷ b = sym (ap (λ (x : List ℕ). x ++ a) s.one) ∙ e ∙ ap (λ (x : List ℕ). x ++ b) t.one in cc
@@ -62,7 +62,7 @@ content_octets tag content octets h are =
     let prefix : List ℕ = tag ∷ h.length_octets in
     subst AreOctets (drop-append_seam prefix content) (All-drop (λ o. o < 256) (length prefix) (prefix ++ content) (subst AreOctets h.parts are))
 
--- a message with its length in five octets is the same message
+-- if `reply` encodes m, then so does `longer`, which is `reply` with its length in five octets
 respelt : (m : Message) (reply longer : List ℕ) → IsLengthened reply longer → Spells m reply → Spells m longer
 respelt m reply longer h s =
     let same : h.content ≡ s.version ++ s.community ++ s.pdu = one_content sequence_tag h.content (s.version ++ s.community ++ s.pdu) reply h.same s.element in
@@ -131,7 +131,7 @@ pub if_none : (r : Option ℕ) (P Q : Type 0) → (P → Q) → IfNone r P → I
 if_none None P Q by h = by h
 if_none (Some n) P Q by h = tt
 
--- what is sent in the way that is used is at the start of the buffer
+-- if what is sent in the way used is at the start of `out`, it is at the start of the buffer `out ++ rest` too
 pub sent_back : (r : Option ℕ) (out rest : List ℕ) (used : Way) (Uses : Way → Type 0) (Sent : Way → List ℕ → Type 0) → IfSome r (λ n. n ≤ 65507)
     → length out ≡ 65507 → Uses used → IfSome r (λ n. Sent used (take n out)) → IfSome r (λ n. (way : Way) × Uses way × Sent way (take n (out ++ rest)))
 sent_back None out rest used Uses Sent short long uses h = tt
@@ -307,7 +307,7 @@ sent_loosely codec typed agents view how datagram octets m lawful one s spelt =
 
 -- ---- what arrives over a link
 
--- if steps led from `old` to `new`, then the steps before `x` led to a state from which `x` was taken
+-- if the steps `xs`, x and `ys` led from `old` to `new`, then `xs` led from `old` to some state, and x led on from there
 up_to : {L X : Type 0} (step : L → X → L → Type 0) (xs ys : List X) (x : X) (old new : L) → InTurn step old (xs ++ x ∷ ys) new
     → (mid : L) × (next : L) × InTurn step old xs mid × step mid x next
 up_to step [] ys x old new h = (old, h.0, refl, h.1)
@@ -323,12 +323,12 @@ later receive_failed more q one = one
 no_message : (m : Message) (octets : List ℕ) → octets ≡ [] → Spells m octets → ⊥
 no_message m octets none s = let parts = s.element.parts in cc
 
--- the ways after the next one are among those before it
+-- a way that is left after the next one was used is one of those that were ahead before
 after_next : (ahead left : List Way) (next other : Way) → IsNextWay ahead next left → OneOf left other → OneOf ahead other
 after_next [] left next other h one = absurd (subst (λ (ways : List Way). OneOf ways other) h.1 one)
 after_next (first ∷ more) left next other h one = inr (subst (λ (ways : List Way). OneOf ways other) h.1 one)
 
--- if the next way is genErr, it is among the ways
+-- if the next way is `GenErr`, then `GenErr` is among the ways ahead
 error_next : (ahead left : List Way) (next : Way) → IsNextWay ahead next left → next ≡ way.GenErr → OneOf ahead way.GenErr
 error_next [] left next h error = let whole = h.0 in let never : ⊥ = cc in absurd never
 error_next (first ∷ more) left next h error = inl (sym error ∙ h.0)

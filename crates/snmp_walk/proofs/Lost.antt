@@ -29,12 +29,12 @@ latest_is (d ∷ e ∷ sent) q = latest_is (e ∷ sent) q
 -- ---- one receive
 
 module _ (agents : Agents) (Other : List ℕ → Type 0) (q : List ℕ) where
-  -- the request, sent again, isn't another one
+  -- if `IsAsked` holds of the datagrams sent, it still holds after q was sent n more times
   asked_on : (n : ℕ) (sent : List (List ℕ)) → IsAsked agents Other q sent → IsAsked agents Other q (sent ++ replicate n q)
   asked_on n sent a = grind (arith, common_steps, one_append, one_same)
 
-  -- The deliveries between `ahead` and `left` lose `tries` tries of the request, the first of which has received `count` other replies; or one of the agents
-  -- has no reply to it.
+  -- The deliveries that are in `ahead` before `left` lose `tries` tries of q, if the first of these tries has already received `count` other replies; or one
+  -- of the agents has no reply to q. Below, that deliveries "lose" tries means this, with both cases.
   abbrev Loses : List (List ℕ) → List (Option ℕ) → (tries count : ℕ) → List (Option ℕ) → Type 0
   Loses sent ahead tries count left =
       (used : List (Option ℕ)) × (ahead ≡ used ++ left) × (IsUnanswered agents q ⊎ Lost agents sent q used tries count)
@@ -47,7 +47,7 @@ module _ (agents : Agents) (Other : List ℕ → Type 0) (q : List ℕ) where
       (e ∷ l.0, parts ∙ ap (λ (es : List (Option ℕ)). e ∷ es) l.1, elim l.2 [ inl u ↦ inl u | inr h ↦ inr (lost l.0 h) ])
 
   module _ (sent : List (List ℕ)) (last : latest sent ≡ Some q) (asked : IsAsked agents Other q sent) where
-    -- a datagram that isn't another reply is the reply to the request
+    -- if a receive delivers d, and d isn't the reply to another datagram (`Other`), then d is a reply to q
     own_reply : (d : List ℕ) → (Other d → ⊥) → (ahead left : List (Option ℕ)) → Receives agents sent ahead (Some d) left → IsReplyFrom agents q d
     own_reply d own [] left r = rw last at r.1
     own_reply d own (None ∷ next) left r = let e = r.1 in let no : ⊥ = cc in absurd no
@@ -61,7 +61,7 @@ module _ (agents : Agents) (Other : List ℕ → Type 0) (q : List ℕ) where
         ]
 
     module _ (t : ℕ) (final : List (Option ℕ)) where
-      -- a receive that returns nothing ends the try
+      -- if a receive returns nothing, which ends a try, and the deliveries after it lose t tries, then with this receive they lose t + 1
       nothing_lost : (count : ℕ) (ahead left : List (Option ℕ)) → Receives agents sent ahead None left → Loses (resent sent q t) left t 0 final
           → Loses sent ahead (suc t) count final
       nothing_lost count [] left r l = let none : IsUnanswered agents q = rw last at r.1 in (l.0, sym r.0 ∙ l.1, inl none)
@@ -70,7 +70,8 @@ module _ (agents : Agents) (Other : List ℕ → Type 0) (q : List ℕ) where
       nothing_lost count (Some k ∷ next) left r l =
           loses_more (suc t) count t 0 left (Some k) (ap (λ (es : List (Option ℕ)). Some k ∷ es) (sym r.0)) (λ used h. inl (r.1, h)) l
 
-      -- after another reply, the try ends or continues
+      -- if a receive returns another reply, and the deliveries after it lose the other tries (and the rest of this one, unless this was its 64th receive),
+      -- then with this receive they lose t + 1 tries
       other_lost : (count : ℕ) (d : List ℕ) → Other d → (ahead left : List (Option ℕ)) → Receives agents sent ahead (Some d) left
           → ((count ≡ 63) × Loses (resent sent q t) left t 0 final) ⊎ ((count ≢ 63) × Loses sent left (suc t) (count + 1) final)
           → Loses sent ahead (suc t) count final
@@ -88,7 +89,7 @@ module _ (agents : Agents) (Other : List ℕ → Type 0) (q : List ℕ) where
           by_datagram None e given = let no : ⊥ = cc in absurd no
           by_datagram (Some x) e given = (x, d, e, (λ same. asked.own d (subst (λ (y : List ℕ). IsReplyFrom agents y d) same given) other), given)
 
--- if no tries are left, it doesn't matter what was sent
+-- if deliveries lose t tries with q sent once more, they also do if q is sent once more only when t isn't 0 (`resent`)
 resent_lost : (agents : Agents) (q : List ℕ) (sent : List (List ℕ)) (used : List (Option ℕ)) (t : ℕ) → Lost agents (sent ++ q ∷ []) q used t 0
     → Lost agents (resent sent q t) q used t 0
 resent_lost agents q sent [] zero lost = lost
@@ -118,7 +119,8 @@ module _ {L : Type 0} (facts : LinkFacts L) (recording : (link : L) → facts.ho
     given_by : (old new : L) (given : Option (List ℕ)) → Serves sent old → Gets facts old given new → Receives agents sent (Ahead old) given (Ahead new)
     given_by old new given s h = rw (s.agents_are, s.sent_is) at (h.1 s.honest)
 
-    -- a try that has received `count` others, and then `strays`, `all` in total, misses the reply
+    -- if a try has received `count` others, and then `strays`, `all` in total, and misses the reply, and the deliveries after it lose t tries, then the
+    -- deliveries from `strays` on lose t + 1 tries
     try_lost : (t : ℕ) (final : List (Option ℕ)) (strays : List (List ℕ)) (count all : ℕ) (old now new : L) → all ≡ count + length strays → Serves sent old
         → count < 64 → InTurn (ReceivesDatagram facts) old strays now → ((d : List ℕ) → OneOf strays d → Other d) → EndsTry facts all now outcome.missed new
         → Loses agents Other q (resent sent q t) (Ahead new) t 0 final → Loses agents Other q sent (Ahead old) (suc t) count final
@@ -146,7 +148,7 @@ module _ {L : Type 0} (facts : LinkFacts L) (recording : (link : L) → facts.ho
               (omega (arith, is, few)) h.2 (λ x one. others x (inr one)) over l,
         ))
 
-  -- each of the tries misses the reply
+  -- if each of the tries missed the reply, the deliveries that they used lose as many tries
   tries_lost : (received : List (List (List ℕ))) (old new : L) (sent : List (List ℕ)) → Serves sent old → IsAsked agents Other q sent
       → InTurn (IsTry facts Other q outcome.missed) old received new
       → Loses agents Other q (sent ++ q ∷ []) (Ahead old) (length received) 0 (Ahead new)
@@ -164,7 +166,7 @@ module _ {L : Type 0} (facts : LinkFacts L) (recording : (link : L) → facts.ho
       ) in
       (lost.0, unused (t.sent.1.used s.honest) ∙ lost.1, lost.2)
 
--- what came of the request q, which is the only one sent after these
+-- over an honest link: if all tries of q missed the reply, the deliveries used lose them (`lost_of`); if d answered q, d is a reply to q (`reply_of`)
 module _ {L : Type 0} (facts : LinkFacts L) (recording : (link : L) → facts.honest link → facts.records link) (Other : List ℕ → Type 0) (q : List ℕ)
     (tries : ℕ) (old new : L) (honest : facts.honest old) (asked : IsAsked (facts.agents old) Other q (facts.traffic old).sent) where
   pub lost_of : AreTried facts Other q tries old outcome.missed new

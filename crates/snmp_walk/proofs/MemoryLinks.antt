@@ -34,7 +34,7 @@ received_at agents sent ahead number left reply (inl e) given = grind (arith, co
 received_at agents sent ahead number left reply (inr (inl h)) given = grind (arith, common_steps)
 received_at agents sent ahead number left reply (inr (inr h)) given = grind (arith, common_steps, latest_found)
 
--- what was received is at the start of the buffer
+-- what a receive returned is the same in the whole buffer `out ++ rest` as in its start `out`
 pub received_prefix : (r : Option ℕ) (out rest : List ℕ) → IfSome r (λ n. n ≤ 65507) → length out ≡ 65507 → received r (out ++ rest) ≡ received r out
 received_prefix None out rest h e = refl
 received_prefix (Some n) out rest h e = ap Some (take-append-le n out rest (omega (arith, h, e)))
@@ -43,7 +43,7 @@ pub within_more : (r : Option ℕ) (m : ℕ) → IfSome r (λ n. n ≤ 65507) �
 within_more None m h k = tt
 within_more (Some n) m h k = omega (arith, h, k)
 
--- what was received is what the next delivery delivers
+-- if the reply to the next number is at the start of `out`, it is at the start of the buffer `out ++ rest` too
 pub brought_by : (r : Option ℕ) (out rest : List ℕ) (number : ℕ) (Next : ℕ → Type 0) (Reply : ℕ → List ℕ → Type 0) → IfSome r (λ n. n ≤ 65507)
     → length out ≡ 65507 → Next number → IfSome r (λ n. Reply number (take n out)) → IfSome r (λ n. (k : ℕ) × Next k × Reply k (take n (out ++ rest)))
 brought_by None out rest number Next Reply h e next reply = tt

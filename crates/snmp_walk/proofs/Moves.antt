@@ -58,11 +58,11 @@ pub by_equal : (R : ℕ → ℕ → Type 0) (s t o p : ℕ) → s ≡ t → o �
 by_equal R s t o p e f h = subst (λ (x : ℕ). R x p) e (subst (R s) f h)
 
 module _ {W : Type 0} (facts : LinkFacts W) where
-  -- a link over which nothing is called stays as it is
+  -- with no sends and no receives, `IsMoved` holds of a link and itself
   pub moves_none : (link : W) → IsMoved facts link [] 0 ⊥ link
   moves_none link = grind (arith, common_steps, sent_nothing, by_equal)
 
-  -- two moves, the first without a failure, are one
+  -- if calls without a failure took the link from `old` to `between`, and more calls took it to `new`, all of them took it from `old` to `new`
   pub moves_on : {old between new : W} {tried more : List (List ℕ)} {k l : ℕ} {failed : Type 0} → IsMoved facts old tried k ⊥ between
       → IsMoved facts between more l failed new → IsMoved facts old (tried ++ more) (k + l) failed new
   moves_on {old} {between} {new} {tried} {more} {k} {l} {failed} m n = record {
@@ -79,7 +79,7 @@ module _ {W : Type 0} (facts : LinkFacts W) where
         (o + octets_in more + octets_in tried) (omega (arith, length-append tried more)) (omega (arith, octets-append tried more)) r)).1;
   }
 
-  -- a move is also one with more receives, and with an equivalent statement that a call failed
+  -- if `IsMoved` holds with at most m receives and with `failed`, it holds with any n ≥ m, and with any proposition equivalent to `failed`
   pub moves_as : {old new : W} {tried : List (List ℕ)} {m n : ℕ} {failed other : Type 0} → m ≤ n → (failed → other) → (other → failed)
       → IsMoved facts old tried m failed new → IsMoved facts old tried n other new
   moves_as few there back m = grind (arith, common_steps)
@@ -88,7 +88,7 @@ module _ {W : Type 0} (facts : LinkFacts W) where
       → IsMoved facts old tried n ⊥ new
   went few fine m = moves_as few fine (λ f. absurd f) m
 
-  -- a receive into a buffer that is long enough is a move
+  -- from what the trait says of a receive into a buffer of at least 65507 octets, `IsMoved` follows
   pub received : {old new : W} {n : ℕ} {failed : Type 0} → 65507 ≤ n
       → Moves facts.records facts.honest facts.agents facts.traffic facts.fault_count (λ link s o. (65507 ≤ n) × facts.ready link s o) old [] 1 failed new
       → IsMoved facts old [] 1 failed new
@@ -200,7 +200,7 @@ module _ {L : Type 0} (facts : LinkFacts L) (Other : List ℕ → Type 0) (q : L
             omega (arith, few_before h.0 old h.2 h.3 keeps, ap (λ (t : Traffic). length t.sent) f.1.1),
       )
 
-  -- how many times the request was sent: at least once unless the link failed, and once for each try if none received its reply
+  -- the request was sent at most `tries` times: at least once unless the link failed, and exactly `tries` times if no try received its reply
   abbrev pub IsSent : (tries : ℕ) → Outcome → L → L → Type 0
   IsSent tries what old new = (times : ℕ) × (times ≤ tries) × ((facts.traffic new).sent ≡ (facts.traffic old).sent ++ replicate times q)
       × ((what ≡ outcome.cut_off → ⊥) → 0 < times) × (what ≡ outcome.missed → times ≡ tries)
@@ -219,7 +219,7 @@ module _ {L : Type 0} (facts : LinkFacts L) (Other : List ℕ → Type 0) (q : L
         λ is. cc,
       )
 
-  -- the same, with an equivalent statement that a call failed
+  -- if `IsMovedByTries` holds with `failed`, it holds with any proposition equivalent to `failed`
   pub tries_as : {old new : L} {tries : ℕ} {failed other : Type 0} → (failed → other) → (other → failed) → IsMovedByTries facts old q tries failed new
       → IsMovedByTries facts old q tries other new
   tries_as there back h = (h.0, h.1, h.2, h.3, moves_as facts (omega arith) there back h.4, h.5)

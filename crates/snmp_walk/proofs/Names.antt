@@ -89,7 +89,7 @@ not_less_none (x ∷ o) e = cc
 below_first : (x : ℕ) (o root : List ℕ) → IsBelow o root → IsBelow (x ∷ o) (x ∷ root)
 below_first x o root h = (h.0, h.1, ap (λ (s : List ℕ). x ∷ s) h.2)
 
--- if the first numbers differ, they decide the order
+-- if a name that begins with y is between two names that begin with x, then y is x, and the other numbers decide both comparisons
 gap_first : (x y : ℕ) (a c : Ordering) (r : Ordering) → r ≡ nat_cmp x y → ordering_then r a ≡ Less → ordering_then (nat_cmp y x) c ≡ Less
     → (x ≡ y) × (a ≡ Less) × (c ≡ Less)
 gap_first x y a c Less e h k = grind (arith, common_steps)
@@ -105,7 +105,7 @@ after_gap (x ∷ root) s (y ∷ p) rest h out k =
     let first = gap_first x y (slice_cmp nat_cmp (root ++ s) p) (slice_cmp nat_cmp p (root ++ rest)) (nat_cmp x y) refl h k in
     after_gap root s p rest first.1 (λ below. out (subst (λ (n : ℕ). IsBelow (n ∷ p) (x ∷ root)) first.0 (below_first x p root below))) first.2
 
--- the same by the tests: if p comes after the root or a name below it, and isn't below the root, then neither is a name q after p
+-- if, by the tests, p comes after the root or a name below it, and isn't below the root, then no name q after p is below the root
 pub outside_after : (root s p q : List ℕ) → comes_after (root ++ s) p ≡ true → is_below p root ≡ false → comes_after p q ≡ true → is_below q root ≡ false
 outside_after root s p q a out b = grind (arith, common_steps, false_from_ne_true, below_from_test, test_from_below, after_gap, less_from_after)
 
@@ -129,7 +129,7 @@ wire_begins [] = (0 ∷ 0 ∷ [], refl)
 wire_begins (x ∷ []) = (0 ∷ [], refl)
 wire_begins (x ∷ y ∷ root) = ([], sym (append-nil (x ∷ y ∷ root)))
 
--- the wire form of each name that begins with the root does so too
+-- the wire form of each name that begins with the root begins with the root too
 pub wire_begins_below : (root rest : List ℕ) → (s : List ℕ) × (wire (root ++ rest) ≡ root ++ s)
 wire_begins_below root rest =
     let h = wire_begins (root ++ rest) in (rest ++ h.0, h.1 ∙ append_assoc root rest h.0)
@@ -186,7 +186,7 @@ outside_test root b h = false_from_ne_true (is_inside root b) (λ e. h ((inside_
 pub after_test : (o p : List ℕ) → Precedes o p → comes_after o p ≡ true
 after_test o p h = ap is_lt (less_precedes o p h)
 
--- the binding, if it has a value (`IsRowIfPresent`, computed)
+-- if `IsRowIfPresent b prefix` holds, then `if_present` computes `prefix`
 pub present_is : (b : VarBind) (prefix : List VarBind) → IsRowIfPresent b prefix → prefix ≡ if_present b
 present_is b prefix (inl h) = h.1 ∙ sym (ap (λ (t : Bool). cond t [] (b ∷ [])) ((missing_decided b).1 h.0))
 present_is b prefix (inr h) = h.1 ∙ sym (ap (λ (t : Bool). cond t [] (b ∷ [])) (miss_test b h.0))

@@ -106,7 +106,7 @@ module _ {Peer : Type 0} (agents : Agents) where
       subst (λ (b : List (Event Peer)). IsAnswer b e) (append_assoc before (x ∷ []) f ∙ ap (λ z. before ++ z ∷ f) same)
       (answer_at (before ++ x ∷ []) es f g e h.1 rest)
 
-  -- each datagram that arrived at the walk is the reply to one that it had sent before
+  -- each message that arrived at the walk is an agent's reply to a datagram that the walk had sent, or tried to send, before
   carried : (walker : Peer) (run : List (Happening Peer)) → IsFaithful walker run → AreServed agents run
       → (before after : List (Happening Peer)) (peer : Unit {0}) (r : List ℕ) → run ≡ before ++ at_walk (came peer r) ∷ after
       → (m : Message) → Spells m r → (d : List ℕ) × OneOf (tried (of_walk before)) d × IsReplyFrom agents d r
@@ -255,7 +255,7 @@ module _ {L : Type 0} (facts : LinkFacts L) (q : List ℕ) where
     missed_tries (strays ∷ more) old new h =
         grows_on old h.0 new (one_try old h.0 strays outcome.missed h.1) (missed_tries more h.0 new h.2)
 
-    -- if the last of the tries was answered, the events before the answer are such
+    -- if r answered q, then before r was delivered, only q was sent (`Grows`)
     pub answered_tries : (tries : ℕ) (old new : L) (r : List ℕ) → AreTried facts Other q tries old (outcome.answered r) new
         → (last : L) × Grows old last × facts.delivers last r new
     answered_tries tries old new r (earlier, few, before, missed, inl (strays, t)) = (
@@ -277,7 +277,7 @@ module _ {L : Type 0} (facts : LinkFacts L) (q : List ℕ) where
         let g = missed_tries missed.received old before missed.are_missed in
         (g.0 ++ send_failed tt q ∷ [], in_turn-append (Happens facts) g.0 (send_failed tt q ∷ []) old before new g.1 (new, fails.0, refl))
 
-    -- the events of tries begin with a send
+    -- the events of tries, if there are any, begin with a send
     begins_missed : (received : List (List (List ℕ))) (old new : L) (h : InTurn (IsTry facts Other q outcome.missed) old received new)
         → BeginWithSend (missed_tries received old new h).0
     unfolding missed_tries grows_on one_try up_to sent_once
@@ -346,7 +346,7 @@ IsServedThen {N} {Peer} carries agent turns old e new =
     × InTurn carries old (map at_agents events ++ at_walk e ∷ []) new
 
 module _ {W N Peer : Type 0} (net : W → N) (agent_at : W → Agent) (carries : N → Happening Peer → N → Type 0) (turn_count : N → ℕ) where
-  -- the events on the network for one event at the link
+  -- `run` are the events on the network that belong to the event e at the link: the turns of the agent, and e at the walk's end
   record Part (old new : W) (e : Event (Unit {0})) : Type 0 where
     same : agent_at new ≡ agent_at old
     run : List (Happening Peer)
@@ -356,7 +356,7 @@ module _ {W N Peer : Type 0} (net : W → N) (agent_at : W → Agent) (carries :
     served : Served
     are_turns : AreTurns (agent_at old) turns served (of_agents run)
 
-  -- the events on the network for all events at the link
+  -- `run` are the events on the network that belong to all these events at the link
   pub record Whole (agents : Agents) (old new : W) (events : List (Event (Unit {0}))) : Type 0 where
     pub run : List (Happening Peer)
     pub chain : InTurn carries (net old) run (net new)
@@ -423,7 +423,7 @@ module _ {W N Peer : Type 0} (facts : LinkFacts W) (net : W → N) (agent_at : W
         };
       }
 
--- all that happened at a link in a walk is a sequence of events on the network, if each call of the link is one
+-- if each call of a link is a sequence of events on a network (`Part`), then so is all that happened at the link in a walk (`Whole`)
 pub all_of : {W N Peer : Type 0} {facts : LinkFacts W} {link after : W} {tries : ℕ} {first : WalkState} {given refused : List VarBind} {end : WalkEnd}
     → (w : IsWalkedOver facts link after tries first given refused end) (net : W → N) (agent_at : W → Agent) (carries : N → Happening Peer → N → Type 0)
     (turn_count : N → ℕ) → ((old new : W) (d : List ℕ) → facts.sends old d new → (agent_at new ≡ agent_at old)
@@ -442,7 +442,7 @@ all_of {W} {N} {Peer} {facts} {link} {after} w net agent_at carries turn_count s
 
 -- ---- what a network stores
 
--- neither the agent's turns nor a receive of the walk sends anything
+-- a receive of the walk sends nothing
 pub got_none : (Peer : Type 0) (result : Result (Option ℕ) LinkFault) (buffer : List ℕ)
     → requests_by {Peer = Peer} (at_walk (event_of_got result buffer)) ≡ []
 got_none Peer (Ok (Some n)) buffer = refl
@@ -462,7 +462,7 @@ module _ {N Peer : Type 0} (carries : N → Happening Peer → N → Type 0) (se
       all_sent run h.0 new h.2 ∙ ap (λ (ds : List (List ℕ)). ds ++ flat_map requests_by run) (sending old h.0 e h.1)
       ∙ append_assoc (sent_of old) (requests_by e) (flat_map requests_by run)
 
-  -- a receive leaves what the walk sent unchanged
+  -- what the walk sent is the same after turns of the agent and an event at the walk's end that sends nothing
   pub same_sent : (events : List (Event Peer)) (e : Event (Unit {0})) (old new : N) → requests_by {Peer = Peer} (at_walk e) ≡ []
       → InTurn carries old (map at_agents events ++ at_walk e ∷ []) new → sent_of new ≡ sent_of old
   same_sent events e old new none h =

@@ -26,7 +26,7 @@ pub after_more : (o : List ℕ) (r : VarBind) (rows : List VarBind) → comes_af
 after_more o r [] e h = tt
 after_more o r (q ∷ rows) e h = (after-trans o r.name q.name e h.0, after_more o r rows e h.1)
 
--- of the rows after o, p is the first, and `more` are those after it
+-- what holds of p, the first of the rows after o, and of `more`, the rows after p
 pub record IsFirst (rows : List VarBind) (o : List ℕ) (p : VarBind) (more : List VarBind) : Type 0 where
   pub suffix : rows_after p.name rows ≡ more
   pub after : AreAfter p.name more
@@ -58,7 +58,7 @@ module _ (rows : List VarBind) (rising : AreIncreasing rows) (instances : AreIns
   after_below : (o : List ℕ) → rest_of root o rows ≡ rows_below root (rows_after o rows)
   after_below o = filter-commute (λ row. comes_after o row.name) (λ row. is_below row.name root) rows
 
-  -- if the answer is below the root, it is the next row of the rest of the walk
+  -- if the answer is an instance below the root, it is the next row of the rest of the walk
   pub rest_next : (o : List ℕ) (p : VarBind) (suffix : List VarBind) → suffix ≡ rows_after o rows → p ≡ or_end o suffix → is_inside root p ≡ true
       → rest_of root o rows ≡ p ∷ rest_of root p.name rows
   rest_next o p [] e is inside = let out : is_inside root p ≡ false = ap (is_inside root) is in absurd (false≢true (sym out ∙ inside))
@@ -69,7 +69,7 @@ module _ (rows : List VarBind) (rising : AreIncreasing rows) (instances : AreIns
       after_below o ∙ ap (rows_below root) (sym e ∙ ap (λ (r : VarBind). r ∷ more) (sym is))
       ∙ rw below (ap (λ (s : List VarBind). p ∷ s) (ap (rows_below root) (sym here) ∙ sym (after_below p.name)))
 
-  -- if the answer isn't below the root, no row is left
+  -- if the answer isn't an instance below the root, no row is left
   pub rest_ends : (o s : List ℕ) (p : VarBind) (suffix : List VarBind) → o ≡ root ++ s → suffix ≡ rows_after o rows → p ≡ or_end o suffix
       → is_inside root p ≡ false
       → rest_of root o rows ≡ []

@@ -13,7 +13,7 @@ use Rattle.snmp_walk.proofs.{OneTable.all_after, OneTable.rest_from_wire, Sorted
 use Rattle.snmp_walk.proofs.Names.{less_from_after, after-trans, after-irrefl, less_precedes}
 use Rattle.snmp_walk.proofs.Variables.{one_after, kept, keeps, row_in, in_row, variables_rise, variables_are, get_row}
 
--- a filtered list is sorted if the whole one is
+-- if all rows come after x, so do the rows that pass a test
 after_kept : (test : VarBind → Bool) (x : List ℕ) (rows : List VarBind) → AreAfter x rows → AreAfter x (filter test rows)
 after_kept test x [] h = tt
 after_kept test x (q ∷ rows) h = grind (arith, common_steps, after_kept test x rows h.1, cond_both)
@@ -28,7 +28,7 @@ module _ (precedes : (o p : List ℕ) → comes_after o p ≡ true → Precedes 
   ordered_from_rising [] h = tt
   ordered_from_rising (p ∷ rows) h = ((λ q i. precedes p.name q.name (one_after p.name rows q h.0 i)), ordered_from_rising rows h.1)
 
--- of a sorted list, the rows after one of its names are those that follow it
+-- if p comes after o, then o doesn't come after p
 not_before : (o p : List ℕ) → comes_after o p ≡ true → comes_after p o ≡ false
 not_before o p h = false_from_ne_true (comes_after p o) (λ k. false≢true (sym (after-irrefl o) ∙ after-trans o p o h k))
 

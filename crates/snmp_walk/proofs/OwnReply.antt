@@ -65,7 +65,7 @@ module _ (codec : Codec) (q : Message) (ranged : IsMessageInRange q) (no_set : q
   response_by view n r (shortened large a no_fit e) = (pos 1, [], e)
   response_by view n r (bulk all bindings k asked longest e) = (pos 0, bindings, e)
 
-  -- what an agent replies to q encodes a Response to q
+  -- `octets` encode a Response of one of the agents to q
   pub record IsAnsweredBy (agents : Agents) (octets : List ℕ) : Type 0 where
     pub message : Message
     pub spelt : Spells message octets
@@ -284,7 +284,7 @@ honest_reply codec agents lawful w good waits reply h =
       full_of codec agents w good a.view view_good waits a.one a.named a.message a.is_response,
     )
 
--- a Response that one of the agents may send to a request that isn't a Set
+-- m is a Response that one of the agents may send to q, a request that isn't a Set
 module _ (codec : Codec) (q : Message) (ranged : IsMessageInRange q) (no_set : q.kind ≡ kind.SetRequest → ⊥) (agents : Agents) (m : Message)
     (h : IsResponseFrom agents (canon q) m) where
   same_request : h.request ≡ q
@@ -346,7 +346,7 @@ lower_more id next d more low =
 pub all_lower_more : (sent : List (List ℕ)) (id next : ℕ) → id ≤ next → AreOfLowerIds sent id → AreOfLowerIds sent next
 all_lower_more sent id next more low d one = lower_more id next d more (low d one)
 
--- if the datagrams sent have ids below `next`, then so have they with more sends of q, whose id is below `next`
+-- if the datagrams sent have ids below `next`, and q's id is below `next`, then all ids are still below `next` after q was sent more times
 pub all_lower_sent : (q : Message) → IsMessageInRange q → (q.kind ≡ kind.SetRequest → ⊥) → (number next : ℕ) → q.id ≡ pos number → number < next
     → (sent after : List (List ℕ)) (times : ℕ) → after ≡ sent ++ replicate times (canon q) → AreOfLowerIds sent next → AreOfLowerIds after next
 all_lower_sent q ranged no_set number next id_is less sent after times e low d one =
@@ -362,7 +362,7 @@ lower_before w next good less d (inr low) = lower_more w.id next d (omega (arith
 pub before_more : (w v : WalkState) → IsWalkState w → w.id < v.id → (d : List ℕ) → IsSentBefore w d → IsSentBefore v d
 before_more w v good less d before = inr (lower_before w v.id good less d before)
 
--- all that was sent, and the sends of the waiting request, has ids below the next
+-- if what was sent are the request of w, whose id is below `next`, and requests with lower ids, then after more sends of it all ids are still below `next`
 pub all_lower_after : (w : WalkState) (sent after : List (List ℕ)) (times next : ℕ) → IsWalkState w → w.id < next
     → after ≡ sent ++ replicate times (canon (request_of w)) → IsEarlier sent w → AreOfLowerIds after next
 all_lower_after w sent after times next good less e earlier =
@@ -382,7 +382,7 @@ earlier_first sent w low d one = inr (low d one)
 pub one_spelt : Codec → (m n : Message) (octets : List ℕ) → Spells m octets → Spells n octets → m ≡ n
 one_spelt codec m n octets a b = (codec.one m n octets octets [] [] a b refl).0
 
--- a reply to a request with a lower id has that id
+-- a reply to a request with an id below `id` has an id below `id`
 pub lower_reply : Codec → (agents : Agents) → AreLawful agents → (id : ℕ) (d r : List ℕ) (m : Message) → IsOfLowerId id d → Spells m r
     → IsReplyFrom agents d r ⊎ IsResponseFrom agents d m → (n : ℕ) × (m.id ≡ pos n) × (n < id)
 lower_reply codec agents lawful id d r m low spelt (inl h) =
@@ -413,7 +413,7 @@ asked_of codec agents sent w lawful good waits earlier = record {
   ];
 }
 
--- the reply that was read is a reply to the waiting request
+-- over an honest link, the reply m that was read is an honest reply to the waiting request, and full if the agents have room
 pub from_of : {L : Type 0} (facts : LinkFacts L) → ((link : L) → facts.honest link → facts.records link) → Codec → (tries : ℕ) (w : WalkState) (link after : L)
     → (facts.honest link → AreLawful (facts.agents link)) → IsWalkState w → is_over w.phase ≡ false → (m : Message) (d : List ℕ)
     → IsTried facts tries w link (outcome.answered d) after → Spells m d → IsResponseTo w.community w.id m

@@ -56,7 +56,7 @@ module _ (Next Got : List ℕ → VarBind → Type 0) (first : WalkState) where
   opening_prefix mode.Include xs rest prefix (p, got, inr some) e = grind (arith, common_steps, one_prefix)
   opening_prefix _ xs rest prefix none e = inl (nil_prefix xs rest (sym none ∙ e))
 
-  -- a prefix of what was given is a first part of the walk too
+  -- if a walk has returned `xs ++ ys`, then `xs` is a prefix of what it may return, wherever the opening ends
   given_prefix : (xs ys : List VarBind) (o : List ℕ) (g : HasReturned Next Got first (xs ++ ys) o)
       → ((rest : List VarBind) × (g.prefix ≡ xs ++ rest)) ⊎ ((more : List VarBind) × (xs ≡ g.prefix ++ more) × (g.trail ≡ more ++ ys))
       → IsPartOfWalk Next Got first xs

@@ -68,7 +68,7 @@ module _ {L : Type 0} (codec : Codec) (facts : LinkFacts L) (tries : ℕ) (first
       begins_both (read_events a.read.readings first w link a.now a.read.are_read).0 (tried_events w a.now after o a.tried).0
       (begins_read a.read.readings first w link a.now a.read.are_read) (begins_tried w a.now after o a.tried)
 
-  -- How a run ended, after these rows and the one refused: as it can if only replies of the agents arrived, or by an error, if errors may have arrived too.
+  -- A run that passed on `rows`, and then perhaps had one refused, ended with `end` as it can if only replies of these agents arrive.
   abbrev IsHonestEnd : Agents → (rows refused : List VarBind) → WalkEnd → Type 0
   IsHonestEnd agents rows refused end =
       IsPartOfWalk (IsNextFrom agents) (IsGotFrom agents) first (rows ++ refused) × IsLawfulEnd agents (λ w. Unit {0}) first rows end
@@ -95,7 +95,7 @@ module _ {L : Type 0} (codec : Codec) (facts : LinkFacts L) (tries : ℕ) (first
     waits : (w : WalkState) (given : List VarBind) → Reached w given → is_over w.phase ≡ false
     waits w given s = waiting Increases Named Small rising_answers first given w.asked w.phase s.anyhow.stage
 
-    -- the reply that was read is a reply to the waiting request
+    -- the reply that was read is an agent's reply to the waiting request, or another Response that the agent may send to this request
     read_is : (w : WalkState) (l new : L) (given : List VarBind) (s : Reached w given) → IsWalkState w → (r : List ℕ) (m : Message) → Spells m r → Sort m
         → IsResponseTo w.community w.id m → (h : Tried w l (outcome.answered r) new) → (rest : List (Event (Unit {0})))
         → all ≡ s.events ++ ((tried_events w l new (outcome.answered r) h).0 ++ rest)
@@ -120,7 +120,8 @@ module _ {L : Type 0} (codec : Codec) (facts : LinkFacts L) (tries : ℕ) (first
               absurd (omega (arith, equal, l.2))
         ]
 
-    -- what a reply that isn't a stray did: it took the walk a step further; or, if it has an error status that isn't an agent's reply, it ended the walk
+    -- The step `st` took the walk from w to u as an honest reply can, and as any reply can. If `st` ends the walk by an error status or by a reply without
+    -- bindings, it passes on no rows.
     record Steps (w : WalkState) (given : List VarBind) (st : Step) (u : WalkState) : Type 0 where
       honestly : Advances Next Got (IsTooLarge agents) first w given st u
       anyhow : AdvancesAnyhow first w given st u
@@ -169,7 +170,7 @@ module _ {L : Type 0} (codec : Codec) (facts : LinkFacts L) (tries : ℕ) (first
           | inr none ↦ absurd none
         ]
 
-    -- the state of a run that has read some replies, and the events that are left
+    -- the run has reached w and passed on `given`, and `rest` are the events after that
     abbrev ReachedBefore : WalkState → List VarBind → List (Event (Unit {0})) → Type 0
     ReachedBefore w given rest = (s : Reached w given) × (all ≡ s.events ++ rest)
 
@@ -220,7 +221,7 @@ module _ {L : Type 0} (codec : Codec) (facts : LinkFacts L) (tries : ℕ) (first
               (sym (append-nil late)),
         ))
 
-    -- what was passed on is a part of a walk
+    -- if w was reached with `given`, and nothing was passed on since, then what was passed on is a prefix of what the walk may return
     part_at : (w : WalkState) (rows given more : List VarBind) → rows ≡ given ++ more → more ≡ [] → Reaches Next Got first w given
         → IsPartOfWalk Next Got first (rows ++ [])
     part_at w rows given more parts none reaches =
@@ -282,7 +283,7 @@ module _ {L : Type 0} (codec : Codec) (facts : LinkFacts L) (tries : ℕ) (first
         let all_taken : a.given ≡ rows = sym (append-nil a.given) ∙ sym a.parts in
         (part_at w rows a.given [] a.parts refl reaches, lawful (subst (Reaches Next Got first w) all_taken reaches))
 
-  -- the events at the link, and what follows if replies are all that arrived
+  -- the run ended as `HasHappened` says, with `ReplyFacts` if only replies of the agents arrived
   abbrev Known : (rows refused : List VarBind) → WalkEnd → Type 0
   Known rows refused end = HasHappened facts link after end (λ agents why. ReplyFacts agents (λ w. Unit {0}) first rows refused why)
 

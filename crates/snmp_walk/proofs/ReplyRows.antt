@@ -37,7 +37,8 @@ prefix_taken root = prefixes_by root (λ o. IsOf) (λ o. (refl, λ _. refl))
     (λ o p more prefix i u h. (ap (λ (s : List VarBind). p ∷ s) h.0, λ e. ap (λ (s : List VarBind). p ∷ s) (h.1 e)))
     (λ o p more i f. (refl, λ e. absurd cc)) (λ o p more f. (refl, λ e. absurd cc))
 
--- one more binding is a row, or it ends the rows
+-- what is read of b and then of the bindings after it (`later`): b is a row if it is an instance below the root (`is_in`) and its name increases (`rises`);
+-- otherwise it ends the rows
 abbrev Read : VarBind → ReplyRows → Bool → Bool → ReplyRows
 Read b later is_in rises = cond is_in (cond rises (before b later) record { rows = []; after = falling b.name }) record { rows = []; after = leaving }
 
@@ -101,6 +102,6 @@ module _ (w : WalkState) (bindings : List VarBind) (fine : is_misplaced (asked_f
   pub read_falling : (name : List ℕ) → after ≡ falling name → reads_next w bindings ≡ stops w (take rows bindings) (walk_end.NotIncreasing last name)
   read_falling name e = grind (arith, common_steps, read, none_read)
 
--- in a reply without bindings none is out of place
+-- a reply without bindings is never misplaced
 pub none_misplaced : (room : ℕ) → is_misplaced room [] ≡ false
 none_misplaced room = ap (λ (b : Bool). b || false) (le-ltb room 0 (omega arith))

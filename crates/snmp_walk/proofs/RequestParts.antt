@@ -70,7 +70,7 @@ pub binding_bound : (name : List ℕ) (value : Datum)
 unfolding canon_binding
 binding_bound name value = omega (arith, element_bound, length-append {A = ℕ}, name_bound name, value_bound value)
 
--- a list of one binding has as many at most
+-- a list of one binding has at most 18 octets besides the numbers of its name and the content of its value
 pub one_bound : (name : List ℕ) (value : Datum)
     → length (canon_bindings (record { name = name; value = value } ∷ [])) ≤ 18 + 5 * length name + length (canon_content value)
 unfolding canon_bindings

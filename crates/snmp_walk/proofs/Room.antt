@@ -33,7 +33,7 @@ module _ (codec : Codec) where
   unfolding number_size
   longer_number n k h = codec.elements.digits_rise 256 128 8 n k h
 
-  -- if 0 ≤ n ≤ k, the encoding of k isn't shorter than that of n
+  -- if 0 ≤ n ≤ k, the encoding of n isn't longer than the encoding of k
   longer_integer : (n k : ℕ) → n ≤ k → length (canon_value (integer_value (pos n))) ≤ length (canon_value (integer_value (pos k)))
   unfolding canon_value canon_content
   longer_integer n k h = grind (arith, common_steps, longer_element, longer_number)
@@ -42,7 +42,7 @@ module _ (codec : Codec) where
   unfolding canon_bindings
   one_binding p = omega (arith, length-append (canon_binding p) [])
 
-  -- if no part of n is shorter than that of m, then n isn't shorter than m
+  -- if no part of the message m is longer than the same part of n, then m isn't longer than n
   longer_message : (m n : Message) → length (canon_opening m) ≤ length (canon_opening n) → length (canon_fields m) ≤ length (canon_fields n)
       → length (canon_bindings m.bindings) ≤ length (canon_bindings n.bindings) → length (canon m) ≤ length (canon n)
   unfolding canon

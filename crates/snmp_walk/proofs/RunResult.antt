@@ -51,7 +51,7 @@ read_end Asked refused ending.Link own h = absurd own
 read_end Asked refused (ending.Sink fault) own h = absurd own
 read_end Asked refused _ own h = h
 
--- a walk that read one datagram more has read it after the others
+-- if a walk read `readings`, and then the datagram of r as the rows of r, then it read `readings` and r
 are_more : {L : Type 0} (Tried : WalkState → L → Outcome → L → Type 0) (v w x : WalkState) (old now new : L) (readings : List Reading) (r : Reading)
     → AreRead Tried v old readings w now → IsWalkState w → Tried w now (outcome.answered r.datagram) new → MeansBy w r.datagram (step.Rows r.rows) x
     → AreRead Tried v old (readings ++ r ∷ []) x new
@@ -99,11 +99,11 @@ module _ {S L : Type 0} (facts : LinkFacts L) (takes : S → VarBind → Result 
     fast = λ h. fast_first (IsNextFrom (facts.agents link)) (IsGotFrom (facts.agents link)) (AreRoomy (facts.agents link) []) first fresh;
   }
 
-  -- what is known of a run that ended
+  -- a run ended with `end`, the link then being in state `after` and the sink in state t, and what `run_walk` promises holds of the run
   abbrev pub Returns : L → WalkEnd → S → Type 0
   Returns after end t = IsRun takes before end t (λ given refused. IsWalkedOver facts link after tries first given refused end)
 
-  -- what a request of the walk w comes to, by what `exchange` returned: the run continues, or it ends
+  -- what holds after `exchange` tried the request of the walk w, by its result: the run continues in state v, or it ended as promised
   abbrev pub IsTurn : WalkState → L → WalkState → S → WalkEnd → Result (Option Course) LinkFault → Type 0
   IsTurn w after v t end (Ok (Some course.GoesOn)) = Runs after v t × (v.id ≡ w.id + 1) × (v.id < 2 ^ 31)
   IsTurn w after v t end (Ok (Some course.Ends)) = Returns after end t
@@ -137,12 +137,12 @@ module _ {S L : Type 0} {facts : LinkFacts L} {takes : S → VarBind → Result 
   pub still_waits : w.phase ≢ phase.Over
   still_waits over = false≢true (sym waits ∙ ap is_over over)
 
-  -- what came of the octets of the request came of the walk's request
+  -- if q encodes the request of w, then what came of q is what came of the request of w
   pub tried_by : {q : List ℕ} {what other : Outcome} → q ≡ canon (request_of w) → what ≡ other
       → AreTried facts (IsNotAwaited w.community w.id) q tries here what after → Tried other
   tried_by {q} {what} {other} is same h = grind (arith, common_steps)
 
-  -- the link is still honest, and what was sent over it are requests of this walk, or with lower ids
+  -- if the link was honest when the run began, it still is, and what was sent over it are the request of w and requests with lower ids
   asked : IsHonestFrom facts first.id link → facts.honest here × IsEarlier (facts.traffic here).sent w
   asked h = (r.has_moved.by.moved.honest h.0, r.earlier (recording link h.0) h.1)
 
@@ -173,7 +173,7 @@ module _ {S L : Type 0} {facts : LinkFacts L} {takes : S → VarBind → Result 
     honest_step : IsHonestFrom facts first.id link → Advances Next Got (IsTooLarge agents) first w r.given (take_of w m).0 (take_of w m).1
     honest_step h = taken Next Got (IsTooLarge agents) (laws h) first r.given w m (r.honestly h) (honest_reply h).0
 
-    -- if it is read as `step.Rows`, the run continues
+    -- if m is read as `step.Rows rows`, and the sink takes the rows, the run continues
     pub runs_on : (rows : List VarBind) (v : WalkState) (t : S) → (take_of w m).0 ≡ step.Rows rows → v ≡ (take_of w m).1 → TakesAll takes s rows t
         → Runs facts takes tries first link before after v t × (v.id ≡ w.id + 1) × (v.id < 2 ^ 31)
     runs_on rows v t e f sink =
@@ -207,7 +207,7 @@ module _ {S L : Type 0} {facts : LinkFacts L} {takes : S → VarBind → Result 
           stood.1,
         )
 
-  -- how the last request was sent, over a link that lists what is sent
+  -- if the link lists what is sent, the last datagrams that it sent are the request of u (`IsLastSent`)
   abbrev IsSentLast : WalkEnd → WalkState → Type 0
   IsSentLast end u = facts.records link → IsLastSent tries end (facts.traffic after) u
 
@@ -217,7 +217,7 @@ module _ {S L : Type 0} {facts : LinkFacts L} {takes : S → VarBind → Result 
   last_sent : (what : Outcome) (end : WalkEnd) → Suits what end → Tried what → IsSentLast end w
   last_sent what end suits tried keeps = grind (arith, common_steps, sent_on, agrees)
 
-  -- if no reply arrived, one of the agents has none or the deliveries lost it
+  -- if no reply arrived over an honest link, one of the agents has no reply to the request, or the deliveries lost the reply
   no_reply : Tried outcome.missed → IsHonestFrom facts first.id link → IsUnreplied w
   no_reply tried h =
       let q : List ℕ = canon (request_of w) in
@@ -232,7 +232,7 @@ module _ {S L : Type 0} {facts : LinkFacts L} {takes : S → VarBind → Result 
         lost = elim l.2 [ inl none ↦ inl none | inr gone ↦ inr (u.0, l.0, u.1 ∙ ap (λ (es : List (Option ℕ)). u.0 ++ es) l.1, gone) ];
       })
 
-  -- the end of the run, from which the facts of the whole run follow
+  -- the run ended with `end`, after the sink took `all` and perhaps refused one more; the facts of the whole run follow from this (`ran`)
   record IsOver (all : List VarBind) (end : WalkEnd) (t : S) : Type 0 where
     refused : List VarBind
     sink : Took takes before all refused end t
@@ -273,7 +273,7 @@ module _ {S L : Type 0} {facts : LinkFacts L} {takes : S → VarBind → Result 
       sent = last_sent what end suits tried (recording link h.0);
     }
 
-    -- what is known of the whole run
+    -- if the run ended as `IsOver` says, then what is promised of the whole run holds (`Ran`)
     ran : IsFresh first → (rows : List VarBind) (t : S) → IsOver (r.given ++ rows) end t
         → Ran end t
     ran fresh rows t done =
@@ -435,7 +435,7 @@ module _ {S L : Type 0} {facts : LinkFacts L} {takes : S → VarBind → Result 
       ran_none outcome.cut_off ending.Link refl tried fresh (λ own. own) tt
       (w, asked_last outcome.cut_off ending.Link refl tried [] r.given (sym (append-nil r.given))) (r.sunk, refl) refl (λ h is. absurd cc) (λ h. tt)
 
-  -- ---- the turn, by what was read and given to the sink
+  -- ---- `IsTurn`, by what was read and passed to the sink
 
   abbrev IsReadSoBy : List ℕ → WalkState → S → Heard → Type 0
   IsReadSoBy d v t what = IsReadAs d w.community w.id (λ m given new. (given, new) ≡ take_of w m) takes s v t what
@@ -467,7 +467,7 @@ module _ {S L : Type 0} {facts : LinkFacts L} {takes : S → VarBind → Result 
           let same : ending.Sink fault ≡ end = cc in
           rw (← same) (ran_refused h.message d tried h.spelt h.awaited fresh rows t fault p left between (ap rows_in e ∙ parts) sink refused)
 
-  -- ---- the turn, by what `exchange` returned
+  -- ---- `IsTurn`, by what `exchange` returned
 
   abbrev Turn : WalkState → S → WalkEnd → Result (Option Course) LinkFault → Type 0
   Turn = IsTurn facts takes tries first link before w after

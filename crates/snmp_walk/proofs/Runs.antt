@@ -40,7 +40,7 @@ asks_stage first given phase.Last by h paced = (h.1, h.2)
 asks_stage first given phase.Over by h paced = absurd h
 asks_stage first given phase.Rows by h paced = grind (arith, common_steps, last_named, named_after)
 
--- the waiting request is one of the walk
+-- if the walk that began as `first` has reached w, then w's request is one of its requests (`Asks`)
 pub asks_now : (first w : WalkState) (given rows : List VarBind) → Reaches Increases Named first w given → Asks first (given ++ rows) w
 asks_now first w given rows h = record { same = h.same; name = asks_more first given rows w.phase w (asks_stage first given w.phase w h.stage h.paced) }
 
@@ -64,7 +64,7 @@ sent_push (u ∷ requests) t = grind (arith, common_steps, sent_push requests t,
 pub each_push : (requests : List Try) (t : Try) → IsEachSent requests → 0 < t.times → IsEachSent (requests ++ t ∷ [])
 each_push requests t each some u one = grind (arith, common_steps, one_append)
 
--- the requests before the one with the id `next`
+-- the datagrams sent from `old` to `now` are the requests of the walk before the one with the id `next`
 pub record Sends (tries : ℕ) (first : WalkState) (given : List VarBind) (old : Traffic) (next : ℕ) (now : Traffic) : Type 0 where
   pub requests : List Try
   pub sent : now.sent ≡ old.sent ++ sent_by requests
@@ -89,7 +89,7 @@ sends_more tries times first w given rows old now later good reached h few sent 
 
 -- ---- the sends of a run over any link, request by request
 
--- each request is at most `tries` times among the datagrams
+-- if each request was sent at most `tries` times, then at most `tries` times as many datagrams as requests were sent
 few_sent : (tries : ℕ) (first : WalkState) (rows : List VarBind) (id : ℕ) (requests : List Try) → AreTries tries first rows id requests
     → length (sent_by requests) ≤ length requests * tries
 few_sent tries first rows id [] h = omega arith
@@ -145,7 +145,7 @@ module _ {W : Type 0} (facts : LinkFacts W) where
             (omega (arith, own, t.1, h.short, sum));
       }
 
-  -- if the link was ready for one more request than these, none of its calls failed
+  -- if there were at most k + 2 requests, and the link was ready for the tries of k + 3, then none of its calls failed
   pub moved_fine : {old new : W} {failed : Type 0} (tries : ℕ) (first : WalkState) (given : List VarBind) (to : ℕ)
       → HasMoved old tries first given to failed new
       → (k : ℕ) → to ≤ first.id + k + 2 → facts.ready old ((k + 3) * tries) ((k + 3) * tries * 1000) → failed → ⊥

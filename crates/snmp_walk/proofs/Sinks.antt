@@ -1,4 +1,4 @@
--- What a sink was given, in two parts.
+-- If a sink took the bindings `xs` and then `ys`, it took `xs ++ ys` (`given-append`).
 use Rattle.std.proofs.Common.{List, [], ◌∷◌, ◌++◌, refl, subst, Ok}
 use Rattle.std.specs.Prelude.{Result}
 use Rattle.snmp_wire.specs.Message.{VarBind}

@@ -89,6 +89,6 @@ views_answer agents h = record {
   is_answer = λ o p n. get_value n.0 (view_of agents.tables h n.0 n.1) o p n.2;
 }
 
--- with one table, each answer is from it
+-- if the agents have only the table `view`, then each of their tables is `view`
 pub only_one : (view v : MibView) (tables : List MibView) → tables ≡ view ∷ [] → OneOf tables v → v ≡ view
 only_one view v tables e one = elim (subst (λ (t : List MibView). OneOf t v) e one) [ inl same ↦ same | inr never ↦ absurd never ]

@@ -28,7 +28,7 @@ use Rattle.snmp_walk.specs.declared.end.WalkEnd.TheVariants as ending
 use Rattle.snmp_oid.specs.Identifier.{Precedes}
 
 module _ (Next Got : List ℕ → VarBind → Type 0) (Large : ℕ → VarBind → Type 0) (laws : AreLawfulReplies Next Got) (first : WalkState) where
-  -- `Advances`, of a step and a state as a pair
+  -- `Advances` holds of the step and the state in the pair s
   abbrev pub Goes : WalkState → List VarBind → Step × WalkState → Type 0
   Goes old given s = Advances Next Got Large first old given s.0 s.1
 
@@ -44,7 +44,8 @@ module _ (Next Got : List ℕ → VarBind → Type 0) (Large : ℕ → VarBind �
   part_of_step old given (step.Rows more) w h = part_of_stage (given ++ more) w.asked w.phase h.stage
   part_of_step old given (step.Last more why) w h = h.0
 
-  -- what a walk returns before the instances has the name that it begins from, so that the last name is that of the trail
+  -- if `prefix` is the opening of a walk that begins from the name o, then `last_name o` of `prefix ++ trail` is `last_name o` of `trail`: the opening
+  -- has no name but o
   pub opening_last : (m : Mode) (o : List ℕ) (prefix trail : List VarBind) → IsOpening Got m o prefix → last_name o (prefix ++ trail) ≡ last_name o trail
   opening_last mode.Include o prefix trail (p, h, inl is) = rw is.1
   opening_last mode.Include o prefix trail (p, h, inr is) = rw (is.1, laws.same_name o p h)
@@ -71,7 +72,7 @@ module _ (Next Got : List ℕ → VarBind → Type 0) (Large : ℕ → VarBind �
       → w.id ≡ first.id
   plain_pace given w waits h none plain = grind (arith, common_steps, length-append, few_replies)
 
-  -- the name that the walk asks from is the last one returned below the root
+  -- the name that the walk asks from is the last one returned below the root, or the name that the walk began from if none was returned
   pub asked_last : (given : List VarBind) (o : List ℕ) (prefix trail : List VarBind) → HasReturned Next Got first given o → given ≡ prefix ++ trail
       → IsOpening Got first.mode first.asked prefix → o ≡ last_name first.asked trail
   asked_last given o prefix trail g parts opening = grind (arith, common_steps, opening_last)
@@ -214,7 +215,7 @@ module _ (Next Got : List ℕ → VarBind → Type 0) (Large : ℕ → VarBind �
 
 -- ---- what holds of a step whatever the reply is
 
--- nothing is said of which bindings have room
+-- what takes the place of `Large` if replies needn't be honest: any binding may have no room
 abbrev pub Small : ℕ → VarBind → Type 0
 Small id p = Unit {0}
 
@@ -236,7 +237,7 @@ got_named o (b ∷ []) p h = cond_both (pointwise nat_eq b.name o && not (is_end
     subst (Named o) same (same_text b.name o (sym parts.0), no_end b.value (not-true _ parts.1))) (λ _ e. absurd cc) h
 got_named o (b ∷ c ∷ more) p h = absurd cc
 
--- the rows of any reply are a trail of increasing names
+-- the rows of any reply without noSuchObject and noSuchInstance are a trail of increasing names
 rising_trail : ((o p : List ℕ) → comes_after o p ≡ true → Precedes o p) → (root o : List ℕ) (bindings : List VarBind)
     → list_any (λ p. is_missing p.value) bindings ≡ false → IsTrail Increases root o (reply_rows root o bindings).rows
 rising_trail precedes root = prefixes_by root (λ o all prefix. list_any (λ p. is_missing p.value) all ≡ false → IsTrail Increases root o prefix.rows)
@@ -249,7 +250,7 @@ module _ (first old : WalkState) (given : List VarBind) where
   abbrev IsAny : Step × WalkState → Type 0
   IsAny s = AdvancesAnyhow first old given s.0 s.1
 
-  -- a step that is honest among any replies
+  -- the step and the state in the pair s advance the walk, by what holds of any replies
   abbrev IsHonest : Step × WalkState → Type 0
   IsHonest s = Advances Increases Named Small first old given s.0 s.1
 

@@ -22,7 +22,7 @@ use Rattle.snmp_walk.specs.StepRules.{ReadsRows, IsStray, MeansNext, IsGot, Mean
 use Rattle.snmp_walk.proofs.Names.{less_from_after, less_precedes, end_decided, missing_decided, inside_decided, outside, outside_test}
 use Rattle.snmp_walk.proofs.ReplyRows.{prefixes_by}
 
--- What each test decides.
+-- ---- what each test decides
 
 waits_decided : (p : Phase) → Decides (not (is_over p)) (p ≡ phase.Over → ⊥)
 waits_decided phase.Over = ((λ e. absurd (false≢true e)), (λ h. absurd (h refl)))
@@ -83,7 +83,7 @@ got_decides asked [] = inr (refl, λ c h. let alone = h.alone in cc)
 got_decides asked (b ∷ []) = grind (arith, common_steps, got_parts)
 got_decides asked (b ∷ d ∷ more) = inr (refl, λ c h. let alone = h.alone in cc)
 
--- what follows the rows of a reply, by the binding that ends them
+-- `after` says what follows rows up to the name `last`, if the next bindings are these: nothing, or a first binding that ends the rows
 abbrev IsCut : (root last : List ℕ) → List VarBind → After → Type 0
 IsCut root last [] after = after ≡ nothing
 IsCut root last (b ∷ _) after =
@@ -94,7 +94,7 @@ module _ (precedes : (o p : List ℕ) → slice_cmp nat_cmp o p ≡ Less → Pre
   after_decided : (o p : List ℕ) → Decides (comes_after o p) (Precedes o p)
   after_decided o p = ((λ e. precedes o p (less_from_after o p e)), (λ h. ap is_lt (less_precedes o p h)))
 
-  -- what is read of rows, and then of a binding that ends them
+  -- if `rows` are rows, and `rest` follows them as `after` says, then these rows and `after` are what is read of `rows ++ rest`
   read_cut : (root o : List ℕ) (rows rest : List VarBind) (after : After) → AreRowsFrom root o rows → IsCut root (last_name o rows) rest after
       → reply_rows root o (rows ++ rest) ≡ record { rows = rows; after = after }
   read_cut root o [] [] after h c = rw c refl
@@ -105,7 +105,7 @@ module _ (precedes : (o p : List ℕ) → slice_cmp nat_cmp o p ≡ Less → Pre
   read_cut root o (b ∷ rows) rest after h c =
       rw ((inside_decided root b).1 h.0, (after_decided o b.name).1 h.1) (ap (before b) (read_cut root b.name rows rest after h.2 c))
 
-  -- the bindings are the rows that are read, and then those that end them
+  -- the bindings are the rows of `prefix`, and then `rest`, which follows them as `prefix.after` says
   record IsSplit (root o : List ℕ) (bindings : List VarBind) (prefix : ReplyRows) : Type 0 where
     rest : List VarBind
     parts : bindings ≡ prefix.rows ++ rest
@@ -133,7 +133,8 @@ module _ (precedes : (o p : List ℕ) → slice_cmp nat_cmp o p ≡ Less → Pre
     abbrev Is : Step × WalkState → Type 0
     Is x = (given ≡ x.0) × (new ≡ x.1)
 
-    -- if a test decides P, a statement by cases of P is a statement about `cond`
+    -- if b decides P, X says in the case of P that the step and the state are x, and Y says otherwise that they are y, then the one of X and Y that applies
+    -- says that they are `cond b x y`
     by_test : (b : Bool) (P X Y : Type 0) (x y : Step × WalkState) → Decides b P → (P → X ↔ Is x) → ((P → ⊥) → Y ↔ Is y)
         → ((P × X) ⊎ ((P → ⊥) × Y)) ↔ Is (cond b x y)
     by_test true P X Y x y d f g =
@@ -156,7 +157,7 @@ module _ (precedes : (o p : List ℕ) → slice_cmp nat_cmp o p ≡ Less → Pre
     closing w rows = by_test (is_plain w.mode && (w.count + length rows == 0)) (GivesNothing w rows) (GoesOn w phase.Last [] given new)
         (EndsBy w rows (ending.Done (w.count + length rows)) given new) _ _ (nothing_decided w rows) (λ _. goes w phase.Last []) (λ _. same _)
 
-    -- what comes of rows is what `reads_as` computes for some `after`
+    -- if the step and the state follow from `rows` and the bindings after them (`FollowsBy`), then `reads_as` computes them from some `after`
     follows_in : (w : WalkState) (rows rest : List VarBind) → FollowsBy w rows rest given new
         → (after : After) × IsCut w.root (last_name w.asked rows) rest after × Is (reads_as after w rows)
     follows_in w rows [] h = (nothing, refl, (goes w phase.Rows rows).0 h)

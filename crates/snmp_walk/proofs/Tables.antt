@@ -1,4 +1,4 @@
--- With several tables, each row given is from one of them, and no name that all have is skipped.
+-- With several tables, each row that a walk returns is from one of them, and no name that all tables have is skipped.
 use Rattle.std.proofs.{lemmas.Grind.common_steps, lemmas.Bool.false≢true, lemmas.Bool.false_from_ne_true}
 use Rattle.std.proofs.Common.{◌≡◌, ◌⊎◌, inl, inr, ℕ, ◌≤◌, Bool, true, false, List, [], ◌∷◌, ◌++◌, length, refl, sym, ◌∙◌, ap, subst, arith}
 use Rattle.std.proofs.Common.{length-append}
@@ -117,7 +117,7 @@ module _ (codec : Codec) (agents : Agents) (views : AreViews agents.tables) (fir
   laws : AreLawfulReplies Next Got
   laws = views_answer agents views
 
-  -- ---- each row given is from a table
+  -- ---- each row that a walk returns is from a table
 
   trail_rows : (o : List ℕ) (trail : List VarBind) → IsTrail Next first.root o trail → (p : VarBind) → OneOf trail p
       → (view : MibView) × OneOf agents.tables view × IsRow view p × IsBelow p.name first.root
@@ -150,7 +150,7 @@ module _ (codec : Codec) (agents : Agents) (views : AreViews agents.tables) (fir
   ])
   part_from given (inr (inr a)) = inr (a.plain, a.answer, a.only, a.is_answer)
 
-  -- a trail has at most as many rows as the tables have names
+  -- if `names` has each name of the tables below the root, a trail has at most as many rows as `names` has items
   pub few_rows : (names : List (List ℕ)) → HoldsNames agents first names → (trail : List VarBind) → IsTrail Next first.root first.asked trail
       → length trail ≤ length names
   few_rows names all trail h =
@@ -165,7 +165,7 @@ module _ (codec : Codec) (agents : Agents) (views : AreViews agents.tables) (fir
   trail_has o n (p ∷ trail) h a b each =
       elim (up_to codec h.0.0 o n p h.0.2 (each h.0.0 h.0.1) a) [ inl e ↦ inl e | inr c ↦ inr (trail_has p.name n trail h.2 c b each) ]
 
-  -- if a walk is at its end, no name below the root that all have comes after the last name
+  -- if a GetNext of o may return a binding that ends the walk, no name below the root that all tables have comes after o
   end_before : (o u : List ℕ) → o ≡ first.root ++ u → IsAtEnd Next first.root o → (n : List ℕ) → IsBelow n first.root
       → IsInEach agents n → comes_after o n ≡ false
   end_before o u at end n below each =
@@ -184,7 +184,7 @@ module _ (codec : Codec) (agents : Agents) (views : AreViews agents.tables) (fir
       ] in
       false≢true (sym outside ∙ test_from_below first.root n below))
 
-  -- a walk that includes its root returns it if all tables have it
+  -- a walk that includes its root returns the root's own instance if all tables have one
   opening_has : (m : Mode) (prefix : List VarBind) → m ≡ mode.Include → IsOpening Got m first.asked prefix → IsInEach agents first.asked
       → IsNameIn prefix first.asked
   opening_has mode.Include prefix is (q, got, inl missing) each = grind (arith, common_steps, present_of_get, view_of, no_miss)

@@ -1,4 +1,4 @@
--- The loops over tries and receives so far, none of which returned the reply, and what ends them (`tried_so`).
+-- The loops over tries and receives: what holds while no reply was received, and what ends them (`tried_so`).
 use Rattle.std.proofs.{lemmas.Grind.common_steps, lemmas.List.length_push}
 use Rattle.std.proofs.Common.{◌≡◌, ◌≢◌, inl, inr, ℕ, ◌+◌, ◌<◌, ◌≤◌, List, [], ◌∷◌, ◌++◌, length, take, refl, sym, subst, arith, Option, Some, None}
 use Rattle.std.specs.Prelude.{Result, Ok, Err, IsErr, IfOk, IfSome, IfNone, OnOk, OnErr}
@@ -8,14 +8,14 @@ use Rattle.snmp_walk.specs.Tries.{InTurn, Sends, SendFails, ReceivesDatagram, Re
 use Rattle.snmp_walk.specs.declared.link.Link.{Ghosts as LinkFacts}
 use Rattle.snmp_walk.proofs.{Members.one_append, Moves.moves_as, Moves.received as moved_by}
 
--- a step after steps in turn makes a longer sequence of steps in turn
+-- if the steps `xs` led in turn from `old` to `now`, and x from `now` to `new`, then `xs` and x led in turn from `old` to `new`
 turn_more : {L X : Type 0} (step : L → X → L → Type 0) (old now new : L) (xs : List X) (x : X) → InTurn step old xs now → step now x new
     → InTurn step old (xs ++ x ∷ []) new
 turn_more {L} step old now new [] x h s = (new, subst (λ (l : L). step l x new) h s, refl)
 turn_more {L} step old now new (y ∷ xs) x h s = (h.0, h.1, turn_more step h.0 now new xs x h.2 s)
 
 module _ {L : Type 0} (facts : LinkFacts L) where
-  -- what a send did, by its result
+  -- a send of d returned this result and took the link from `old` to `new`
   abbrev pub IsSend : L → List ℕ → {E : Type 0} → Result (Unit {0}) E → L → Type 0
   IsSend old d {E} (Ok x) new = Sends facts old d new
   IsSend old d {E} (Err e) new = SendFails facts old d new
@@ -25,7 +25,7 @@ module _ {L : Type 0} (facts : LinkFacts L) where
   sent_so old d new (Ok x) sends fails same moves = (sends, moves_as facts (omega arith) (λ e. cc) (λ f. absurd f) moves)
   sent_so old d new (Err e) sends fails same moves = (fails, same, moves_as facts (omega arith) (λ e. tt) (λ f. refl) moves)
 
-  -- what a receive did, by its result
+  -- a receive into `buffer`, as it is afterwards, returned this result and took the link from `old` to `new`
   abbrev pub IsReceive : L → (buffer : List ℕ) → {E : Type 0} → Result (Option ℕ) E → L → Type 0
   IsReceive old buffer {E} (Ok (Some n)) new = ReceivesDatagram facts old (take n buffer) new
   IsReceive old buffer {E} (Ok None) new = ReceivesNothing facts old new
@@ -66,7 +66,7 @@ module _ {L : Type 0} (facts : LinkFacts L) (Other : List ℕ → Type 0) where
     ];
   }
 
-  -- after these receives, the try ended with `what`
+  -- if `count` receives returned datagrams that weren't the reply, and then the try ended with `what`, then `AreReceives` holds of these datagrams
   pub received_all : (count : ℕ) (old now new : L) (what : Outcome) → IsMissing count old now → EndsTry facts count now what new
       → (strays : List (List ℕ)) × AreReceives facts Other old what new strays
   received_all count old now new what h over = grind (arith, common_steps)

@@ -56,7 +56,7 @@ keeps test p (q ∷ rows) h (inr i) = let later = keeps test p rows h i in cond_
 pub after_precedes : Codec → (o p : List ℕ) → comes_after o p ≡ true → Precedes o p
 after_precedes codec o p e = codec.less o p (less_from_after o p e)
 
--- the tests tell names apart
+-- names that compare as equal are equal
 pub tie_is : (q x : List ℕ) → eq_by_cmp (slice_cmp nat_cmp) q x ≡ true → q ≡ x
 tie_is q x e = same_text q x (sym e ∙ sym (texts_ties q x))
 
@@ -129,7 +129,7 @@ module _ (view : MibView) (good : IsMibView view) where
   pub variables_are : AreInstances (variables view)
   variables_are = instances_of (variables view) (λ p i. (good.names p (in_row p i), good.values p (in_row p i)))
 
-  -- a row after o is a row of the view whose name o precedes, and the other way round
+  -- a row among those after o is a row of the view, and o precedes its name
   after_row : Codec → (o : List ℕ) (q : VarBind) → OneOf (rows_after o (variables view)) q → IsRow view q × Precedes o q.name
   after_row codec o q i = grind (arith, common_steps, kept, in_row, less_from_after)
 

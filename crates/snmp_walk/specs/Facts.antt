@@ -117,9 +117,10 @@ pub record EndFacts {L : Type 0} (Tried : WalkState → L → Outcome → L → 
   pub counted : CountsAll end rows
   pub reason : IsEndOfRun (IsAskedLast Tried Sent first old rows new) refused end
 
--- How a walk can end over an honest link, after these rows. It waited in state w for the reply
--- that ended it. That reply had none of the rows if it was an error or had no bindings, and
--- otherwise the last ones. If no reply arrived, `Silent` holds of w.
+-- How a walk can end over an honest link, after these rows. The link and the sink may end it at
+-- any time. Otherwise it waited in state w for the reply that ended it. That reply had none of the
+-- rows if it was an error or had no bindings, and otherwise the last ones (`more`). If no reply
+-- arrived, `Silent` holds of w.
 abbrev pub IsLawfulEnd : Agents → (WalkState → Type 0) → WalkState → List VarBind → WalkEnd → Type 0
 IsLawfulEnd agents Silent first rows ending.Link = Unit {0}
 IsLawfulEnd agents Silent first rows (ending.Sink fault) = Unit {0}
@@ -148,9 +149,9 @@ DeliversNoRows ending.NoResponse rows = rows ≡ []
 DeliversNoRows ending.Link rows = rows ≡ []
 DeliversNoRows _ rows = Unit {0}
 
--- How a walk ended over an honest link, by its last request. In state w, it had passed on the
--- first of these rows and waited for the reply to that request, which had the others. All that a
--- lawful end says of some state holds of w.
+-- How a walk ended over an honest link, by its last request. In state w, it had passed on `given`
+-- and waited for the reply to that request. The rows that it passed on then, `more`, are of that
+-- reply. `ends` and `silent` say of this w what `IsLawfulEnd` says of some state.
 pub record IsEndedBy (agents : Agents) (Silent Sent : WalkState → Type 0) (first : WalkState)
     (rows : List VarBind) (end : WalkEnd) : Type 0 where
   pub w : WalkState
@@ -166,8 +167,8 @@ pub record IsEndedBy (agents : Agents) (Silent Sent : WalkState → Type 0) (fir
   pub silent : end ≡ ending.NoResponse → Silent w
   pub sent : Sent w
 
--- The last datagrams sent are the request of w, once for each try, and one of the agents has no
--- reply to it or the last deliveries used lost it.
+-- The last datagrams sent are the request of w, once for each try. One of the agents has no reply
+-- to it, or the last deliveries used lost the reply.
 pub record HasNoReply (agents : Agents) (tries : ℕ) (old new : Traffic)
     (w : WalkState) : Type 0 where
   pub earlier : List (List ℕ)
@@ -203,64 +204,65 @@ IsDoneOrCutOff ending.NoResponse = Unit {0}
 IsDoneOrCutOff why = IsDoneOrStopped why
 
 -- What is promised of a walk if each reply that it read is a reply of one of these agents to the
--- waiting request. It gave `rows` to the sink, and then the one that was refused, if any was. If
--- no reply arrived, `Silent` holds of the state that waited.
+-- waiting request. The sink took `rows` and then refused the binding in `refused`, if there is
+-- one. If no reply arrived, `Silent` holds of the state that waited.
 pub record ReplyFacts (agents : Agents) (Silent : WalkState → Type 0) (first : WalkState)
     (rows refused : List VarBind) (end : WalkEnd) : Type 0 where
-  -- each row is the next instance, in one of the tables, after the name before it; before them
-  -- comes the root's own, if the mode says so; in their place, a plain walk may return the result
-  -- of a Get of the root
+  -- Each row is the next instance, in one of the tables, after the name before it. A walk that
+  -- includes its root returns the root's own instance first, if there is one. Instead of any rows,
+  -- a plain walk may return the result of a Get of its root.
   pub part : IsPartOfWalk (IsNextFrom agents) (IsGotFrom agents) first (rows ++ refused)
   -- the link and the sink may stop it at any time; each other end has its reason
   pub lawful : IsLawfulEnd agents Silent first rows end
-  -- with one table, what was given and refused is a prefix of the walk
+  -- with one table, `rows` and `refused` are a prefix of what the walk of that table returns
   pub beginning : (view : MibView) (got : VarBind) → agents.tables ≡ view ∷ []
       → IsGet view first.asked got
       → (more : List VarBind) × (walk_at first view got ≡ (rows ++ refused) ++ more)
-  -- with one table, a walk that is done gave all of it
+  -- with one table, `rows` are all that the walk of that table returns, if the walk is done
   pub all_at_done : (view : MibView) (got : VarBind) → agents.tables ≡ view ∷ []
       → IsGet view first.asked got → IsDone end
       → rows ≡ walk_at first view got
-  -- Without a Get of its root, a walk returns the rows after the name that it begins from: a
-  -- prefix of them, and all of them if it is done.
+  -- With one table, a walk without a Get of its root returns the rows after the name that it
+  -- begins from: a prefix of them, and all of them if it is done.
   pub rest_beginning : (view : MibView) → agents.tables ≡ view ∷ [] → first.mode ≡ mode.NoLast
       → (more : List VarBind)
       × (rest_of first.root first.asked (variables view) ≡ (rows ++ refused) ++ more)
   pub rest_at_done : (view : MibView) → agents.tables ≡ view ∷ [] → first.mode ≡ mode.NoLast
       → IsDone end → rows ≡ rest_of first.root first.asked (variables view)
-  -- with several tables, each row is from one of them
+  -- each row is from one of the tables, or a plain walk returned only the result of a Get
   pub from_tables : AreFromTables agents first (rows ++ refused)
-  -- each name of the walk that all tables have, and that doesn't come after the last name given,
-  -- was given once
+  -- each name of the walk that all tables have, and that doesn't come after the name of the last
+  -- row, occurs once in `rows`
   pub common_names : (name : List ℕ) → IsOfWalk first name → IsInEach agents name
       → (prefix : List VarBind) (last : VarBind) → rows ≡ prefix ++ last ∷ []
       → (Precedes last.name name → ⊥) → OccursOnce rows name
-  -- a walk that is done gave each name of the walk that all tables have, once
+  -- if the walk is done, each name of the walk that all tables have occurs once in `rows`
   pub common_at_done : IsDone end → (name : List ℕ) → IsOfWalk first name → IsInEach agents name
       → OccursOnce rows name
-  -- a plain walk that is done gave at least one row
+  -- a plain walk that is done returned at least one row
   pub some_at_done : IsDone end → first.mode ≡ mode.Plain → rows ≢ []
-  -- If each single binding of each table has room, and there are enough ids for the names below
-  -- the root, the walk is done unless the link or the sink stops it or no reply arrives.
+  -- If the walk has the agents' community, each single binding of each table has room, and there
+  -- are enough ids for the names below the root, the walk is done unless the link or the sink stops
+  -- it or no reply arrives.
   pub done_unless_lost : (k : ℕ) → CountsNames agents first k → HasRoomInEach agents first
       → HasIdsFor first k → IsDoneOrCutOff end
 
--- What is promised of a walk over an honest link, over which earlier runs had lower ids. It gave
--- `rows` to the sink, and then the one that was refused, if any was.
+-- What is promised of a walk over an honest link, if earlier runs over it had lower ids. The sink
+-- took `rows` and then refused the binding in `refused`, if there is one.
 pub record WalkFacts (agents : Agents) (tries : ℕ) (old : Traffic) (first : WalkState)
     (rows refused : List VarBind) (end : WalkEnd) (new : Traffic) : Type 0 where
-  -- each reply that was read is a reply of one of the agents to the waiting request; if none
-  -- arrived, one of the agents has none or the deliveries lost it
+  -- each reply that was read is a reply of one of the agents to the waiting request; if no reply
+  -- arrived, one of the agents has no reply to it, or the deliveries lost the reply
   pub given : ReplyFacts agents (HasNoReply agents tries old new) first rows refused end
   -- the walk ended by what came of the request sent last
   pub last_request : IsEndedBy agents (HasNoReply agents tries old new) (IsLastSent tries end new)
       first rows end
-  -- if each receive returns the reply to the latest datagram, no reply arrives only if one of the
-  -- agents has none
+  -- if each receive returns the reply to the latest datagram, a request stays without a reply only
+  -- if one of the agents has none
   pub replied : old.ahead ≡ [] → IsLawfulEnd agents (HasNone agents) first rows end
-  -- If each receive returns the reply to the latest datagram, there is room for each single binding
-  -- of each table, and there are enough ids for the names below the root, then the walk is done
-  -- unless the link or the sink stops it.
+  -- If each receive returns the reply to the latest datagram, the walk has the agents' community,
+  -- there is room for each single binding of each table, and there are enough ids for the names
+  -- below the root, then the walk is done unless the link or the sink stops it.
   pub done_unless_stopped : (k : ℕ) → CountsNames agents first k → HasRoomInEach agents first
       → HasIdsFor first k → old.ahead ≡ [] → IsDoneOrStopped end
 
@@ -299,7 +301,7 @@ pub record SendFacts (agents : Agents) (honest : Type 0) (tries : ℕ) (old : Tr
       → (k : ℕ) → CountsNames agents first k
       → (n : ℕ) × (asked_for first.method * n ≤ k) × (length requests ≤ n + 1 + gets first.mode)
 
--- the link is ready for each try of as many requests as a walk of k names may send, and one more:
--- each has at most 1,000 octets
+-- the link is ready for each try of k + 3 requests of at most 1,000 octets; a walk of k names sends
+-- fewer requests
 abbrev pub IsReadyForAll : (ℕ → ℕ → Type 0) → (tries k : ℕ) → Type 0
 IsReadyForAll Ready tries k = Ready ((k + 3) * tries) ((k + 3) * tries * 1000)

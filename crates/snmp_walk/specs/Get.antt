@@ -51,8 +51,9 @@ pub record WaitingGet : Type 0 where
   pub community : List ℕ
   pub id : ℕ
 
--- m is the reply to the Get's request, as what came of it (`Tried`) says: a Response with its
--- community and id, and over an honest link the Response of one of the agents to it.
+-- m is the reply to the Get's request, and the datagram that answered the request (`Tried`)
+-- encodes it. m is a Response with the request's community and id and, over an honest link, the
+-- Response of one of the agents to the request.
 abbrev pub IsDelivered : (Tried : Outcome → Type 0) → Agents → (honest : Type 0) → List ℕ → ℕ
     → List (List ℕ) → Message → Type 0
 IsDelivered Tried agents honest community id names m =
@@ -76,8 +77,8 @@ pub record HasRoomForGet (agents : Agents) (request : Message) (names : List
       → AreGot view names all
       → Fits agents.max_size (response request (pos 0) (pos 0) all)
 
--- the request q was sent once for each try, and one of the agents has no reply to it or the
--- deliveries used lost it
+-- the request q was sent once for each try, and one of the agents has no reply to it, or the
+-- deliveries used by these tries lost the reply
 pub record IsLostGet (agents : Agents) (tries : ℕ) (old : Traffic) (q : List ℕ)
     (new : Traffic) : Type 0 where
   pub sent : new.sent ≡ old.sent ++ replicate tries q
@@ -85,8 +86,8 @@ pub record IsLostGet (agents : Agents) (tries : ℕ) (old : Traffic) (q : List �
       ⊎ ((used : List (Option ℕ)) × (old.ahead ≡ used ++ new.ahead)
       × Lost agents (old.sent ++ q ∷ []) q used tries 0)
 
--- The error status is tooBig, and the Response with the results of Gets of the names is longer
--- than an agent's messages may be.
+-- The error status is tooBig, with index 0, and the Response with the results of Gets of the names
+-- is longer than an agent's messages may be.
 pub record IsTooBig (agents : Agents) (request : Message) (names : List (List ℕ))
     (status index : ℤ) : Type 0 where
   pub too_big : status ≡ pos 1
@@ -97,8 +98,8 @@ pub record IsTooBig (agents : Agents) (request : Message) (names : List (List �
   pub got : AreGot view names all
   pub no_room : Fits agents.max_size (response request (pos 0) (pos 0) all) → ⊥
 
--- How a Get can end. `Fails` says which error statuses a reply may have, `Bad` that it may have
--- other names than those asked for, and `Silent` that no reply may arrive.
+-- How a Get can end. `Fails` says which error statuses a reply can have, `Bad` that it can have
+-- other names than those asked for, and `Silent` that it can fail to arrive.
 abbrev pub IsEndOfGet : (Fails : ℤ → ℤ → Type 0) → (Bad Silent : Type 0) → Message
     → List (List ℕ) → WalkEnd → Type 0
 IsEndOfGet Fails Bad Silent request names (ending.Done count) = count ≡ length names
@@ -124,8 +125,9 @@ pub record AreForNames (request : Message) (names : List (List ℕ)) (given refu
   pub too_long : names ≢ [] → 65507 < length (canon request) → end ≡ ending.RequestTooLong
 
 -- Why a Get of names ended, whatever the link delivered. `Tried` says what came of its request,
--- and `From` that a message is the reply to it. It ended as that reply says; or because the sink
--- refused one of its bindings, no reply arrived, or the link failed.
+-- and `From` that a message is the reply to it. The Get ended as that reply says; or because the
+-- sink refused a binding of the reply, no reply arrived, or the link failed; or it sent nothing,
+-- since its request would be too long.
 abbrev pub IsReasonOfGet : (Tried : Outcome → Type 0) → (From : Message → Type 0)
     → (names : List (List ℕ)) → (given refused : List VarBind) → WalkEnd → Type 0
 IsReasonOfGet Tried From names given refused (ending.Done count) =
@@ -141,29 +143,29 @@ IsReasonOfGet Tried From names given refused end =
     (m : Message) × From m × MeansToGet names m (Err end) × (given ++ refused ≡ [])
 
 -- What is promised of a Get if the reply that it read, if any, is a reply of one of these agents
--- to its request. It gave `rows` to the sink, and then the one that was refused, if any was.
+-- to its request. The sink took `rows` and then refused the binding in `refused`, if there is one.
 pub record GotFacts (agents : Agents) (request : Message) (names : List (List ℕ))
     (rows refused : List VarBind) (end : WalkEnd) : Type 0 where
-  -- with one table, what was given and refused is a prefix of the results of Gets of the names
+  -- with one table, `rows` and `refused` are a prefix of the results of Gets of the names
   pub beginning : (view : MibView) (all : List VarBind) → agents.tables ≡ view ∷ []
       → AreGot view names all → (more : List VarBind) × (all ≡ (rows ++ refused) ++ more)
-  -- with one table, a Get that is done gave all of them
+  -- with one table, `rows` are all results of Gets of the names, if the Get is done
   pub all_at_done : (view : MibView) (all : List VarBind) → agents.tables ≡ view ∷ []
       → AreGot view names all → IsDone end → rows ≡ all
-  -- it ends with an error status only if the agents' messages have no room, and never because the
-  -- reply has other names than those asked for
+  -- it ends with an error status only if the agents' messages have no room for the results, and
+  -- never because the reply has other names than those asked for
   pub ends : IsEndOfGet (IsTooBig agents request names) ⊥ (Unit {0}) request names end
   -- if there is room, it is done unless the link or the sink stops it or no reply arrives
   pub done_unless_lost : HasRoomForGet agents request names → IsDoneOrCutOff end
 
--- What is promised of a Get over an honest link, over which earlier runs had lower ids. It gave
--- `rows` to the sink, and then the one that was refused, if any was.
+-- What is promised of a Get over an honest link, if earlier runs over it had lower ids. The sink
+-- took `rows` and then refused the binding in `refused`, if there is one.
 pub record GetFacts (agents : Agents) (tries : ℕ) (old : Traffic) (request : Message) (names : List
     (List ℕ)) (rows refused : List VarBind) (end : WalkEnd) (new : Traffic) : Type 0 where
   -- a reply that was read is a reply of one of the agents to the request
   pub given : GotFacts agents request names rows refused end
-  -- if no reply arrived, each try sent the request, and an agent has no reply or the deliveries
-  -- lost it
+  -- if no reply arrived, each try sent the request, and one of the agents has no reply to it, or
+  -- the deliveries lost the reply
   pub lost_without_response : end ≡ ending.NoResponse
       → IsLostGet agents tries old (canon request) new
   -- If there is room, and each receive returns the reply to the latest datagram, the Get is done

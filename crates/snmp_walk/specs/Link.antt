@@ -38,7 +38,8 @@ IsNextFrom agents o p = (view : MibView) × OneOf agents.tables view × IsNext v
 abbrev pub IsGotFrom : Agents → List ℕ → VarBind → Type 0
 IsGotFrom agents o p = (view : MibView) × OneOf agents.tables view × IsGet view o p
 
--- The Response with this request-id, and with p only, is longer than the agents' messages may be.
+-- The Response with this request-id, which is below 2^31, and with p only, is longer than the
+-- agents' messages may be.
 abbrev pub IsTooLarge : Agents → ℕ → VarBind → Type 0
 IsTooLarge agents id p = (id < 2 ^ 31)
     × (agents.max_size < length (canon (full_response agents.community id (p ∷ []))))

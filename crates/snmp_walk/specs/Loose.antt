@@ -44,9 +44,10 @@ pub record IsLengthened (reply longer : List ℕ) : Type 0 where
   pub are_octets : AreOctets size
   pub parts : longer ≡ sequence_tag ∷ size ++ content
 
--- In this way, `octets` are sent in place of the agent's reply to q: genErr, if it fits; the reply
--- to n repetitions, if q is a GetBulk for more; the reply in another encoding, if there is room
--- for four octets more.
+-- In this way, `octets` are sent in place of `reply`, the agent's reply to q, if q asks for one
+-- name. `Whole` replaces nothing. `GenErr` sends the error genErr, if it fits. `Fewer n` sends the
+-- reply to q with n repetitions, or 1 if n is 0, if q is a GetBulk for more. `LongLength` sends
+-- `reply` in another encoding, if there is room for four octets more.
 abbrev pub Replaces : Agent → Way → (q : Message) → (reply octets : List ℕ) → Type 0
 Replaces agent way.Whole q reply octets = ⊥
 Replaces agent way.GenErr q reply octets = AsksForOne q × Fits agent.max_size (failed q)
@@ -72,7 +73,7 @@ pub record IsSentIn (agent : Agent) (way : Way) (datagram octets : List ℕ) : T
 abbrev pub agent_at : LooseLink → Agent
 agent_at link = agent_of link.table.now link.config
 
--- the same agent, as the agents of a link
+-- the agent at the other end of the link, as the agents of a link
 abbrev pub agents_at : LooseLink → Agents
 agents_at link = agents_over (link.table.now ∷ []) link.config
 
@@ -89,7 +90,8 @@ abbrev pub IsNextWay : List Way → Way → (left : List Way) → Type 0
 IsNextWay [] next left = (next ≡ way.Whole) × (left ≡ [])
 IsNextWay (first ∷ more) next left = (next ≡ first) × (left ≡ more)
 
--- a call that fails leaves the agent, the datagram sent last and the ways unchanged
+-- the agent, the datagram sent last and the ways left are the same in `new` as in `old`, as after
+-- a call that fails
 pub record IsUnchanged (old new : LooseLink) : Type 0 where
   pub agent : agent_at new ≡ agent_at old
   pub last : last_sent new ≡ last_sent old
@@ -107,7 +109,8 @@ pub record UsesWay (old : LooseLink) (used : Way) (new : LooseLink) : Type 0 whe
   pub last : last_sent new ≡ last_sent old
   pub next : IsNextWay (ways_left old) used (ways_left new)
 
--- a receive returns what the agent sends in the next way to the datagram sent last
+-- a receive returns `octets`, which the agent sends in the next way in reply to the datagram sent
+-- last
 abbrev pub IsSentBack : LooseLink → List ℕ → LooseLink → Type 0
 IsSentBack old octets new = (used : Way) × UsesWay old used new
     × IsSentIn (agent_at old) used (last_sent old) octets

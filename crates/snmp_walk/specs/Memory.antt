@@ -35,9 +35,8 @@ pub record IsReadyFor (link : MemoryLink) (sends octets : ℕ) : Type 0 where
   pub free_spans : sends ≤ link.arena.free_spans
   pub room : octets ≤ link.arena.room
 
--- `number` is that of the datagram whose reply the next delivery delivers, or 0 if it delivers
--- nothing. If no delivery is ahead, it is that of the latest datagram. `left` are the deliveries
--- after it.
+-- The next receive is for datagram `number`, counted from 1, or for none if `number` is 0. If no
+-- delivery is ahead, it is for the latest datagram. `left` are the deliveries after it.
 abbrev pub IsNextNumber : List (List ℕ) → (ahead : List (Option ℕ)) → ℕ
     → (left : List (Option ℕ)) → Type 0
 IsNextNumber sent ahead number left =
@@ -79,20 +78,20 @@ pub record IsSentOver (old : MemoryLink) (datagram : List ℕ) (new : MemoryLink
   pub sent : (traffic_of new).sent ≡ (traffic_of old).sent ++ datagram ∷ []
   pub ahead : (traffic_of new).ahead ≡ (traffic_of old).ahead
 
--- a receive uses the next delivery, which is for datagram `number`; agents, uses and datagrams
--- sent are unchanged
+-- a receive is for datagram `number` (`IsNextNumber`), and uses the next delivery if one is ahead;
+-- agents, uses and datagrams sent are unchanged
 pub record UsesDelivery (old : MemoryLink) (number : ℕ) (new : MemoryLink) : Type 0 where
   pub agents : agents_of new ≡ agents_of old
   pub uses : new.uses.now ≡ old.uses.now
   pub sent : (traffic_of new).sent ≡ (traffic_of old).sent
   pub next : IsNextNumber (traffic_of old).sent (traffic_of old).ahead number (traffic_of new).ahead
 
--- a receive returns `octets`, the reply to the datagram that the next delivery names
+-- a receive returns `octets`, the reply to the datagram that the receive is for
 abbrev pub IsDeliveredBy : MemoryLink → List ℕ → MemoryLink → Type 0
 IsDeliveredBy old octets new = (number : ℕ) × UsesDelivery old number new
     × IsReplyOf (agents_of old) old.uses.now (traffic_of old).sent number octets
 
--- a receive returns nothing: the next delivery names no datagram, or one without a reply
+-- a receive returns nothing: it is for no datagram, or for one without a reply
 abbrev pub IsSilentBy : MemoryLink → MemoryLink → Type 0
 IsSilentBy old new = (number : ℕ) × UsesDelivery old number new
     × HasNoReplyOf (agents_of old) old.uses.now (traffic_of old).sent number

@@ -19,8 +19,9 @@ replies_of network = network.replies.datagrams
 abbrev pub ahead_of : MemoryNetwork → List Delivery
 ahead_of network = drop network.used network.deliveries.now
 
--- The agent's next receive returns the datagram with this number, counted from 1, or nothing if it
--- is 0, and `left` are the deliveries after it. After the last delivery, it returns the latest
+-- The agent's next receive returns the datagram with this number, counted from 1, or nothing if no
+-- datagram has it, as for 0. `left` are the deliveries after it. If the next delivery is for the
+-- walk, the agent's receive returns nothing. After the last delivery, it returns the latest
 -- datagram.
 abbrev pub IsNextRequest : (requests : List (List ℕ)) → (ahead : List Delivery) → (number : ℕ)
     → (left : List Delivery) → Type 0
@@ -28,9 +29,10 @@ IsNextRequest requests [] number left = (number ≡ length requests) × (left �
 IsNextRequest requests (delivery.Request k ∷ more) number left = (number ≡ k) × (left ≡ more)
 IsNextRequest requests ahead number left = (number ≡ 0) × (left ≡ ahead)
 
--- The walk's next receive returns the datagram with this number, counted from 1, or nothing if it
--- is 0; without a number it fails. `left` are the deliveries after it. After the last delivery, it
--- returns what the agent sent in its last turn.
+-- The walk's next receive returns the datagram with the number `next`, counted from 1, or nothing
+-- if no datagram has it, as for 0; without a number the receive fails. `left` are the deliveries
+-- after it. If the next delivery is for the agent, the walk's receive returns nothing. After the
+-- last delivery, it returns what the agent sent in its last turn (`answer`).
 abbrev pub IsNextReply : (answer : Option ℕ) → (ahead : List Delivery) → (next : Option ℕ)
     → (left : List Delivery) → Type 0
 IsNextReply answer [] next left = (next ≡ answer) × (left ≡ [])

@@ -43,8 +43,8 @@ one_append (x ∷ xs) ys d (inr one) = elim (one_append xs ys d one) [
   | inr h ↦ inr h
 ]
 
--- if events led from `old` to `new`, then the events before `x` led to a state in which `x`
--- happened
+-- if the events `xs`, x and `ys` led from `old` to `new`, then `xs` led from `old` to some state,
+-- and x led on from there
 up_to : {L X : Type 0} (step : L → X → L → Type 0) (xs ys : List X) (x : X) (old new : L)
     → InTurn step old (xs ++ x ∷ ys) new
     → (mid : L) × (next : L) × InTurn step old xs mid × step mid x next
@@ -232,7 +232,7 @@ module _ (between new : MemoryNetwork) (none : IsPrompt between) (agent : Agent)
 
 module _ (old new : MemoryNetwork) (none : IsPrompt old) (agent : Agent) (e : Event
     (Unit {0})) where
-  -- the agent received the latest datagram, if any was sent
+  -- a datagram that the agent receives over a prompt network is the latest that the walk sent
   received : (mid : MemoryNetwork) (peer : Unit {0}) (d : List ℕ)
       → Carries old (at_agents (came peer d)) mid → latest (requests_of old) ≡ Some d
   received mid peer d h =

@@ -11,7 +11,8 @@ abbrev pub IsMoved : {W : Type 0} → LinkFacts W → W → (tried : List (List 
 IsMoved {W} facts old tried receives failed new = Moves facts.records facts.honest facts.agents
     facts.traffic facts.fault_count facts.ready old tried receives failed new
 
--- over a link that lists the datagrams sent, there are at most 64 receives for each of them
+-- over a link that lists the datagrams sent, there are at most 64 receives for each datagram that
+-- was sent between `old` and `new`
 abbrev pub AreFew : {W : Type 0} → LinkFacts W → W → (receives : ℕ) → W → Type 0
 AreFew {W} facts old receives new = facts.records old
     → receives + 64 * length (facts.traffic old).sent ≤ 64 * length (facts.traffic new).sent

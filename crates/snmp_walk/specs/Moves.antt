@@ -8,8 +8,9 @@ abbrev pub octets_in : List (List ℕ) → ℕ
 octets_in [] = 0
 octets_in (datagram ∷ more) = length datagram + octets_in more
 
--- Sends of the datagrams `tried` were made, in order. These were added to the datagrams sent, from
--- `before` to `after`: all of them or, if `failed` holds, perhaps all but the last.
+-- The datagrams `tried` were passed to sends, in order. The list of the datagrams sent was
+-- `before`. Now it is `after`, with the datagrams `tried` at its end: all of them or, if `failed`
+-- holds, perhaps all but the last.
 pub record AreSent (tried : List (List ℕ)) (failed : Type 0) (before after : List (List ℕ)) :
     Type 0 where
   pub prefix : List (List ℕ)
@@ -19,28 +20,31 @@ pub record AreSent (tried : List (List ℕ)) (failed : Type 0) (before after : L
   pub all : (failed → ⊥) → left ≡ []
   pub but_one : length left ≤ 1
 
--- `left` are the deliveries after at most `count` of those ahead are used
+-- `left` are the deliveries that remain of `ahead` once at most `count` of them are used
 abbrev pub AreUsed : (ahead : List (Option ℕ)) → ℕ → (left : List (Option ℕ)) → Type 0
 AreUsed ahead count left =
     (used : List (Option ℕ)) × (ahead ≡ used ++ left) × (length used ≤ count)
 
--- Sends of the datagrams `tried`, in order, and at most `receives` receives between them took the
--- link from `old` to `new`. `failed` says whether the last of these calls failed; no other did.
+-- Sends of the datagrams `tried`, in order, and at most `receives` receives took the link from
+-- `old` to `new`. `failed` says whether the last of these calls failed; no other did.
 -- The agents and facts of the link are arguments, since the clauses of the trait itself cite this.
 pub record Moves {W : Type 0} (Keeps Honest : W → Type 0) (agents_of : W → Agents)
     (traffic_of : W → Traffic) (faults_of : W → ℕ) (Ready : W → ℕ → ℕ → Type 0) (old : W)
     (tried : List (List ℕ)) (receives : ℕ) (failed : Type 0) (new : W) : Type 0 where
-  -- it lists what is sent if it did, is honest if it was, and has the same agents
+  -- it still lists what is sent, if it did before; it is still honest, if it was; it has the same
+  -- agents
   pub keeps : Keeps old → Keeps new
   pub honest : Honest old → Honest new
   pub agents : agents_of new ≡ agents_of old
-  -- it sent what was tried, unless a call failed, and nothing else
+  -- if it lists what is sent, it sent the datagrams `tried` and nothing else; if a call failed, it
+  -- perhaps didn't send the last of them
   pub sent : Keeps old → AreSent tried failed (traffic_of old).sent (traffic_of new).sent
   -- if it is honest, each receive used at most one delivery
   pub used : Honest old → AreUsed (traffic_of old).ahead receives (traffic_of new).ahead
   -- its fault count has increased if a call failed, and is the same if none did
   pub count : (failed → ⊥) → faults_of new ≡ faults_of old
   pub fault : failed → HasIncreased (faults_of old) (faults_of new)
-  -- if it was ready for these sends and more, no call failed, and it is ready for the others
+  -- if it was ready for these sends and for `sends` others, of `octets` octets in total, then no
+  -- call failed, and it is ready for the others
   pub ready : (sends octets : ℕ) → Ready old (sends + length tried) (octets + octets_in tried)
       → (failed → ⊥) × Ready new sends octets

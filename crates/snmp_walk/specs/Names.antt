@@ -1,6 +1,6 @@
 -- Tests of names in a walk: which are below its root, and which come after another (RFC 3416,
--- section 4.2.2). `Walk` uses these two to pick the rows of a table; the laws of walks say the
--- same in terms of names.
+-- section 4.2.2). `Walk` picks the rows of a table by `is_below` and `comes_after`. The relations
+-- `IsBelow` and `Precedes`, which the laws of walks use, say the same.
 use Rattle.std.specs.Prelude.{ℕ, Bool, true, false, ◌&&◌, not, nat_lt, List, length}
 use Rattle.std.specs.{List.starts_with, Bool.nat_eq, Ordering.nat_cmp, Ordering.is_lt}
 use Rattle.std.specs.Cmp.Lexicographic.{slice_cmp}
@@ -28,6 +28,6 @@ is_missing no_such_object = true
 is_missing no_such_instance = true
 is_missing _ = false
 
--- whether `binding` is an instance below `root`
+-- whether the name of `binding` is below `root`, and its value isn't endOfMibView
 abbrev pub is_inside : List ℕ → VarBind → Bool
 is_inside root binding = not (is_end binding.value) && is_below binding.name root

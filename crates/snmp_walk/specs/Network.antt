@@ -57,11 +57,12 @@ AreRepliesOf Sort agents events =
     → (d : List ℕ) × OneOf (tried before) d
     × (IsReplyFrom agents d r ⊎ IsResponseFrom agents d m)
 
--- each message that arrived is a reply of the agents
+-- each message that arrived is a reply of the agents, or another Response that they may send
 abbrev pub AreReplies : Agents → List (Event (Unit {0})) → Type 0
 AreReplies agents events = AreRepliesOf (λ m. Unit {0}) agents events
 
--- each message that arrived is a reply of the agents, or has an error status, such as genErr
+-- each message that arrived is a reply of the agents, or another Response that they may send, or
+-- has an error status, such as genErr
 abbrev pub AreRepliesOrErrors : Agents → List (Event (Unit {0})) → Type 0
 AreRepliesOrErrors agents events = AreRepliesOf (λ m. m.a ≡ pos 0) agents events
 
@@ -70,15 +71,16 @@ abbrev pub IsTriedTo : {Peer : Type 0} → Peer → List (Happening Peer) → Li
 IsTriedTo peer run d = OneOf run (at_agents (sent peer d))
     ⊎ OneOf run (at_agents (send_failed peer d))
 
--- The network neither invents nor alters datagrams between the walk, which is the peer `walker` to
+-- The network neither invents nor alters messages between the walk, which is the peer `walker` to
 -- the agents, and these. It may lose, repeat, delay and reorder them, as UDP may (RFC 768). Other
 -- peers may send the agents what they like, but no message of theirs arrives at the walk.
 pub record IsFaithful {Peer : Type 0} (walker : Peer) (run : List (Happening Peer)) : Type 0 where
-  -- a message that arrived at the walk was sent to it by the agents before
+  -- a message that arrived at the walk is one that the agents had sent to it, or tried to, before
   pub replies : (before after : List (Happening Peer)) (peer : Unit {0}) (d : List ℕ)
       → run ≡ before ++ at_walk (came peer d) ∷ after → (m : Message) → Spells m d
       → IsTriedTo walker before d
-  -- a datagram that arrived at the agents from the walk was sent by the walk before
+  -- a datagram that arrived at the agents from the walk is one that the walk had sent, or tried to
+  -- send, before
   pub requests : (before after : List (Happening Peer)) (d : List ℕ)
       → run ≡ before ++ at_agents (came walker d) ∷ after → OneOf (tried (of_walk before)) d
 
@@ -114,8 +116,8 @@ event_of_got (Ok (Some n)) buffer = came tt (take n buffer)
 event_of_got (Ok None) buffer = silence
 event_of_got (Err _) buffer = receive_failed
 
--- A receive of the walk returned what the agent has for this datagram, if there is one: its reply,
--- or nothing if it drops the datagram. The receive may fail.
+-- A receive of the walk returned the agent's reply to this datagram; or nothing, since the agent
+-- drops the datagram or there is none; or it failed.
 abbrev pub RepliesTo : Agent → (request : Option (List ℕ)) → Event (Unit {0}) → Type 0
 RepliesTo agent request (came peer r) = (d : List ℕ) × (request ≡ Some d) × IsReply agent d r
 RepliesTo agent request silence = (request ≡ None)

@@ -16,22 +16,23 @@ use Rattle.snmp_walk.specs.declared.mode.Phase.TheVariants as phase
 use Rattle.snmp_walk.specs.declared.end.WalkEnd.TheVariants as ending
 use Rattle.snmp_walk.specs.declared.rows.Step.TheVariants as step
 
--- there is no room for one of the bindings that agents may return for o
+-- agents may return for o (`Answer`) a binding that has no room (`Large`)
 abbrev pub IsLarge : (List ℕ → VarBind → Type 0) → (VarBind → Type 0) → List ℕ → Type 0
 IsLarge Answer Large o = (p : VarBind) × Answer o p × Large p
 
--- `prefix` has p only, if p has a value, and is otherwise empty
+-- `prefix` is p only, or empty if p has noSuchObject or noSuchInstance in place of a value
 abbrev pub IsRowIfPresent : VarBind → List VarBind → Type 0
 IsRowIfPresent p prefix =
     (IsMissing p × (prefix ≡ [])) ⊎ ((IsMissing p → ⊥) × (prefix ≡ p ∷ []))
 
--- `prefix` is what a walk returns before the instances below its root: the root's own, in a walk
--- that includes it
+-- `prefix` is what a walk returns before the instances below its root: the root's own instance, if
+-- the walk includes the root and there is one, and otherwise nothing
 abbrev pub IsOpening : (List ℕ → VarBind → Type 0) → Mode → List ℕ → List VarBind → Type 0
 IsOpening Got mode.Include o prefix = (p : VarBind) × Got o p × IsRowIfPresent p prefix
 IsOpening Got _ o prefix = prefix ≡ []
 
--- the walk that began as `first` has returned `given`, and asks from the name o
+-- the walk that began as `first` has returned `given`, an opening (`IsOpening`) and then a trail,
+-- and asks next from the name o
 pub record HasReturned (Next Got : List ℕ → VarBind → Type 0) (first : WalkState)
     (given : List VarBind) (o : List ℕ) : Type 0 where
   pub prefix : List VarBind
@@ -41,7 +42,8 @@ pub record HasReturned (Next Got : List ℕ → VarBind → Type 0) (first : Wal
   pub is_trail : IsTrail Next first.root first.asked trail
   pub last : o ≡ last_name first.asked trail
 
--- nothing is below the root, and the walk has returned only the result of a Get of it
+-- A plain walk has returned only the result of a Get of its root, since a GetNext of the root may
+-- return a binding that ends the walk.
 pub record IsAlone (Next Got : List ℕ → VarBind → Type 0) (first : WalkState)
     (given : List VarBind) : Type 0 where
   pub plain : first.mode ≡ mode.Plain
@@ -50,20 +52,20 @@ pub record IsAlone (Next Got : List ℕ → VarBind → Type 0) (first : WalkSta
   pub is_answer : Got first.asked answer
   pub only : given ≡ answer ∷ []
 
--- `given` is a first part of what the walk returns, perhaps empty
+-- `given` is a prefix of what the walk that began as `first` may return, perhaps empty
 abbrev pub IsPartOfWalk : (Next Got : List ℕ → VarBind → Type 0) → WalkState → List VarBind → Type 0
 IsPartOfWalk Next Got first given =
     (given ≡ [])
     ⊎ (((o : List ℕ) × HasReturned Next Got first given o) ⊎ IsAlone Next Got first given)
 
--- `given` is all that the walk returns
+-- `given` is all that the walk that began as `first` may return
 abbrev pub IsWholeWalk : (Next Got : List ℕ → VarBind → Type 0) → WalkState → List VarBind → Type 0
 IsWholeWalk Next Got first given =
     ((o : List ℕ) × HasReturned Next Got first given o × IsAtEnd Next first.root o
     × (first.mode ≡ mode.Plain → given ≢ [])) ⊎ IsAlone Next Got first given
 
--- what the walk has returned before a request of this phase, and the name o that the request asks
--- for or from
+-- before a request of this phase, the walk that began as `first` has returned `given`; the request
+-- asks for the name o, or from it
 abbrev pub IsStage : (Next Got : List ℕ → VarBind → Type 0) → WalkState → List VarBind → List ℕ
     → Phase → Type 0
 IsStage Next Got first given o phase.First = (given ≡ []) × (o ≡ first.asked)
@@ -91,8 +93,9 @@ pub record HasAsked (Next Got : List ℕ → VarBind → Type 0) (first : WalkSt
   pub is_trail : IsTrail Next first.root first.asked (flat_map (λ rows. rows) replies)
   pub ids : id ≡ first.id + opening_gets first.mode + length replies
 
--- How many requests there were before the waiting one, by its id. A plain walk that returned
--- nothing sent one before the Get that ends it.
+-- `id`, of the waiting request, is the walk's first id plus the number of requests before: none
+-- before the first Get, as many as `HasAsked` says before a request for the next instances, and
+-- one before the Get that ends a plain walk.
 abbrev pub IsPaced : (Next Got : List ℕ → VarBind → Type 0) → WalkState → List VarBind → ℕ → Phase
     → Type 0
 IsPaced Next Got first given id phase.First = id ≡ first.id
@@ -108,7 +111,8 @@ pub record Reaches (Next Got : List ℕ → VarBind → Type 0) (first w : WalkS
   pub paced : IsPaced Next Got first given w.id w.phase
   pub stage : IsStage Next Got first given w.asked w.phase
 
--- there is no room for one of the bindings that agents may return for the waiting request
+-- agents may return, for a request of this phase that asks for o or from o, a binding that has no
+-- room
 abbrev pub IsReplyTooLarge : (Next Got : List ℕ → VarBind → Type 0) → (VarBind → Type 0) → Phase
     → List ℕ → Type 0
 IsReplyTooLarge Next Got Large phase.First o = IsLarge Got Large o
@@ -131,11 +135,13 @@ Ends Next Got Large first w given (ending.NoProgress o) = (w.phase ≡ phase.Row
 Ends Next Got Large first w given ending.TooManyRequests = 2147483647 ≤ w.id
 Ends Next Got Large first w given _ = ⊥
 
--- What holds of any replies, honest or not: the name of a row comes after the one before it
--- (`Increases`), and the binding for the root has its name (`Named`).
+-- What takes the place of `Next o p` if replies needn't be honest: p isn't noSuchObject or
+-- noSuchInstance and, unless it is endOfMibView, its name comes after o.
 abbrev pub Increases : List ℕ → VarBind → Type 0
 Increases o p = (p.value ≢ end_of_mib_view → Precedes o p.name) × (IsMissing p → ⊥)
 
+-- what takes the place of `Got o p` if replies needn't be honest: p has the name o and isn't
+-- endOfMibView
 abbrev pub Named : List ℕ → VarBind → Type 0
 Named o p = (p.name ≡ o) × (p.value ≢ end_of_mib_view)
 
@@ -147,25 +153,29 @@ IsReplyEnd ending.Link = ⊥
 IsReplyEnd (ending.Sink fault) = ⊥
 IsReplyEnd _ = Unit {0}
 
--- if the walk is done, its number is that of the bindings returned
+-- if the walk is done, the number that it ends with is the number of the bindings `given`
 abbrev pub CountsAll : WalkEnd → List VarBind → Type 0
 CountsAll (ending.Done n) given = n ≡ length given
 CountsAll _ given = Unit {0}
 
--- each binding is one that a GetNext of the name before it returns
+-- each binding is one that a GetNext of the name before it, at first o, may return
 abbrev pub IsChain : (List ℕ → VarBind → Type 0) → List ℕ → List VarBind → Type 0
 IsChain Next o [] = Unit {0}
 IsChain Next o (p ∷ more) = Next o p × IsChain Next p.name more
 
 -- ---- for private functions
 
--- the content of an honest reply: the bindings asked for, or tooBig if they have no room
+-- m has the content of an honest reply to a Get of o: the binding asked for, or tooBig if this may
+-- have no room
 abbrev pub IsGetContent : (List ℕ → VarBind → Type 0) → (VarBind → Type 0) → List ℕ → Message
     → Type 0
 IsGetContent Got Large o m =
     ((m.a ≡ pos 0) × ((p : VarBind) × Got o p × (m.bindings ≡ p ∷ [])))
     ⊎ ((m.a ≡ pos 1) × (m.b ≡ pos 0) × IsLarge Got Large o)
 
+-- m has the content of an honest reply to the GetNext or GetBulk of w. It has bindings, each of
+-- which a GetNext of the name before it may return: at most as many as asked for, and none only if
+-- the first may have no room. Or it is tooBig, and the first may have no room.
 abbrev pub IsNextContent : (List ℕ → VarBind → Type 0) → (VarBind → Type 0) → WalkState → Message
     → Type 0
 IsNextContent Next Large w m =
@@ -173,6 +183,7 @@ IsNextContent Next Large w m =
     × (m.bindings ≡ [] → IsLarge Next Large w.asked))
     ⊎ ((m.a ≡ pos 1) × (m.b ≡ pos 0) × IsLarge Next Large w.asked)
 
+-- m has the content of an honest reply to the request of w, which is of this phase
 abbrev pub IsReplyContent : (Next Got : List ℕ → VarBind → Type 0) → (ℕ → VarBind → Type 0)
     → Phase → WalkState → Message → Type 0
 IsReplyContent Next Got Large phase.First w m = IsGetContent Got (Large w.id) w.asked m
@@ -186,7 +197,8 @@ pub record IsReplyTo (Next Got : List ℕ → VarBind → Type 0) (Large : ℕ �
   pub response : IsResponseTo w.community w.id m
   pub content : IsReplyContent Next Got Large w.phase w m
 
--- a step of the walk from state `old` makes progress, or ends the walk as it can end
+-- The step takes the walk from state `old` to w. It isn't a stray: w waits for the next reply, or
+-- the walk ended as an honest reply can end it.
 abbrev pub Advances : (Next Got : List ℕ → VarBind → Type 0) → (ℕ → VarBind → Type 0) → WalkState
     → WalkState → List VarBind → Step → WalkState → Type 0
 Advances Next Got Large first old given step.Stray w = ⊥

@@ -22,8 +22,9 @@ abbrev pub heard_after : Step → Heard
 heard_after (step.Last rows why) = heard.ends why
 heard_after _ = heard.goes_on
 
--- The rows of a step were given to the sink, which went from `before` to `after`, until it refused
--- one. `what` says whether the walk or the Get continues then, or how it ends.
+-- The rows of a step were given to the sink, which went from `before` to `after`: all of them, or
+-- those up to the first that it refused. `what` says whether the walk or the Get continues then,
+-- or how it ends.
 pub data Delivers {S : Type 0} (takes : S → VarBind → Result (Unit {0}) SinkFault → S → Type 0)
     (given : Step) (before : S) (what : Heard) (after : S) : Type 0 where
   all_taken : what ≡ heard_after given → TakesAll takes before (rows_in given) after
@@ -33,7 +34,8 @@ pub data Delivers {S : Type 0} (takes : S → VarBind → Result (Unit {0}) Sink
       → TakesAll takes before rows between → takes between p (Err fault) after
       → Delivers takes given before what after
 
--- `datagram` encodes the reply with this community and request-id, which was read as one step
+-- `datagram` encodes the reply with this community and request-id. The reply was read as one step,
+-- whose rows were given to the sink.
 pub record IsReadAs {W S : Type 0} (datagram : List ℕ) (community : List ℕ) (id : ℕ)
     (reads : Message → Step → W → Type 0)
     (takes : S → VarBind → Result (Unit {0}) SinkFault → S → Type 0) (before : S) (new : W)
@@ -45,7 +47,7 @@ pub record IsReadAs {W S : Type 0} (datagram : List ℕ) (community : List ℕ) 
   pub read : reads message given new
   pub delivered : Delivers takes given before what after
 
--- What a call returns that waits for a reply, by what came of the request. If the reply arrived,
+-- What a call that waits for a reply returns, by what came of the request. If the reply arrived,
 -- `IsReadSo` holds of it and of the result. If none did, or the link failed, `Same` holds.
 abbrev pub Tells : {X E : Type 0} → (IsReadSo : List ℕ → X → Type 0) → (Same : Type 0)
     → Result (Option X) E → Outcome → Type 0

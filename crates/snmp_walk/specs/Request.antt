@@ -1,4 +1,5 @@
--- The state in which a walk begins, and the request that it sends (RFC 3416, section 4.2).
+-- The first state of a walk, and the request that a walk sends in each state (RFC 3416, section
+-- 4.2).
 use Rattle.std.specs.Prelude.{◌≡◌, ◌<◌, ℕ, ℤ, pos, unsigned_abs, List, [], ◌∷◌}
 use Rattle.snmp_oid.specs.Identifier.{wire}
 use Rattle.snmp_wire.specs.{Canon.canon, declared.kind.Kind.Kind, Message.Message, Name.asking}

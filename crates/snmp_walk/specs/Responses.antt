@@ -8,9 +8,10 @@ use Rattle.snmp_agent.specs.Reply.{IsRequest, IsWhole, Fits, response, no_error,
 use Rattle.snmp_walk.specs.{Link.Agents, Link.OneOf, Progress.IsChain}
 
 -- An agent of this table, whose messages have at most `max_size` octets, may send the Response r
--- to q: what was asked for; tooBig, if that is longer; or, to a GetBulk of one name, at most
--- max-repetitions successors, each of the name before it, and none only if the first has no room.
--- So it may send fewer than have room, and endOfMibView more than once.
+-- to q: the whole Response (`IsWhole`); tooBig, if the whole one is longer; or, to a GetBulk of
+-- one name without non-repeaters, at most max-repetitions successors, each of the name before it,
+-- and none only if the first has no room. So it may send fewer than have room, and endOfMibView
+-- more than once.
 pub data MayRespond (view : MibView) (max_size : ℕ) (q r : Message) : Type 0 where
   whole : IsWhole view q r → MayRespond view max_size q r
   shortened : (large : Message) → IsWhole view q large → (Fits max_size large → ⊥)
@@ -22,7 +23,8 @@ pub data MayRespond (view : MibView) (max_size : ℕ) (q r : Message) : Type 0 w
       × (Fits max_size (response q no_error (pos 0) (first ∷ [])) → ⊥))
       → r ≡ response q no_error (pos 0) bindings → MayRespond view max_size q r
 
--- one of the agents may send the Response r to the request in the datagram, in any encoding
+-- one of the agents may send the Response r, in any encoding, to the request that the datagram
+-- encodes
 pub record IsResponseFrom (agents : Agents) (datagram : List ℕ) (r : Message) : Type 0 where
   pub view : MibView
   pub one : OneOf agents.tables view

@@ -59,7 +59,8 @@ abbrev pub IsFull : Method → List VarBind → Type 0
 IsFull method bindings = (length bindings ≡ asked_for method)
     ⊎ (list_any (λ p. is_end p.value) bindings ≡ true)
 
--- if the agents have room for all bindings that w asks for, a reply m without an error has them
+-- if w waits for the next instances, and the agents have room for all bindings that it asks for,
+-- then a reply m without an error has as many bindings as asked for, or an endOfMibView
 abbrev pub IsFullReply : Agents → WalkState → Message → Type 0
 IsFullReply agents w m = HasRoomForAll agents w → w.phase ≡ phase.Rows → m.a ≡ pos 0
     → IsFull w.method m.bindings

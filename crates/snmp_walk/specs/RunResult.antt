@@ -43,9 +43,10 @@ but_for_errors (ending.Fault status index) = ending.Link
 but_for_errors end = end
 
 -- The events at a link, from state `link` to state `after`. If each message received is a reply of
--- one of some agents to a datagram sent before it, or another Response that this agent may send,
--- then `Given` holds of the agents and of the end. If errors may have arrived too, such as genErr,
--- it holds of the agents and of the end, an error status being taken for a failure of the link.
+-- one of some lawful agents to a datagram that was sent, or tried to be sent, before it, or another
+-- Response that this agent may send, then `Given` holds of the agents and of the end. If errors
+-- may have arrived too, such as genErr, it holds of the agents and of the end, an error status
+-- being taken for a failure of the link.
 pub record HasHappened {W : Type 0} (facts : LinkFacts W) (link after : W) (end : WalkEnd)
     (Given : Agents → WalkEnd → Type 0) : Type 0 where
   pub events : List (Event (Unit {0}))
@@ -58,29 +59,30 @@ pub record HasHappened {W : Type 0} (facts : LinkFacts W) (link after : W) (end 
 -- What is known of a walk over a link, whose state was `link` before the walk and is `after` then.
 pub record IsWalkedOver {W : Type 0} (facts : LinkFacts W) (link after : W) (tries : ℕ)
     (first : WalkState) (given refused : List VarBind) (end : WalkEnd) : Type 0 where
-  -- the names passed on are the root's own and those of instances below it
+  -- each binding passed on or refused has the name that the walk begins from, or is an instance
+  -- below the root
   pub part : IsPartOfWalk Increases Named first (given ++ refused)
-  -- the names increase, a walk that is done has counted them, and each end has its reason in what
-  -- came of the requests, each sent in the state in which the one before it left the link
+  -- The names increase, a walk that is done has counted the rows, and each end has its reason in
+  -- what came of the requests. Each request found the link as the request before it had left it.
   pub ends : EndFacts (IsTried facts tries)
       (λ w. facts.records link → IsLastSent tries end (facts.traffic after) w) first link given
       refused end after
   -- over a link that lists what is sent: which requests were sent, and how many times
   pub sent : facts.records link → SendFacts (facts.agents link) (IsHonestFrom facts first.id link)
       tries (facts.traffic link) first given end (facts.traffic after)
-  -- over an honest link, over which earlier runs had lower ids: what its agents returned
+  -- over an honest link, if earlier runs over it had lower ids: what its agents returned
   pub judged : IsHonestFrom facts first.id link
       → WalkFacts (facts.agents link) tries (facts.traffic link) first given refused end
       (facts.traffic after)
-  -- over such a link: it doesn't fail if it is ready for all that is sent for k names below the
-  -- root
+  -- an honest link doesn't fail if earlier runs over it had lower ids, and it is ready for all
+  -- that is sent for k names below the root
   pub ready : IsHonestFrom facts first.id link → (k : ℕ) → CountsNames (facts.agents link) first k
       → IsReadyForAll (facts.ready link) tries k → end ≢ ending.Link
   -- its requests changed the link, which failed if the walk ended with `Link`
   pub moved : IsMovedByRequests facts tries first given link (end ≡ ending.Link) after
   -- There is at most one request for each row passed on, one more, and a Get.
   pub few_of_rows : length moved.requests ≤ length given + 1 + gets first.mode
-  -- A later run over the link may begin with the id after those of the requests.
+  -- A later run over the link may begin with the id after the last one of these requests.
   pub later : facts.records link → AreOfLowerIds (facts.traffic link).sent first.id
       → AreOfLowerIds (facts.traffic after).sent (first.id + length moved.requests)
   -- what happened over any link, and what was passed on if only replies of agents arrived
@@ -113,7 +115,7 @@ pub record IsGotOver {W : Type 0} (facts : LinkFacts W) (link after : W) (tries 
       ++ replicate times (canon (get_request community id names)))
       × (end ≡ ending.NoResponse → times ≡ tries)
       × (names ≢ [] → end ≢ ending.RequestTooLong → end ≢ ending.Link → 0 < times)
-  -- over an honest link, over which earlier runs had lower ids: what its agents returned
+  -- over an honest link, if earlier runs over it had lower ids: what its agents returned
   pub judged : IsHonestFrom facts id link → GetFacts (facts.agents link) tries
       (facts.traffic link) (get_request community id names) names given refused end
       (facts.traffic after)

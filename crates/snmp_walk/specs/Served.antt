@@ -21,8 +21,8 @@ abbrev pub SameAgent : {N : Type 0} → (old new : NetworkLink N) → Type 0
 SameAgent {N} old new =
     agent_of new.table.now new.config ≡ agent_of old.table.now old.config
 
--- The agent had its turns, as many as the network says, and then e happened at the walk's end.
--- `carries` says what can happen between two states of the network.
+-- The agent had as many turns as the network says, each a receive and perhaps a reply. Then e
+-- happened at the walk's end. `carries` says what can happen between two states of the network.
 abbrev pub IsServedBy : {N Peer : Type 0} → (carries : N → Happening Peer → N → Type 0)
     → (turn_count : N → ℕ) → (old : NetworkLink N) → Event (Unit {0}) → (new : NetworkLink N)
     → Type 0
@@ -40,10 +40,11 @@ pub record IsWalkServed {W : Type 0} (facts : LinkFacts W) (agents : Agents) (pr
   -- what `run_walk` promises of a walk over any link: how each request was tried, and why the walk
   -- ended
   pub walked : IsWalkedOver facts link after tries first given refused end
-  -- Whatever the network loses, repeats and delays, each row passed on is the agent's next
-  -- instance. The rows are a prefix of the walk, and all of it if the walk is done.
+  -- Whatever the network loses, repeats and delays, the rows passed on are a prefix of the walk
+  -- over the agent's table, and all of it if the walk is done.
   pub served : ReplyFacts agents (λ w. Unit {0}) first given refused end
   -- Over a network that loses and delays nothing, the walk is done unless the network or the sink
-  -- fails, if each binding of the table has room and there are enough ids for its names.
+  -- fails, if the walk has the agent's community, each binding of the table has room, and there
+  -- are enough ids for the table's names.
   pub done_if_prompt : prompt → (k : ℕ) → CountsNames agents first k
       → HasRoomInEach agents first → HasIdsFor first k → IsDoneOrStopped end

@@ -1,5 +1,5 @@
--- What a sink was given: bindings whose calls returned `Ok`, each in the state that the call
--- before left.
+-- What a sink was given: bindings that it took, each in the state that the one before left, and
+-- perhaps one that it refused.
 use Rattle.std.specs.Prelude.{◌≡◌, List, [], ◌∷◌, Result, Ok, Err}
 use Rattle.snmp_wire.specs.Message.{VarBind}
 use Rattle.snmp_walk.specs.{declared.end.SinkFault.SinkFault, declared.end.WalkEnd.WalkEnd}
@@ -18,8 +18,8 @@ abbrev pub Refused : {S : Type 0} → (S → VarBind → Result (Unit {0}) SinkF
 Refused {S} takes old refused fault new = (p : VarBind) × (refused ≡ p ∷ [])
     × takes old p (Err fault) new
 
--- the sink took `rows`; if the run ended because of it, it then refused the one binding in
--- `refused`, which is otherwise empty
+-- The sink took `rows`. If the run ended with `Sink`, the sink then refused the one binding in
+-- `refused`. Otherwise `refused` is empty.
 abbrev pub Took : {S : Type 0} → (S → VarBind → Result (Unit {0}) SinkFault → S → Type 0) → S
     → (rows refused : List VarBind) → WalkEnd → S → Type 0
 Took {S} takes old rows refused (ending.Sink fault) new = (between : S)

@@ -33,7 +33,7 @@ abbrev pub EndsBy : WalkState → List VarBind → WalkEnd → Step → WalkStat
 EndsBy w rows why given new = (given ≡ step.Last rows why) × (new ≡ record w { phase = phase.Over })
 
 -- The walk passes on these rows and sends its next request, of phase `next`. That has the next id,
--- and asks from the name of the last row, or from the same name as before if there is none.
+-- and the name of the last row or, if there are no rows, the same name as before.
 abbrev pub AsksOn : WalkState → Phase → List VarBind → Step → WalkState → Type 0
 AsksOn w next rows given new =
     (given ≡ step.Rows rows)
@@ -51,15 +51,15 @@ GoesOn w next rows given new =
     ((w.id < 2147483647) × AsksOn w next rows given new)
     ⊎ ((2147483647 ≤ w.id) × EndsBy w rows ending.TooManyRequests given new)
 
--- w is a plain walk that has passed on nothing, and there are no rows now
+-- w is a plain walk that has passed on nothing, and `rows` is empty
 pub record GivesNothing (w : WalkState) (rows : List VarBind) : Type 0 where
   pub plain : w.mode ≡ mode.Plain
   pub before : w.count ≡ 0
   pub now : rows ≡ []
 
--- No more instances are below the root. A plain walk that has passed on nothing asks for the name
--- that it asked from, the root itself. Any other walk is done, with the number of bindings passed
--- on.
+-- No more instances are below the root. A plain walk that has passed on nothing, and has no rows
+-- now, continues with a Get of the name that it asked from, the root, or ends if no id is left. Any
+-- other walk passes on the rows and is done, with the number of all bindings passed on.
 abbrev pub Closes : WalkState → List VarBind → Step → WalkState → Type 0
 Closes w rows given new =
     (GivesNothing w rows × GoesOn w phase.Last [] given new)
@@ -70,14 +70,16 @@ abbrev pub AreRowsFrom : (root o : List ℕ) → List VarBind → Type 0
 AreRowsFrom root o [] = Unit {0}
 AreRowsFrom root o (b ∷ more) = IsInside root b × Precedes o b.name × AreRowsFrom root b.name more
 
--- there are more bindings than were asked for, or one of them has no value
+-- there are more bindings than w asked for, or one of them has noSuchObject or noSuchInstance
 abbrev pub AreMisplaced : WalkState → List VarBind → Type 0
 AreMisplaced w bindings = (asked_for w.method < length bindings)
     ⊎ ((b : VarBind) × OneOf bindings b × IsMissing b)
 
--- What comes of these rows, by the bindings that follow them. If none do, the walk continues. If
--- the first isn't an instance below the root, no more are. If it is one, and its name isn't
--- greater than the one before it, the walk ends with both names.
+-- What the walk does with `rows`, by the bindings `rest` that follow them in the reply. If none
+-- follow, the walk continues, if an id is left (`GoesOn`). If the first that follows isn't an
+-- instance below the root, there are no more instances (`Closes`). If it is an instance below the
+-- root, but its name isn't greater than the name before it, the walk passes on `rows` and ends
+-- with these two names.
 abbrev pub FollowsBy : WalkState → (rows rest : List VarBind) → Step → WalkState → Type 0
 FollowsBy w rows [] given new = GoesOn w phase.Rows rows given new
 FollowsBy w rows (b ∷ _) given new =
@@ -85,7 +87,8 @@ FollowsBy w rows (b ∷ _) given new =
     ⊎ (IsInside w.root b × (Precedes (last_name w.asked rows) b.name → ⊥)
     × EndsBy w rows (ending.NotIncreasing (last_name w.asked rows) b.name) given new)
 
--- the bindings are rows and then others, which decide what comes of the rows
+-- the bindings are `rows`, instances with increasing names, and then `rest`, which decides what
+-- the walk does with the rows (`FollowsBy`)
 pub record ReadsRows (w : WalkState) (bindings : List VarBind) (given : Step)
     (new : WalkState) : Type 0 where
   pub rows : List VarBind
@@ -94,8 +97,9 @@ pub record ReadsRows (w : WalkState) (bindings : List VarBind) (given : Step)
   pub are_rows : AreRowsFrom w.root w.asked rows
   pub follows : FollowsBy w rows rest given new
 
--- What the bindings of a reply to GetNext or GetBulk mean. If one of them is out of place, none is
--- passed on.
+-- What the bindings of a reply to GetNext or GetBulk mean. If there are none, the walk ends with
+-- `NoProgress`. If there are too many, or one has noSuchObject or noSuchInstance, it ends with
+-- `BadReply`. Otherwise it reads them as rows.
 abbrev pub MeansNext : WalkState → List VarBind → Step → WalkState → Type 0
 MeansNext w [] given new = EndsBy w [] (ending.NoProgress w.asked) given new
 MeansNext w (b ∷ more) given new =

@@ -11,8 +11,8 @@ use Rattle.snmp_walk.specs.Link.{Agents, OneOf, IsGotFrom}
 abbrev pub IsBelowRoot : WalkState → List ℕ → Type 0
 IsBelowRoot first name = IsBelow name first.root × Precedes first.asked name
 
--- the walk returns variables with this name: it is below the root or, in a walk that includes the
--- root, the root's own
+-- the walk returns variables with this name: it is below the root (`IsBelowRoot`) or, in a walk
+-- that includes the root, the root's own
 abbrev pub IsOfWalk : WalkState → List ℕ → Type 0
 IsOfWalk first name = IsBelowRoot first name ⊎ ((first.mode ≡ mode.Include) × (name ≡ first.asked))
 
@@ -47,20 +47,23 @@ pub record OccursOnce (given : List VarBind) (name : List ℕ) : Type 0 where
   pub not_before : IsNameIn before name → ⊥
   pub not_after_it : IsNameIn suffix name → ⊥
 
--- `names` has every name below the root that one of the tables has, and maybe others
+-- `names` has every name of a variable of the tables that is below the root and comes after the
+-- name that the walk begins from, and maybe others
 abbrev pub HoldsNames : Agents → WalkState → List (List ℕ) → Type 0
 HoldsNames agents first names = (view : MibView) → OneOf agents.tables view
     → (p : VarBind) → IsRow view p → IsBelowRoot first p.name → OneOf names p.name
 
--- k counts the names below the root: those of the rows that the one table has there, or those in a
--- list that has the names of several tables.
+-- k counts the names below the root that come after the name that the walk begins from. With one
+-- table, it is the number of its rows there; or, with any tables, it is the length of a list that
+-- has all their names there, and maybe others.
 pub data CountsNames (agents : Agents) (first : WalkState) (k : ℕ) : Type 0 where
   of_table : (view : MibView) → agents.tables ≡ view ∷ []
       → k ≡ length (rest_of first.root first.asked (variables view)) → CountsNames agents first k
   of_tables : (names : List (List ℕ)) → HoldsNames agents first names → k ≡ length names
       → CountsNames agents first k
 
--- there is room for each single binding of each table
+-- the walk's requests have the agents' community, and there is room for each single binding of each
+-- table (`HasRoomForEach`)
 abbrev pub HasRoomInEach : Agents → WalkState → Type 0
 HasRoomInEach agents first = (view : MibView) → OneOf agents.tables view
     → HasRoomForEach agents view first

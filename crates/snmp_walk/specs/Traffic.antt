@@ -9,10 +9,11 @@ pub record Traffic : Type 0 where
   -- the datagrams sent, in order
   pub sent : List (List ℕ)
   -- What the next receives deliver, in order: nothing, or the reply to the k-th datagram sent,
-  -- counted from 1. After these, each receive delivers the reply to the latest datagram.
+  -- counted from 1. After these, each receive delivers the reply to the latest datagram. Nothing is
+  -- delivered where that datagram doesn't exist or has no reply.
   pub ahead : List (Option ℕ)
 
--- the k-th datagram sent, counted from 1; none for 0
+-- the k-th datagram sent, counted from 1; none if k is 0 or greater than their number
 abbrev pub datagram_at : List (List ℕ) → ℕ → Option (List ℕ)
 datagram_at sent zero = None
 datagram_at sent (suc k) = slice_get sent k
@@ -28,8 +29,8 @@ abbrev pub received : Option ℕ → List ℕ → Option (List ℕ)
 received None buffer = None
 received (Some n) buffer = Some (take n buffer)
 
--- what the agents return for a datagram, if there is one: a reply to it, or nothing if one of them
--- has none
+-- `reply` is what the agents may return for the datagram: a reply of one of them, or nothing if
+-- one of them has none. Without a datagram, it is nothing.
 abbrev pub Gives : Agents → Option (List ℕ) → Option (List ℕ) → Type 0
 Gives agents None reply = reply ≡ None
 Gives agents (Some datagram) None = IsUnanswered agents datagram
@@ -55,14 +56,14 @@ IsOther agents sent q (Some k) =
     (d : List ℕ) × (reply : List ℕ) × (datagram_at sent k ≡ Some d) × (d ≢ q)
     × IsReplyFrom agents d reply
 
--- the datagrams sent after q was sent again, or not if no tries are left
+-- the datagrams sent, and then q once more if at least one try is left
 abbrev pub resent : List (List ℕ) → List ℕ → ℕ → List (List ℕ)
 resent sent q zero = sent
 resent sent q (suc t) = sent ++ q ∷ []
 
 -- The deliveries are used up by exactly `tries` tries of the request q, and deliver no reply to
--- it. The first of these tries has received `count` other replies. Each try ends with a receive
--- that returns nothing, or with its 64th receive.
+-- it. The first of these tries has already received `count` other replies. Each try ends with a
+-- receive that returns nothing, or with its 64th receive.
 abbrev pub Lost : Agents → List (List ℕ) → List ℕ → List (Option ℕ) → (tries count : ℕ) → Type 0
 Lost agents sent q [] tries count = tries ≡ 0
 Lost agents sent q (e ∷ more) zero count = ⊥

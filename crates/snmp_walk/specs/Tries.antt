@@ -1,4 +1,4 @@
--- The tries of a request over any link, each from the state in which the one before it ended.
+-- The tries of a request over any link. Each begins in the state that the one before it left.
 use Rattle.std.specs.Prelude.{◌≡◌, ◌<◌, ℕ, ◌⊎◌, List, [], ◌∷◌, length, Option, Some, None}
 use Rattle.snmp_agent.specs.Event.{Event, came, silence, receive_failed, sent, send_failed}
 use Rattle.snmp_wire.specs.{Message.Message, Spelling.Spells, Canon.canon}
@@ -31,7 +31,8 @@ abbrev pub SendFails : {L : Type 0} → LinkFacts L → L → List ℕ → L →
 SendFails {L} facts old datagram new = facts.send_fails old datagram new
     × (facts.traffic new ≡ facts.traffic old) × IsMoved facts old (datagram ∷ []) 0 (Unit {0}) new
 
--- a receive returned this, and over an honest link what its next delivery delivers
+-- A receive returned `given`: a datagram or nothing. If the link is honest, this is what its next
+-- delivery delivers.
 abbrev pub Gets : {L : Type 0} → LinkFacts L → L → Option (List ℕ) → L → Type 0
 Gets {L} facts old given new = IsMoved facts old [] 1 ⊥ new
     × (facts.honest old → Receives (facts.agents old) (facts.traffic old).sent
@@ -76,15 +77,16 @@ pub record IsTry {L : Type 0} (facts : LinkFacts L) (Other : List ℕ → Type 0
   pub sent : Sends facts old request between
   pub received : AreReceives facts Other between outcome new strays
 
--- each of `tries` tries of the request missed the reply; each of the lists is what one of them
--- received
+-- each of `tries` tries of the request missed the reply; `received` has, for each try, the list of
+-- the datagrams received in it
 pub record AreMissed {L : Type 0} (facts : LinkFacts L) (Other : List ℕ → Type 0)
     (request : List ℕ) (tries : ℕ) (old new : L) : Type 0 where
   pub received : List (List (List ℕ))
   pub all : length received ≡ tries
   pub are_missed : InTurn (IsTry facts Other request missed) old received new
 
--- the last try of the request, whose send may fail
+-- the last try of the request ended with this outcome; or its send failed, and the outcome is
+-- `cut_off`
 abbrev pub IsLastTry : {L : Type 0} → LinkFacts L → (List ℕ → Type 0) → List ℕ → L → Outcome → L
     → Type 0
 IsLastTry {L} facts Other request old outcome new =

@@ -25,7 +25,8 @@ or_only got (row ∷ rows) = row ∷ rows
 
 -- What a walk returns; `got` is the result of a Get of the root. A plain walk: the rows below the
 -- root, or only `got` if there are none. A walk that includes the root: the root's own row, if
--- there is one, and then the rows below it. Without the last Get: only the rows below the root.
+-- there is one, and then the rows below it. A walk without a Get of its root (`NoLast`): only the
+-- rows below the root.
 abbrev pub walk_of : Mode → List ℕ → VarBind → List VarBind → List VarBind
 walk_of Plain root got rows = or_only got (rows_below root rows)
 walk_of Include root got rows = rows_named (wire root) rows ++ rows_below root rows
@@ -35,8 +36,8 @@ walk_of NoLast root got rows = rows_below root rows
 abbrev pub rest_of : List ℕ → List ℕ → List VarBind → List VarBind
 rest_of root o rows = rows_after o (rows_below root rows)
 
--- What a walk returns that begins from the name o, which is the root as it is sent or, for a walk
--- that is resumed, the name to resume after.
+-- What a walk returns if it begins from the name o: the root as it is sent or, if the walk is
+-- resumed, the name to resume after. `got` is the result of a Get of o.
 abbrev pub walk_from : Mode → List ℕ → List ℕ → VarBind → List VarBind → List VarBind
 walk_from Plain root o got rows = or_only got (rest_of root o rows)
 walk_from Include root o got rows = rows_named o rows ++ rest_of root o rows

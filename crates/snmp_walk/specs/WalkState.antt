@@ -12,7 +12,7 @@ pub record WalkState : Type 0 where
   pub mode : Mode
   pub method : Method
   pub community : List ℕ
-  -- which of its requests is waiting
+  -- the kind of request whose reply the walk waits for, or that the walk is over
   pub phase : Phase
   -- the name that the waiting request asks for, or asks from
   pub asked : List ℕ
@@ -21,17 +21,18 @@ pub record WalkState : Type 0 where
   -- the number of bindings passed on
   pub count : ℕ
 
--- a GetBulk has at least one repetition
+-- if the method is GetBulk, its max-repetitions is at least 1
 abbrev pub IsMethod : Method → Type 0
 IsMethod Next = Unit {0}
 IsMethod (Bulk repetitions) = pos 1 ≤ℤ repetitions
 
--- the max-repetitions of a GetBulk is a signed number of 32 bits, and so at most 2147483647
+-- if the method is GetBulk, its max-repetitions is a signed number of 32 bits, and so at most
+-- 2147483647
 abbrev pub HasRange : Method → Type 0
 HasRange Next = Unit {0}
 HasRange (Bulk repetitions) = FitsSigned w32 repetitions
 
--- what holds of each state of a walk
+-- what holds of each state w of a walk
 pub record IsWalkState (w : WalkState) : Type 0 where
   pub method : IsMethod w.method
   pub community : length w.community ≤ 255

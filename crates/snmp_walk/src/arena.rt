@@ -39,7 +39,7 @@ impl Arena {
     ghost use Rattle.std.specs.Prelude.{◌≡◌, ◌≤◌, ◌+◌, ◌++◌, ℕ, [], ◌∷◌, length, Option, Some};
     ghost use Rattle.std.specs.Prelude.{None, OnOk, OnErr, IsOk, IfSome, IfNone, IfOk};
 
-    /// Returns an arena without datagrams, which allocates nothing.
+    /// Returns an arena without datagrams. Allocates nothing.
     pub(crate) fn new(alloc: Global) -> Arena
         ensures { result.datagrams ≡ [] }
     {

@@ -6,8 +6,7 @@ use thiserror::Error;
 /// How a walk or a Get ended.
 #[derive(Debug, Drop, PartialEq)]
 pub enum WalkEnd {
-    /// The walk or the Get is complete. Holds the number of its bindings, all of which were passed
-    /// on.
+    /// The walk or the Get is complete. Holds the number of its bindings. All were passed on.
     Done(u64),
     /// The agent's reply has an error status other than 0. Holds its error-status and its
     /// error-index (RFC 3416, section 3).
@@ -17,13 +16,13 @@ pub enum WalkEnd {
         /// The name in the request. Instances after it were asked for.
         asked: Oid,
     },
-    /// The reply doesn't match the request: it has more bindings than were asked for, another name
-    /// than that of the Get, or an exception that such a reply can't have.
+    /// The reply doesn't match the request: it has more bindings than were asked for, or fewer than
+    /// a Get asked for, another name than the Get, or an exception that such a reply can't have.
     BadReply,
     /// A name below the root isn't greater than the one before it.
     NotIncreasing {
-        /// The name before: that of the last binding passed on, or the name that the walk began
-        /// from.
+        /// The name before it: the name of the last binding passed on, or the name that the walk
+        /// began from.
         last: Oid,
         /// The name that isn't greater.
         got: Oid,

@@ -32,7 +32,8 @@ use std::marker::Model;
 /// (`IsRun`). What is known of these bindings and of the end are the fields of `IsGotOver`
 /// (`specs/RunResult.antt`). Over any link:
 ///
-/// - `named`: the names passed are those asked for, in order, and all of them if the Get is done.
+/// - `named`: the names passed are the first ones of those asked for, in order, and all of them if
+///   the Get is done.
 /// - `reason`: the end has its reason in what the link delivered.
 /// - `unasked`: without names, and if the request is too long, the link is unchanged.
 /// - `moved`: the request is sent at most `retries + 1` times. The link failed if and only if the

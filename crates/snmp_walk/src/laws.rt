@@ -27,8 +27,8 @@ use snmp_wire::{
     strict_is_read,
 };
 
-/// The rows that a walk returns below its root are those of the table, in the order of their
-/// names. Those that are left after a name are the ones that come after it.
+/// The rows that a walk returns below its root are the table's rows there, in the order of their
+/// names. The rest of the walk after a name is what of them comes after the name.
 ///
 /// A law: the call does nothing, and its caller may use what it ensures.
 pub fn instances_below()
@@ -41,7 +41,7 @@ pub fn instances_below()
         ↔ (IsRow view p × IsBelow p.name root × Precedes o p.name) }
     ensures left_ordered { (view : MibView) (root o : List ℕ) → IsMibView view
         → AreOrdered (rest_of root o (variables view)) }
-    // After the root as it is sent, all of them are left.
+    // After the root as it is sent, the rest of the walk is all rows below the root.
     ensures from_root { (view : MibView) (root : List ℕ) → IsMibView view
         → rest_of root (wire root) (variables view) ≡ rows_below root (variables view) }
 {
@@ -104,8 +104,8 @@ pub fn parts_of_lists()
         → OneOf ys q → Precedes p.name q.name }
 {}
 
-/// A sink that appends each binding to a list holds those of a walk that it didn't refuse, after
-/// the ones that it held before.
+/// If a list is the sink of a run, it has after the run the bindings that it had before, and then
+/// those that it took.
 ///
 /// A law: the call does nothing, and its caller may use what it ensures.
 pub fn appended_bindings()
@@ -113,7 +113,7 @@ pub fn appended_bindings()
         → Took Appends old rows refused end new → new ≡ old ++ rows }
 {}
 
-/// Requests with ids below `id` have ids below each `higher` one.
+/// Requests with ids below `id` also have ids below `higher`, if that is at least `id`.
 ///
 /// A law: the call does nothing, and its caller may use what it ensures.
 pub fn lower_ids()
@@ -147,9 +147,9 @@ pub fn honest_networks<E: Endpoint>()
         → IsFaithful walker run → AreServed agents run → AreReplies agents (of_walk run) }
 {}
 
-/// Over a [`LooseLink`] over which nothing was sent yet, each message received is the agent's
+/// If nothing was sent over a [`LooseLink`] yet, each message received from then on is the agent's
 /// reply to a datagram that was sent before it, or another Response that RFC 3416 lets the agent
-/// send to that, or has an error status.
+/// send to that datagram, or has an error status.
 ///
 /// A law: the call does nothing, and its caller may use what it ensures.
 pub fn loose_replies()
@@ -157,7 +157,7 @@ pub fn loose_replies()
         → IsMibView (agent_at link).view → last_sent link ≡ []
         → InTurn (Happens ⟦<LooseLink<'static> as Link>⟧) link events after
         → AreRepliesOrErrors (agents_at link) events }
-    // If no way is `GenErr`, the only errors received are those of such replies.
+    // If no way left is `GenErr`, a message with an error status is such a reply or Response too.
     ensures replies { (link after : LooseLink) (events : List (Event (Unit {0})))
         → IsMibView (agent_at link).view → last_sent link ≡ []
         → (OneOf (ways_left link) Way.GenErr → ⊥)

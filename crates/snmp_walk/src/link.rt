@@ -1,4 +1,4 @@
-//! Links, over which a walk sends its requests and receives replies.
+//! The trait of links. A walk sends its requests and receives replies over a link.
 ghost use Rattle.std.specs.Prelude.{◌≡◌, ◌≤◌, ◌+◌, ◌++◌, [], ◌∷◌, ◌⊎◌, ℕ, List, length, Option};
 ghost use Rattle.std.specs.Prelude.{Some, None, IsOk, IsErr, OnOk, IfOk, OnErr, IfSome, IfNone};
 ghost use Rattle.std.specs.Prelude.{take, ◌<◌};
@@ -8,14 +8,14 @@ use crate::LinkFault;
 /// A way to send datagrams to an agent and to receive its replies.
 ///
 /// The promises of a walk rest on the facts below. A link in memory can have all of them. Another
-/// link may have `keeps` only, and a socket has neither `keeps` nor `honest`.
+/// link may have `records` only, and a socket has neither `records` nor `honest`.
 pub trait Link {
     ghost use Rattle.std.specs.Prelude.{Option, take};
     ghost use Rattle.snmp_walk.specs.Link.{Agents, AreLawful};
     ghost use Rattle.snmp_walk.specs.Moves.{Moves};
     ghost use Rattle.snmp_walk.specs.Traffic.{Traffic, Receives, received};
 
-    /// `keeps link`: the traffic of `link` lists every datagram sent over it.
+    /// `records link`: the traffic of `link` lists every datagram sent over it.
     ghost records: { Self → Type 0 };
 
     /// `honest link`: all that `link` delivers are replies of its agents, as its traffic says.
@@ -27,7 +27,7 @@ pub trait Link {
     /// The datagrams sent, and what the next receives deliver.
     ghost traffic: { Self → Traffic };
 
-    /// The number of sends and receives that failed.
+    /// The number of sends and receives that failed, up to 18446744073709551615.
     ghost fault_count: { Self → ℕ };
 
     /// `ready link sends octets`: the next `sends` sends, of at most `octets` octets in total,

@@ -180,7 +180,7 @@ fn fail(
 
 /// Writes the agent's reply to a GetBulk, as if it asked for this number of repetitions, to the
 /// start of `out`, and returns its length. Returns `None`, and leaves `out` unchanged, if
-/// `request` isn't a GetBulk for more repetitions.
+/// `request` isn't a GetBulk for more repetitions, or if the agent drops that GetBulk.
 fn repeat_less(
     table: &Table,
     config: &Config<'_>,
@@ -290,7 +290,7 @@ fn content_of(octets: &[u8]) -> &[u8]
     ensures content { IsElement sequence_tag result.now octets.now }
     ensures shorter { length result.now + 2 ≤ length octets.now }
 {
-    // The first octet of a long length says how many follow it.
+    // The first octet of a long length is 128 plus the number of the length octets after it.
     match octets[1] {
         long @ 128.. => &octets[usize::from(long) - 126..],
         _ => &octets[2..],
@@ -299,9 +299,10 @@ fn content_of(octets: &[u8]) -> &[u8]
 
 /// A link to the agent of a table in memory, which replies in the ways of a list.
 ///
-/// It stores only the datagram that was sent last, of at most 1,024 octets. Each receive returns
-/// what the agent sends to that datagram in the next way of the list, and after the last way the
-/// agent's own reply. If the agent drops the datagram, the receive returns `None`.
+/// It stores only the datagram that was sent last, of at most 1,024 octets; a send of a longer one
+/// fails. Each receive returns what the agent sends to that datagram in the next way of the list,
+/// and after the last way the agent's own reply. If the agent drops the datagram, the receive
+/// returns `None`. A receive into a buffer of fewer than 65507 octets fails and uses no way.
 #[derive(Drop)]
 pub struct LooseLink<'a> {
     table: &'a Table,
@@ -317,7 +318,7 @@ impl<'a> LooseLink<'a> {
     ghost use Rattle.snmp_agent.specs.Reply.{agent_of};
     ghost use Rattle.snmp_walk.specs.Loose.{IsNextWay, agent_at, last_sent, ways_left};
 
-    /// Returns a link over which nothing was sent.
+    /// Returns a link to the agent of `table`, before anything was sent.
     pub fn new(table: &'a Table, config: Config<'a>, ways: &'a [Way]) -> LooseLink<'a>
         ensures agent { agent_at result ≡ agent_of table.now config.entry }
         ensures nothing_sent { last_sent result ≡ [] }
@@ -424,7 +425,8 @@ pub fn walk_loose<S: Sink>(
 ) -> WalkEnd
     requires fresh { IsFresh core }
     requires nothing_sent { last_sent link.old ≡ [] }
-    // If no way is `GenErr`, an end by an error has its reason too.
+    // `ReplyFacts` holds if an error status that ends the walk counts as a failure of the link. If
+    // no way is `GenErr`, it also holds of the end as it is.
     ensures { IsRun S.takes sink.old result sink.new (λ rows refused.
         IsWalkedOver ⟦<LooseLink<'static> as Link>⟧ link.old link.new (retries + 1) core rows
         refused result

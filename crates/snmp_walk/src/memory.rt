@@ -15,7 +15,7 @@ use std::alloc::{AllocError, Global};
 /// link was made with: `None` delivers nothing, and `Some(k)` the agent's reply to the k-th
 /// datagram sent, counted from 1. After the last delivery, a receive returns the reply to the
 /// latest datagram. If the agent has no reply, or the datagram doesn't exist, the receive returns
-/// `None`.
+/// `None`. A receive into a buffer of fewer than 65507 octets fails and uses no delivery.
 pub struct MemoryLink<'a> {
     tables: &'a [Table],
     config: Config<'a>,
@@ -57,7 +57,7 @@ impl<'a> MemoryLink<'a> {
     ghost use Rattle.snmp_walk.specs.Memory.{HasNoReplyOf};
     ghost use Rattle.std.specs.Prelude.{take, IfNone};
 
-    /// Returns a link to the agent of one table, over which nothing has been sent.
+    /// Returns a link to the agent of one table. Nothing has been sent over it.
     pub fn new(
         alloc: Global,
         table: &'a Table,
@@ -73,7 +73,7 @@ impl<'a> MemoryLink<'a> {
         MemoryLink::changing(alloc, std::slice::from_ref(table), config, &[], deliveries)
     }
 
-    /// Returns a link to an agent whose table changes, over which nothing has been sent.
+    /// Returns a link to an agent whose table changes. Nothing has been sent over it.
     ///
     /// The first datagram is answered from `tables[uses[0]]`, the second from `tables[uses[1]]`,
     /// and so on; after the end of `uses`, from the last table. The caller must pass at least one
@@ -115,7 +115,7 @@ impl<'a> MemoryLink<'a> {
         ensures ready { OnOk result (IsReadyFor self.new sends octets) }
         ensures kept { (s o : ℕ) → IsReadyFor self.old s o → IsReadyFor self.new s o }
         ensures agents { agents_of self.new ≡ agents_of self.old }
-        // Which table replies to which datagram stays the same.
+        // Each datagram is still answered from the same table.
         ensures uses { self.new.uses.now ≡ self.old.uses.now }
         ensures traffic { traffic_of self.new ≡ traffic_of self.old }
         ensures no_fault { self.new.fault_count ≡ self.old.fault_count }
@@ -124,8 +124,9 @@ impl<'a> MemoryLink<'a> {
         self.arena.reserve(sends, octets)
     }
 
-    /// Uses the next delivery and returns the number of the datagram whose reply it delivers, or 0
-    /// if it delivers nothing.
+    /// Uses the next delivery and returns the number of the datagram that it is for, or 0 if it is
+    /// for none. After the last delivery, returns the number of the latest datagram, or 0 if there
+    /// is none.
     fn next_number(&mut self) -> usize
         ensures number { IsNextNumber self.old.arena.datagrams (traffic_of self.old).ahead result
             (traffic_of self.new).ahead }
@@ -143,7 +144,7 @@ impl<'a> MemoryLink<'a> {
         }
     }
 
-    /// Returns the table from which the datagram with this number, counted from 1, is answered.
+    /// Returns the table that answers the datagram with this number, counted from 1.
     fn table_for(&self, number: usize) -> &'a Table
         ensures one { OneOf self.now.tables.now result.now }
         ensures index { 0 < number
@@ -156,8 +157,8 @@ impl<'a> MemoryLink<'a> {
     }
 
     /// Writes the agent's reply to the datagram with this number to the start of `out`, and
-    /// returns its length. Returns `None` if there is no such datagram, or no reply to it. Of the
-    /// link, only the hint changes.
+    /// returns its length. Returns `None` if the datagram doesn't exist, or the agent has no reply
+    /// to it. Of the link, only the hint changes.
     fn reply_to(&mut self, number: usize, out: &mut [u8; MAX_DATAGRAM]) -> Option<usize>
         ensures length { IfSome result (λ n. n ≤ 65507) }
         ensures room { length out.new ≡ 65507 }

@@ -23,9 +23,9 @@ pub enum Delivery {
 /// A network in memory between a walk and an agent.
 ///
 /// It stores what is sent at each end, and delivers it to the other end by its list of deliveries,
-/// in turn. So a datagram that none of them names is lost, one that several name arrives that many
-/// times, and one that is named late is delayed. If a delivery names a datagram that wasn't sent
-/// yet, the receive returns nothing.
+/// in turn. As long as the list lasts, a datagram that no delivery names doesn't arrive, one that
+/// several name arrives that many times, and one that is named late is delayed. If a delivery
+/// names a datagram that wasn't sent yet, the receive returns nothing.
 ///
 /// After the last delivery nothing is lost: the agent receives the latest datagram before each
 /// receive of the walk, and the walk receives what the agent sent then, or nothing. If the agent's
@@ -47,7 +47,7 @@ impl<'a> MemoryNetwork<'a> {
     ghost use Rattle.snmp_io.specs.Count.{HasIncreased};
     ghost use Rattle.snmp_walk.specs.MemoryNetwork.{IsNew, IsNextReply, IsNextRequest, ahead_of};
 
-    /// Returns a network over which nothing was sent.
+    /// Returns a network before anything was sent, with this list of deliveries.
     pub fn new(alloc: Global, deliveries: &'a [Delivery]) -> MemoryNetwork<'a>
         ensures new { IsNew result }
         ensures ahead { ahead_of result ≡ deliveries.now }
@@ -70,8 +70,9 @@ impl<'a> MemoryNetwork<'a> {
         &self.deliveries[self.used.min(self.deliveries.len())..]
     }
 
-    /// Returns the number of the datagram that the agent's next receive returns, or 0 if it
-    /// returns nothing. Uses the next delivery if it is for the agent.
+    /// Returns the number of the datagram that the agent's next receive returns. The receive
+    /// returns nothing if no datagram has this number, as none has 0. Uses the next delivery if it
+    /// is for the agent.
     fn next_request(&mut self) -> usize
         ensures used { IsNextRequest self.old.requests.datagrams (ahead_of self.old) result
             (ahead_of self.new) }
@@ -90,8 +91,9 @@ impl<'a> MemoryNetwork<'a> {
         }
     }
 
-    /// Returns the number of the datagram that the walk's next receive returns, or 0 if it returns
-    /// nothing. Returns `None` if the receive fails. Uses the next delivery if it is for the walk.
+    /// Returns the number of the datagram that the walk's next receive returns. The receive returns
+    /// nothing if no datagram has this number, as none has 0. Returns `None` if the receive fails
+    /// since the agent's last turn did. Uses the next delivery if it is for the walk.
     fn next_reply(&mut self) -> Option<usize>
         ensures used { IsNextReply self.old.answer (ahead_of self.old) result (ahead_of self.new) }
         ensures requests { self.new.requests ≡ self.old.requests }
@@ -113,7 +115,7 @@ impl<'a> MemoryNetwork<'a> {
         }
     }
 
-    /// Raises the fault count.
+    /// Raises the fault count, to at most 18446744073709551615.
     fn count_fault(&mut self)
         ensures counted { HasIncreased self.old.faults self.new.faults }
         ensures ahead { ahead_of self.new ≡ ahead_of self.old }

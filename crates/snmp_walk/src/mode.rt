@@ -8,7 +8,7 @@ pub enum Mode {
     Plain,
     /// The walk begins with the root's own instance, if there is one.
     Include,
-    /// Nothing else.
+    /// The walk returns only the instances below the root.
     NoLast,
 }
 
@@ -22,7 +22,7 @@ pub enum Method {
     Bulk(i32),
 }
 
-/// The request of a walk that waits for its reply.
+/// Which request of a walk waits for its reply.
 #[derive(Clone, Copy, Debug, PartialEq, Eq)]
 pub enum Phase {
     /// The Get of the root that begins a walk with [`Mode::Include`].

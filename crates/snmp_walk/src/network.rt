@@ -11,8 +11,8 @@ use snmp_agent::{Config, Endpoint, Table, serve_at};
 
 /// A network between a walk and an agent. The agent's end of it is an endpoint.
 ///
-/// It may lose, repeat, delay and reorder datagrams, as UDP may (RFC 768). It makes none up and
-/// alters none.
+/// It may lose, repeat, delay and reorder datagrams, as UDP may (RFC 768). It makes no message up
+/// and alters none.
 pub trait Network: Endpoint {
     ghost use Rattle.std.specs.Prelude.{◌≡◌, ◌≤◌, ◌++◌, ◌∷◌, [], ℕ, List, map, length};
     ghost use Rattle.std.specs.Prelude.{IfOk, IfSome, OnErr, OnOk};
@@ -34,15 +34,17 @@ pub trait Network: Endpoint {
     /// The walk, as a peer of the agent.
     ghost walker: { Self → Self.Peer };
 
-    /// The number of turns of the agent before the walk's next receive returns.
+    /// The number of turns of the agent before the walk's next receive returns. In each turn, the
+    /// agent receives once and may reply.
     ghost turn_count: { Self → ℕ };
 
     /// The datagrams that the walk sent.
     ghost sent: { Self → List (List ℕ) };
 
     /// `is_prompt network`: the network loses and delays nothing from now on. After the agent's
-    /// turns, each receive of the walk returns the agent's reply to the datagram that the walk
-    /// sent last, or nothing if the agent has no reply to it, or fails.
+    /// turns, each receive of the walk fails, or returns the agent's reply to the datagram that the
+    /// walk sent last. It returns nothing if the agent has no reply to that datagram, or if the
+    /// walk has sent none.
     ghost is_prompt: { Self → Type 0 };
 
     /// Returns the number of turns of the agent before the walk's next receive returns.
@@ -70,14 +72,17 @@ pub trait Network: Endpoint {
     ghost at_end: { (old new : Self) (e : Event Self.Peer) → Self.happens old e new
         → carries old (at_agents e) new };
 
-    /// A message that arrives at one end was sent at the other end before, or its send failed.
+    /// A message that arrives at the walk was passed to a send of the agent before. A datagram that
+    /// arrives at the agent from the walk was passed to a send of the walk before. The send may
+    /// have failed.
     ghost faithful: { (first last : Self) (run : List (Happening Self.Peer)) → is_new first
         → InTurn carries first run last → IsFaithful (walker first) run };
 
     /// Over a new network the walk has sent nothing.
     ghost starts: { (network : Self) → is_new network → sent network ≡ [] };
 
-    /// The datagrams of the walk are those of the sends that happen at its end.
+    /// A send that succeeds at the walk's end appends its datagram to `sent`. No other event
+    /// changes `sent`.
     ghost sending: { (old new : Self) (e : Happening Self.Peer) → carries old e new
         → sent new ≡ sent old ++ requests_by e };
 
@@ -85,7 +90,8 @@ pub trait Network: Endpoint {
     ghost still_prompt: { (old new : Self) (e : Happening Self.Peer) → is_prompt old
         → carries old e new → is_prompt new };
 
-    /// A receive over a prompt network returns the agent's reply to the latest datagram.
+    /// Over a prompt network, after the agent's turns, a receive of the walk returns the agent's
+    /// reply to the latest datagram of the walk, or nothing if there is none. It may also fail.
     ghost replying: { (old new : Self) (agent : Agent) (served : Served)
         (events : List (Event Self.Peer)) (e : Event (Unit {0})) → is_prompt old
         → AreTurns agent (turn_count old) served events
@@ -193,13 +199,13 @@ impl<'a, N: Network> Link for NetworkLink<'a, N> {
 /// Walks over a network at whose other end the agent serves a table: both programs run.
 ///
 /// What [`run_walk`] promises of any link holds of this one. For example, the walk ends with
-/// `NoResponse` only after `retries + 1` sends of one request, after each of which the agent had
-/// its turns.
+/// `NoResponse` only after it sent one request `retries + 1` times, and the agent had its turns
+/// after each send.
 ///
 /// Whatever the network loses, repeats and delays, the bindings passed on are a prefix of the walk
 /// over that table, and all of it if the walk is done. Over a network that loses and delays
-/// nothing, the walk is done unless the network or the sink fails, if each binding fits into a
-/// message and there are enough ids.
+/// nothing, the walk is done unless the network or the sink fails, if the walk has the agent's
+/// community, each binding fits into a message, and there are enough ids.
 pub fn walk_served<'a, N: Network + Drop, S: Sink>(
     link: &mut NetworkLink<'a, N>,
     core: WalkCore,

@@ -74,7 +74,7 @@ impl<'a> Iterator for Rows<'a> {
 pub enum Step<'a> {
     /// The datagram isn't the reply to the waiting request. The walk is unchanged.
     Stray,
-    /// The datagram is the reply. Its rows are to be passed on, and the next request waits.
+    /// The datagram is the reply. Its rows are to be passed on, and then the next request sent.
     Rows(Rows<'a>),
     /// The datagram is the reply that ends the walk, once these rows are passed on.
     Last(Rows<'a>, WalkEnd),

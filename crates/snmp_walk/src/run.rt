@@ -17,9 +17,9 @@ use snmp_wire::MAX_DATAGRAM;
 /// - `part`: each name passed is the root or below it.
 /// - `ends.rising`: the names increase, so that each is passed once.
 /// - `ends.counted`: if the end is `Done(n)`, n bindings were passed.
-/// - `ends.reason`: the end has its reason in what the link delivered. For example, `NoResponse`
-///   comes only after `retries + 1` sends of one request, each of them followed by at most 64
-///   receives, none of which returned its reply.
+/// - `ends.reason`: the end has its reason in what the link delivered. For example, the end is
+///   `NoResponse` only if one request was sent `retries + 1` times, and the receives after each
+///   send, at most 64, didn't return its reply.
 /// - `moved`: the ids of the requests increase by one, and each request is sent 1 to `retries + 1`
 ///   times. The link failed if and only if the end is `Link`.
 /// - `few_of_rows`: there is at most one request for each row passed, one more, and a Get.
@@ -32,15 +32,17 @@ use snmp_wire::MAX_DATAGRAM;
 ///
 /// - `sent`: which requests were sent, and how many times.
 /// - `moved.few`: there are at most 64 receives for each datagram sent.
-/// - `later`: a later walk over the link may begin with the id after those of this one.
+/// - `later`: a later walk over the link may begin with the id after the last id of this one.
 ///
 /// Over an honest link, one that delivers only replies of its agents, if the requests sent over it
 /// before have lower ids:
 ///
 /// - `judged.given`: the same as `happened.replied`. If the table changes during the walk and the
-///   walk is done, each name that all the tables have is passed once (`common_at_done`).
+///   walk is done, each name of the walk that all the tables have is passed once
+///   (`common_at_done`).
 /// - `judged.done_unless_stopped`: without losses the walk is done unless the link or the sink
-///   fails, if each binding fits into a message and there are enough ids.
+///   fails, if the walk has the agents' community, each binding fits into a message, and there are
+///   enough ids.
 /// - `ready`: a link that is ready for all sends doesn't fail.
 // `inline(never)`: its buffers take 66 KB of stack. Inlined, a caller with several such calls
 // would reserve that for each.

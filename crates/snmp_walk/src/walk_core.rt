@@ -110,7 +110,7 @@ impl WalkCore {
         ensures ok { IfOk result (λ w. w ≡ start_state root mode method community.now first_id) }
         // It has taken no reply yet.
         ensures fresh { IfOk result IsFresh }
-        // Of one table it returns the walk of its root.
+        // Over one table, it returns what `walk_of` says for the root.
         ensures walk { IfOk result (λ w. (view : MibView) (got : VarBind) → IsMibView view
             → walk_at w view got ≡ walk_of mode root got (variables view)) }
         ensures variant { IsOk result ↔ IsWire (wire root) }
@@ -133,7 +133,7 @@ impl WalkCore {
     }
 
     /// Returns the rest of a walk of the instances below `root`: those that come after `after`,
-    /// without the root's own instance. The caller's duties are those of [`WalkCore::start`].
+    /// without the root's own instance. The caller has the same duties as for [`WalkCore::start`].
     ///
     /// Fails with `NotWire` if `root`, padded with zeros to two numbers, has no encoding;
     /// otherwise with `AfterOutsideRoot` if `after` is neither the root nor below it; otherwise
@@ -151,8 +151,7 @@ impl WalkCore {
         ensures ok { IfOk result (λ w. w ≡ resume_state root after.now method community.now
             first_id) }
         ensures fresh { IfOk result IsFresh }
-        // Of one table it returns the rest of the walk: the rows below the root that come after
-        // `after`.
+        // Over one table, it returns the rows below the root that come after `after`.
         ensures walk { IfOk result (λ w. (view : MibView) (got : VarBind)
             → walk_at w view got ≡ rest_of root (wire after.now) (variables view)) }
         ensures variant { IsOk result ↔ (IsWire (wire root)
@@ -233,7 +232,7 @@ impl WalkCore {
     }
 
     /// Reads a received datagram and returns what it means to the walk. Returns `Stray` and changes
-    /// nothing if it isn't the reply to the waiting request. After the end of the walk, none is.
+    /// nothing if it isn't the reply to the waiting request, and always after the end of the walk.
     pub fn take<'a>(&mut self, datagram: &'a [u8]) -> Step<'a>
         ensures { MeansBy self.old datagram.now result self.new }
     {
@@ -286,8 +285,8 @@ impl WalkCore {
         Judgement::Ends(rows)
     }
 
-    /// Passes on `rows`, of which there are `count`, and waits for the reply to the next request,
-    /// of phase `next`. It asks from `last`, the name of the last row, or from the same name as
+    /// Passes on `rows`, whose number is `count`, and waits for the reply to the next request, of
+    /// phase `next`. The name in this request is `last`, the name of the last row, or the same as
     /// before if `last` is `None`. Ends the walk with `TooManyRequests` if no id is left.
     fn go_on<'a>(
         &mut self,
@@ -313,9 +312,9 @@ impl WalkCore {
         Judgement::GoesOn(rows)
     }
 
-    /// Passes on `rows`, of which there are `count`, after which no more instances are below the
-    /// root. Then a plain walk that has passed on nothing asks for the root itself, and any other
-    /// walk is done.
+    /// Passes on `rows`, whose number is `count`. After them, no more instances are below the
+    /// root. So a plain walk that has passed on nothing, and has no rows now, goes on with a Get of
+    /// the root, or ends with `TooManyRequests` if no id is left. Any other walk is done.
     fn close<'a>(&mut self, rows: Rows<'a>, count: u32, end: &mut WalkEnd) -> Judgement<'a>
         requires count { count ≡ length rows }
         ensures { (step_of result end.new, self.new) ≡ closes self.old rows.entry }
@@ -333,7 +332,7 @@ impl WalkCore {
     /// Returns `None` if there are more bindings than were asked for, or noSuchObject or
     /// noSuchInstance among them.
     ///
-    /// Reads each binding once. The caller must pass `None` as `last`.
+    /// Reads no binding twice. The caller must pass `None` as `last`.
     fn read_rows<'a>(
         &self,
         mut bindings: Bindings<'a>,
@@ -385,9 +384,10 @@ impl WalkCore {
         }
     }
 
-    /// Returns how `binding` continues or ends the rows read so far: `Leaves` if it isn't an
-    /// instance below the root, `Falls` if its name isn't greater than the previous one, otherwise
-    /// `GoesOn`. The previous name is `last`, or the requested name if `last` is `None`.
+    /// Returns how `binding` continues or ends the rows read so far: `Leaves` if it has
+    /// endOfMibView or its name isn't below the root, `Falls` if its name isn't greater than the
+    /// previous one, otherwise `GoesOn`. The previous name is `last`, or the requested name if
+    /// `last` is `None`.
     fn ending_at(&self, last: &Option<EncodedName<'_>>, binding: &BindingRef<'_>) -> Ending
         ensures { result ≡ ending_at self.now.root (name_or self.now.asked last.now) binding.now }
     {
@@ -656,7 +656,7 @@ fn comes_after(before: &EncodedName<'_>, name: &EncodedName<'_>) -> bool
     before.compare(name) == Ordering::Less
 }
 
-/// Returns whether `binding` is an instance below the root.
+/// Returns whether the name of `binding` is below the root, and its value isn't endOfMibView.
 fn is_row(binding: &BindingRef<'_>, root: &Root) -> bool
     ensures { result ≡ is_inside root.now binding.now }
 {

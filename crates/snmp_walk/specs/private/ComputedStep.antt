@@ -57,8 +57,8 @@ abbrev pub is_plain : Mode → Bool
 is_plain mode.Plain = true
 is_plain _ = false
 
--- No more instances are below the root: a plain walk that has passed on nothing asks for the root
--- itself, and any other walk is done.
+-- No more instances are below the root: a plain walk that has passed on nothing, and has no rows
+-- now, asks for the root itself or ends if no id is left. Any other walk is done.
 abbrev pub closes : WalkState → List VarBind → Step × WalkState
 closes w rows =
     if is_plain w.mode && (w.count + length rows == 0)
@@ -95,13 +95,12 @@ got asked (b ∷ c ∷ more) = None
 abbrev pub if_present : VarBind → List VarBind
 if_present b = if is_missing b.value then [] else b ∷ []
 
--- what the reply to the first request of a walk that includes its root means, a Get of the root
+-- what the reply to the Get of the root that begins a walk means, by its binding (`got`)
 abbrev pub reads_first : WalkState → Option VarBind → Step × WalkState
 reads_first w None = stops w [] ending.BadReply
 reads_first w (Some b) = goes_on w phase.Rows (if_present b)
 
--- what the reply to the last request of a plain walk means that returned nothing, a Get of the
--- root
+-- what the reply to the Get of the root that ends a plain walk means, by its binding (`got`)
 abbrev pub reads_last : WalkState → Option VarBind → Step × WalkState
 reads_last w None = stops w [] ending.BadReply
 reads_last w (Some b) = stops w (b ∷ []) (ending.Done (w.count + 1))

@@ -1,5 +1,6 @@
 -- What a reply means, and whether the walk or the Get continues once its rows were given to a
--- sink. In code, the end is stored beside both; here it is a part of them. For private clauses.
+-- sink. In code, a `Judgement` or a `Course` says that the run ends, and the end is stored beside
+-- it; here both are one value. For private clauses.
 use Rattle.std.specs.Prelude.{Option, None, Some}
 use Rattle.snmp_walk.specs.{declared.end.WalkEnd.WalkEnd, declared.rows.Step.Step}
 use Rattle.snmp_walk.specs.{declared.tries.Course.Course, declared.tries.Judgement.Judgement}

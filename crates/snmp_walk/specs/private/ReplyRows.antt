@@ -7,8 +7,8 @@ use Rattle.snmp_walk.specs.{declared.walk_core.Ending.Ending}
 use Rattle.snmp_walk.specs.{Names.is_inside, Names.is_missing, Names.comes_after, Trail.last_name}
 use Rattle.snmp_walk.specs.declared.walk_core.Ending.TheVariants as ending
 
--- what follows the rows: nothing, a binding that isn't an instance below the root, or one that is,
--- but whose name isn't greater
+-- what follows the rows: nothing; a binding that isn't an instance below the root; or an instance
+-- below it whose name isn't greater than the name before
 pub data After : Type 0 where
   nothing : After
   leaving : After
@@ -19,7 +19,7 @@ pub record ReplyRows : Type 0 where
   pub rows : List VarBind
   pub after : After
 
--- b, and then what is read after it
+-- `prefix` with b before its rows
 abbrev pub before : VarBind → ReplyRows → ReplyRows
 before b prefix = record { rows = b ∷ prefix.rows; after = prefix.after }
 
@@ -39,7 +39,7 @@ ending_at root last b =
     then (if comes_after last b.name then ending.GoesOn else ending.Falls)
     else ending.Leaves
 
--- what follows the rows, with the name of the last binding that was read
+-- what follows the rows: nothing, or the binding with this name, which ended them in this way
 abbrev pub after_of : Ending → List ℕ → After
 after_of ending.GoesOn name = nothing
 after_of ending.Leaves name = leaving
@@ -57,7 +57,8 @@ pub record IsReadTo (asked : List ℕ) (prefix : ReplyRows) (last : List ℕ) (r
   pub name : last_name asked prefix.rows ≡ last_name last left.rows
   pub after : prefix.after ≡ left.after
 
--- all of `prefix` was read: `rows` rows, up to the name `last`, and `next` follows them
+-- all of `prefix` was read: `rows` rows at the start of `bindings`, up to the name `last`; what
+-- follows them is `next`
 pub record AreRowsRead (asked : List ℕ) (bindings : List VarBind) (prefix : ReplyRows)
     (last : List ℕ)
     (rows : ℕ) (next : After) : Type 0 where

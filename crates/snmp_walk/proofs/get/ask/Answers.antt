@@ -4,7 +4,7 @@ use Rattle.snmp_walk.specs.{declared.end.LinkFault.LinkFault, declared.tries.Cou
 use Rattle.snmp_walk.proofs.{Gets.IsGetTurn, Gets.get_of, get.ask.Given.Over, get.ask.Goals.After-exchange}
 use Rattle.snmp_walk.proofs.get.ask.Goals as goal
 
--- what `exchange` returned and did for the request of the Get is its turn (`IsGetTurn`)
+-- after `exchange` tried the request of the Get, `IsGetTurn` holds of its result
 turn : (g : Over) (c : After-exchange g) (came : Result (Option Course) LinkFault) → c.exchange.result ≡ came
     → IsGetTurn g.L.Link c.args.link.now (c.args.retries + 1) c.args.get.now.community c.args.get.now.id c.args.get.now.names g.S.Sink.takes
     c.args.sink.now c.exchange.new.link c.exchange.new.sink c.exchange.new.end came

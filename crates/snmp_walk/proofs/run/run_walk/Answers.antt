@@ -4,7 +4,7 @@ use Rattle.snmp_walk.specs.{declared.end.LinkFault.LinkFault, declared.tries.Cou
 use Rattle.snmp_walk.proofs.{RunResult.IsTurn, RunResult.runs_first, RunResult.turn_of, run.run_walk.Given.Over, run.run_walk.Goals.After-exchange}
 use Rattle.snmp_walk.proofs.run.run_walk.Goals as goal
 
--- what `exchange` returned and did for a request of the walk is a turn (`IsTurn`)
+-- after `exchange` tried a request of the walk, `IsTurn` holds of its result
 turn : (g : Over) (c : After-exchange g) (came : Result (Option Course) LinkFault) → c.exchange.result ≡ came
     → IsTurn g.L.Link g.S.Sink.takes (c.args.retries + 1) c.args.core c.args.link.now c.args.sink.now c.turns.core c.exchange.new.link
     c.exchange.new.waiter c.exchange.new.sink c.exchange.new.end came

@@ -7,11 +7,11 @@ use Rattle.snmp_walk.proofs.{LooseLinks.if_none, LooseLinks.sent_back, MemoryLin
 use Rattle.snmp_walk.proofs.loose.LooseLinkLink.receive.Goals.{After-answer}
 use Rattle.snmp_walk.proofs.loose.LooseLinkLink.receive.Goals as goal
 
--- the receive uses this way
+-- the receive uses the way that `next_way` returned
 uses : (c : After-answer) → UsesWay c.args.self.now c.next_way-way.result c.next_way-way.new.self
 uses c = record { agent = c.next_way-way.ensures.agent; last = c.next_way-way.ensures.last; next = c.next_way-way.ensures.next }
 
--- the agent replies to the datagram that was sent last
+-- the datagram passed to the agent is the one that was sent last
 asked : (c : After-answer) → c.as_slice.result.now ≡ last_sent c.args.self.now
 asked c = c.as_slice.ensures.value ∙ c.next_way-way.ensures.last
 

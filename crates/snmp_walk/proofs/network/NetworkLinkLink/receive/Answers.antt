@@ -7,7 +7,7 @@ use Rattle.snmp_walk.proofs.network.NetworkLinkLink.receive.Given.{Over}
 use Rattle.snmp_walk.proofs.network.NetworkLinkLink.receive.Goals as goal
 use Rattle.snmp_walk.proofs.network.NetworkLinkLink.receive.Goals.{After-receive_reply}
 
--- the agent had its turns, and then the walk's receive returned this
+-- the agent had its turns, and then the walk's receive returned what `receive_reply` did
 came_so : (g : Over) (c : After-receive_reply g) → IsServedBy g.N.Network.carries g.N.Network.turn_count c.args.self.now
     (event_of_got c.receive_reply.result c.receive_reply.new.buffer) (record c.args.self.now { network = c.receive_reply.new.self })
 came_so g c =
@@ -48,7 +48,7 @@ module _ (g : Over) (c : After-receive_reply g) where
       let h = came_so g c in
       still_so g.N.Network.carries g.N.Network.is_prompt g.met.N.Network.still_prompt _ c.args.self.now.network c.receive_reply.new.self it h.4
 
-  -- what arrived is the agent's reply to the latest datagram
+  -- over a prompt network, the walk's receive returned the agent's reply to the latest datagram, or nothing if there is none, or failed
   replied : g.N.Network.is_prompt c.args.self.now.network
       → RepliesTo (agent_of c.args.self.now.table.now c.args.self.now.config) (latest (g.N.Network.sent c.args.self.now.network))
       (event_of_got c.receive_reply.result c.receive_reply.new.buffer)
