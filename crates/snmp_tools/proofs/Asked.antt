@@ -1,5 +1,4 @@
--- What a walk over one table gave (`walk_rows`), and how a run over the agent in memory ended
--- (`is_asked`).
+-- A walk over one table gives rows of its answer (`walk_rows`), and a run over the agent in memory is as `IsAsked` says (`is_asked`).
 use Rattle.std.proofs.{lemmas.List.Elements.All-contains, lemmas.List.Elements.filter_passes}
 use Rattle.std.proofs.Common.{◌≡◌, ◌⊎◌, inl, inr, ◌++◌, ◌<◌, ◌≤◌, ℕ, zero, suc, Bool, true, List, [], ◌∷◌, length, Option, Some, None, refl, sym, ◌∙◌}
 use Rattle.std.proofs.Common.{ap, arith, subst}
@@ -32,7 +31,7 @@ own_end (ending.Sink fault) s = tt
 own_end ending.Link s = tt
 own_end end s = absurd s
 
--- what holds of an end holds of `end_in_memory`, if it holds of a lack of memory for a failed link
+-- if `P` holds of `end`, then it holds of `end_in_memory end`, provided that `P` holds of a lack of memory if it holds of a failed link
 in_memory : (P : WalkEnd → Type 0) → (P ending.Link → P (ending.Sink sink.Memory)) → (end : WalkEnd) → P end → P (end_in_memory end)
 in_memory P moved ending.Link h = moved h
 in_memory P moved end h = h
@@ -70,7 +69,7 @@ all_pass test [] each = refl
 all_pass test (row ∷ more) each =
     rw (each row (inl refl)) (ap (λ (s : List VarBind). row ∷ s) (all_pass test more (λ other one. each other (inr one))))
 
--- an instance below the root comes after the wire form of the root
+-- if `o`, which has at least three numbers, is below the root, then it comes after the wire form of the root
 after_wire : (root o : List ℕ) → 3 ≤ length o → IsBelow o root → Precedes (wire root) o
 after_wire (a ∷ b ∷ root) o long below = inl below
 after_wire [] o long ([], some, e) = absurd (some refl)
@@ -93,7 +92,7 @@ LeftAreRows = (view : MibView) (root o : List ℕ) (p : VarBind) → IsMibView v
     → (OneOf (rest_of root o (variables view)) p → IsRow view p × IsBelow p.name root × Precedes o p.name)
     × (IsRow view p × IsBelow p.name root × Precedes o p.name → OneOf (rest_of root o (variables view)) p)
 
--- the rows given and refused are a prefix of the answer, and those given are all of it at `Done`
+-- the rows given and refused are a prefix of the answer; if the run is done, the rows given are the whole answer
 pub record GivesRows (question : Question) (view : MibView) (given refused : List VarBind) (end : WalkEnd) : Type 0 where
   pub prefix : (rows : List VarBind) → AreRowsOf question view rows → (more : List VarBind) × (rows ≡ (given ++ refused) ++ more)
   pub whole : (rows : List VarBind) → AreRowsOf question view rows → IsDone end → given ≡ rows
@@ -116,13 +115,14 @@ module _ (below : BelowAreRows) (left : LeftAreRows) (one_get : (view : MibView)
   from_root mode.Include root got = ap (λ (s : List VarBind). rows_named (wire root) (variables view) ++ s) (rest_is root)
   from_root mode.NoLast root got = rest_is root
 
-  -- the answer to a walk of the table, by a Get of the name that it begins from
+  -- if `rows` are the answer to a walk of the table, then a Get of the name that the walk begins from returns some `got`, and `rows` are the rows from there
+  -- on (`walk_at`)
   begun_rows : (after : Option (List ℕ)) (community : List ℕ) (w : Walk) (rows : List VarBind) → AreRowsAfter after w view rows
       → (got : VarBind) × IsGet view (first_after after community w).asked got × (rows ≡ walk_at (first_after after community w) view got)
   begun_rows None community w rows are = (are.0, are.1, are.2 ∙ sym (from_root w.mode w.root are.0))
   begun_rows (Some after) community w rows are = let one = one_get view (wire after) in (one.0, one.1, are)
 
-  -- a walk over agents that have only this table gives rows of it
+  -- a walk over agents that have only the table `view` gives rows of its answer from this table, as `GivesRows` says
   pub walk_rows : (agents : Agents) → agents.tables ≡ view ∷ [] → (Silent : WalkState → Type 0) (community : List ℕ) (w : Walk) (given refused : List VarBind)
       (end : WalkEnd) → ReplyFacts agents Silent (first_of community w) given refused end → GivesRows (subtree w) view given refused end
   walk_rows agents single Silent community w given refused end facts = record {
@@ -193,7 +193,7 @@ module _ (below : BelowAreRows) (left : LeftAreRows) (one_get : (view : MibView)
         complete = λ room. own_end end (facts.done_unless_stopped _ (of_table view refl refl) (in_each room.0) room.1 none);
       }
 
-  -- the run of a question over a link in memory
+  -- if a question is asked over an honest link to the agent over `view`, and no deliveries are ahead, then the run is as `IsAsked` says
   module _ {W : Type 0} (facts : LinkFacts W) (link after : W) (tries : ℕ) (some : 0 < tries) (plan : Plan)
       (honest : facts.honest link × ((facts.traffic link).sent ≡ [])) (agents : facts.agents link ≡ agent_over plan view)
       (none : (facts.traffic link).ahead ≡ []) (given refused : List VarBind) (end : WalkEnd) where

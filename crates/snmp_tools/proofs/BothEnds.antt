@@ -1,5 +1,5 @@
--- What is printed of a table file that snmpd serves, if the network between neither invents nor
--- alters datagrams (`prints_served`).
+-- If the network between neither invents nor alters datagrams, then a walk or a Get prints of a table file that snmpd serves what `PrintsServed` says
+-- (`prints_served`).
 use Rattle.std.proofs.lemmas.Grind.{common_steps}
 use Rattle.std.proofs.Common.{◌≡◌, ◌≢◌, ◌⊎◌, inl, inr, ◌+◌, ◌≤◌, ℕ, Bool, true, false, List, [], ◌∷◌, length, Option, Some, None, refl, sym, ◌∙◌, ap}
 use Rattle.std.proofs.Common.{subst, arith, append-nil}
@@ -53,8 +53,8 @@ module _ (words : ServeWords) (line : List (List ℕ)) (s : StateJob line (snmpd
 
 -- ---- what a walk or a Get received
 
--- what happened at a link, and what was given if all that arrived are replies of agents with this
--- one table
+-- `events` happened at the link, one after the other; if all that arrived are replies of agents that have only the table `view`, then rows of the answer were
+-- given (`GivesRows`)
 record Heard {W : Type 0} (facts : LinkFacts W) (link later : W) (question : Question) (view : MibView) (given refused : List VarBind) (end : WalkEnd)
     (events : List (Event (Unit {0}))) : Type 0 where
   in_turn : InTurn (Happens facts) link events later

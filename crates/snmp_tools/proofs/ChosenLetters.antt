@@ -73,7 +73,8 @@ has_more x letters part =
     list_any-append (λ (p : Part). p.0 == x) letters (part ∷ []) ∙ or_comm (has x letters) ((part.0 == x) || false)
     ∙ ap (λ (b : Bool). b || has x letters) (or-false (part.0 == x))
 
--- the last number is that of the new part if its letter is `r`, otherwise it stays the same
+-- if `old` is the last number of `letters`, and `new` is the number of `part` if its letter is `r`, otherwise `old`, then `new` is the last number with `part`
+-- too
 last_more : (letters : List Part) (part : Part) (old new : ℕ) → IsLastNumber letters old
     → ((part.0 ≡ 114) × AreRepetitions part.1 new) ⊎ (((part.0 == 114) ≡ false) × (new ≡ old)) → IsLastNumber (letters ++ part ∷ []) new
 last_more letters part old new last one = grind (arith, common_steps, append_assoc, has_more, or_from)
@@ -115,7 +116,7 @@ pub record AreReadTo (bulk : Bool) (text : List ℕ) (at : ℕ) (choices : Choic
 pub none_read : (bulk : Bool) (text : List ℕ) → AreReadTo bulk text 0 no_choices
 none_read bulk text = grind (arith, common_steps)
 
--- the letter at the offset `at`, with the `n` digits after it
+-- `text` is read up to the offset `at`; the octet at `at` is the next one, and the `n` octets after it are digits
 module _ (bulk : Bool) (text : List ℕ) (at n : ℕ) (old : Choices) (rest : List ℕ) (low : at < length text)
     (is : rest ≡ take (length text - (at + 1)) (drop (at + 1) text)) (within : n ≤ length rest) (all : list_all is_ascii_digit (take n rest) ≡ true)
     (maximal : n < length rest → is_ascii_digit (slice_index_or rest n 0) ≡ false) (read : AreReadTo bulk text at old) where
@@ -138,7 +139,7 @@ module _ (bulk : Bool) (text : List ℕ) (at n : ℕ) (old : Choices) (rest : Li
   no_digit_or_first : (is_ascii_digit Letter ≡ false) ⊎ ((at ≡ 0) × (is_ascii_digit Letter ≡ true))
   no_digit_or_first = grind (arith, common_steps, at_index)
 
-  -- if the letter is known, one part more is read
+  -- if the letter has a meaning with its digits, then `text` is read up to the offset after these digits
   pub goes_on : (new : Choices) → IsKnown bulk (Letter, take n rest) → OneMore (Letter, take n rest) old new → AreReadTo bulk text (at + (1 + n)) new
   goes_on new known more = grind (arith, common_steps, parts, take_at, size, more_chosen, known_is_no_digit, drop_at, none_after)
 

@@ -1,5 +1,4 @@
--- What `Headline` says of a job that asks an agent (`asked_done`), also if it was refused
--- (`not_asked`).
+-- `WritesRows` of `Headline` holds of a job that asks an agent (`asked_done`), also if the job was refused (`not_asked`).
 use Rattle.std.proofs.Common.{arith, ◌≡◌, ◌⊎◌, inl, inr, ◌++◌, ℕ, Bool, true, false, List, [], Option, Some, None, refl, sym, ◌∙◌, ap, subst, codes}
 use Rattle.std.proofs.lemmas.Grind.{common_steps}
 use Rattle.std.specs.Str.Lines.{lines}
@@ -54,7 +53,7 @@ want_reported why before after err_before err_after status (table_want path e) w
     line_reported (bad_table path table_error.Memory) before after err_before err_after status refl refl (subst (λ (w : Fault). IsReported
     (Some w) err_before err_after status) e was_reported)
 
--- a run that is done, or ended because the output failed or memory ran out
+-- if a run is done, or ended because the output failed or memory ran out, then the status is 0, or `Stops` holds
 module _ (mib : Contents) (letters : Letters) (agent : List ℕ) (given turned : List VarBind) (before between after err_before err_after : Stream)
     (fault : Option Fault) (status : ℕ) (was_reported : IsReported fault err_before err_after status) where
   reported_of : (other : Option Fault) → fault ≡ other → IsReported other err_before err_after status
@@ -70,7 +69,7 @@ module _ (mib : Contents) (letters : Letters) (agent : List ℕ) (given turned :
   own_reported counts (ending.Sink sink.Output) own printed finish = grind (arith, common_steps, reported_of, counted)
   own_reported counts end own printed finish = absurd own
 
--- nothing was asked; if the plan is feasible, only because memory ran out
+-- if a job printed nothing because of the fault `why`, which for a feasible plan is that memory ran out, then `WritesRows` holds
 pub not_asked : (words : AskWords) (files : Holdings) (rows : List VarBind) (ask : IsAsk words files rows) (before after err_before warned err_after : Stream)
     (fault : Option Fault) (status : ℕ) (why : Fault) → after ≡ before → fault ≡ Some why → IsReported fault warned err_after status
     → (IsFeasible ask.plan ask.view → IsWant why) → (warned ≡ err_before) ⊎ IsWritten err_before (warning_lines ask.warnings) warned

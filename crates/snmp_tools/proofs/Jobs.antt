@@ -1,4 +1,4 @@
--- What is promised of a job (`job_done`, `undone`) and of a command line (`job_is_done`,
+-- If its outcome was reported, then what is promised of a job holds (`job_done`, `undone`). So does what is promised of a command line (`job_is_done`,
 -- `fault_is_reported`).
 use Rattle.std.proofs.Common.{arith, ◌≡◌, ◌≢◌, ℕ, Bool, true, false, List, [], Option, Some, Result, Ok, Err, IfOk, IfErr, OnOk, refl, sym}
 use Rattle.std.proofs.Common.{subst, inl, inr, codes}
@@ -22,7 +22,7 @@ use Rattle.snmp_tools.specs.AskResult.{IsOutcome, IsReported, not_loaded}
 use Rattle.snmp_tools.proofs.{Headlines.asked_done, Headlines.not_asked, Outcomes.no_fault_at_0, Plans.OneList, Plans.OneTree, Plans.plain_want}
 use Rattle.snmp_tools.proofs.{TableNames.OneMeaning, TranslationHeadlines.all_printed, TranslationHeadlines.prefix_printed}
 
--- arguments without a fault have no mistake, and don't ask for help
+-- if the arguments have no fault, then no error with a text (a mistake, help or the version) is returned for them
 no_error : (words : List (List ℕ)) (text : String Global) (help : Bool) → (is_taken words ≡ true → Parse text help ≡ Memory)
     → HasFaultOf (Parse text help) (faults_of words) → AreFaultless words → ⊥
 no_error words text help taken refused (inl takes) = let memory = taken takes in let no : ⊥ = cc in no
@@ -38,7 +38,7 @@ module _ {N V D : Type 0} (net : Network N V D) (wire : LinkFacts V) (Loads : Lo
   of_words before after status one words read stated h k done =
       subst (λ (s : Stated). IsJobDone net wire Loads s before after status) (one words read stated h k) done
 
-  -- the outcome of a job is that of an equal job
+  -- if two jobs are equal, then the outcome of one is an outcome of the other
   module _ (before after : Seen N) (fault : Option Fault) where
     pub of_job : (job other : Job) → job ≡ other → IsJobOutcome net wire Loads (job_words other) before after fault
         → IsJobOutcome net wire Loads (job_words job) before after fault
@@ -47,7 +47,7 @@ module _ {N V D : Type 0} (net : Network N V D) (wire : LinkFacts V) (Loads : Lo
     pub of_ask : (read words : AskWords) → read ≡ words → IsOutcome net wire Loads read before after fault → IsOutcome net wire Loads words before after fault
     of_ask read words is outcome = subst (λ (w : AskWords). IsOutcome net wire Loads w before after fault) is outcome
 
-  -- the outcome of a job was reported, so what is promised of the job holds
+  -- if the outcome of a job was reported, then what is promised of the job holds
   module _ (one_table : (names : Names) (ls : List (List ℕ)) (v w : MibView) → IsTableOf names ls v → IsTableOf names ls w → v ≡ w)
       (no_fault : (names : Names) (ls : List (List ℕ)) (view : MibView) (fault : TableError) → IsTableOf names ls view → IsFirstFault names ls fault
       → fault ≡ table_error.Memory)
@@ -80,7 +80,7 @@ module _ {N V D : Type 0} (net : Network N V D) (wire : LinkFacts V) (Loads : Lo
     job_done (snmpbulkwalk words) outcome = ask_done (of_walk true words) outcome
     job_done (snmpd words) outcome = record { fault = fault; warned = warned; outcome = outcome; reported = was_reported }
 
-  -- memory ran out before anything was done, so what is promised of any job holds
+  -- if memory ran out before anything was done, and only that was reported, then what is promised of any job holds
   module _ (files : Holdings) (links : N) (out err err_after : Stream) (was_reported : IsWritten err (codes "Out of memory.\n") err_after) where
     abbrev Before : Seen N
     Before = seen files links out err
@@ -125,7 +125,7 @@ module _ {N V D : Type 0} (net : Network N V D) (wire : LinkFacts V) (Loads : Lo
       reported = (refl, inr was_reported);
     }
 
-  -- the arguments were read as a job, which was done, or there was an error, which was shown
+  -- if the arguments were read as a job, which was done, or there was an error, which was shown, then what is promised of the command line holds
   module _ (one : OneJob) (words : List (List ℕ)) (before : Seen N) (links : N) (out err : Stream) (status : ℕ) (read : Result Job UsageError)
       (states : IfOk read (λ job. StateJob words (job_words job))) (faultless : OnOk read (faults_of words ≡ []))
       (taken : IfErr read (λ e. is_taken words ≡ true → e ≡ Memory)) (refused : IfErr read (λ e. HasFaultOf e (faults_of words)))

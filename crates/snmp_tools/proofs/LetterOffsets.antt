@@ -1,4 +1,5 @@
--- Octets at an offset of a text (`at_index`, `no_digit_at`), and digits (`weight_at`, `grows`).
+-- For functions that read letters by offsets: which octets are after an offset of a text (`at_index`, `no_digit_at`), and what digits are worth (`weight_at`,
+-- `grows`).
 use Rattle.std.proofs.{lemmas.Grind.common_steps, lemmas.Bool.Decides.nat_tests, lemmas.Str.digit_value_digit}
 use Rattle.std.proofs.Common.{◌≡◌, ◌+◌, ◌*◌, ◌<◌, ◌≤◌, ℕ, true, false, List, [], ◌∷◌, zero, suc, length, drop, slice_index_or, refl, drop-cons}
 use Rattle.std.proofs.Common.{add-one, arith, drop_of_length-le}

@@ -1,5 +1,5 @@
--- The modules of one file more (`AreModulesOf-more`), that there is one list of them (`one_list`),
--- and the first file that fails (`refused_at`).
+-- With one file more, its modules are appended (`AreModulesOf-more`). Known files have one list of modules (`one_list`). The first file that fails is the
+-- reason of a refusal (`refused_at`).
 use Rattle.std.proofs.Common.{arith, ◌≡◌, ◌∙◌, ◌⊎◌, inl, inr, ◌++◌, ◌+◌, ◌<◌, ap, ap₂, refl, sym, subst, ℕ, List, [], ◌∷◌, Bor, Option, Some, take}
 use Rattle.std.proofs.Common.{drop, length, get_or, unwrap_or, append_assoc, append-nil}
 use Rattle.std.proofs.lemmas.Grind.{common_steps}
@@ -47,7 +47,7 @@ are_read : (files : Holdings) (paths : List (List ℕ)) (ms : List Module) → A
 are_read files [] ms none = tt
 are_read files (path ∷ paths) ms (first, rest, is, more, whole) = ((first, is), are_read files paths rest more)
 
--- the file at index `i` is the first that fails
+-- if the files before index `i` were read, and memory runs out or the file at `i` fails, then the files are refused for this reason
 pub refused_at : (files : Holdings) (paths : List (Bor (List ℕ))) (i : ℕ) (d : Bor (List ℕ)) (ms : List Module) (why : Refusal) → i < length paths
     → AreModulesOf (MayHold files) (texts (take i paths)) ms → (why ≡ no_memory) ⊎ FileFails files (get_or paths i d).now why
     → IsFilesRefusal files (texts paths) why
@@ -61,7 +61,7 @@ refused_at files paths i d ms why inside read (inr fails) = inr (record {
   fails = fails;
 })
 
--- if the files are known to hold modules, then each of them is
+-- if files are known to hold modules, then each file among them is known to hold modules
 pub held_at : (files : Holdings) (before : List (List ℕ)) (path : List ℕ) (left : List (List ℕ)) (ms : List Module)
     → AreModulesOf (Holds files) (before ++ path ∷ left) ms → (first : List Module) × AreModulesIn (Holds files) path first
 held_at files [] path left ms (first, rest, is, more, whole) = (first, is)

@@ -1,5 +1,4 @@
--- What a job wrote of the answer: a prefix, and all if no fault is reported (`finished`), as at
--- status 0 (`no_fault_at_0`).
+-- A job writes a prefix of the lines of the answer, and all of them if no fault is reported (`finished`). At status 0 no fault is reported (`no_fault_at_0`).
 use Rattle.std.proofs.Common.{arith, ◌≡◌, ◌⊎◌, inl, inr, ◌++◌, ℕ, Bool, true, false, length, List, [], Option, Some, None, refl, sym, ◌∙◌, subst}
 use Rattle.std.proofs.Common.{append_assoc, append-nil}
 use Rattle.std.proofs.lemmas.Grind.{common_steps}
@@ -62,7 +61,7 @@ module _ (mib : Contents) (letters : Letters) (agent : List ℕ) (before : Strea
   abbrev Whole : Bool → Stream → Type 0
   Whole counts after = (text : List ℕ) × IsWhole mib letters counts rows text × (after ≡ stream_after before text)
 
-  -- a prefix of the whole text was written, and all of it if no fault is reported
+  -- a prefix of the lines of the first rows, or of the whole text, was written; if no fault is reported, the whole text was written
   abbrev Finished : Bool → Stream → Option Fault → Type 0
   Finished counts after fault = IsPrefixOfLines mib letters counts rows before after × (fault ≡ None → Whole counts after)
 
@@ -74,7 +73,7 @@ module _ (mib : Contents) (letters : Letters) (agent : List ℕ) (before : Strea
   all_finished counts after fault (text, whole, taken) =
       (prefix_of_all counts after text (inr whole) (whole_taken before after text taken), λ none. (text, whole, taken))
 
-  -- if the run is done, what follows is the line of the count, or a prefix of it
+  -- if the run is done and gave all rows, then what was written is as `Finished` says: all of the text if no fault is reported
   done_finished : (counts : Bool) (given : List VarBind) (count : ℕ) (between after : Stream) (fault : Option Fault) → given ≡ rows
       → (counts ≡ true → count ≡ length given) → Lines given between → IsFinished agent (ending.Done count) counts between after fault
       → Finished counts after fault

@@ -53,7 +53,7 @@ one_load one_list one_tree files paths a b v w e f =
     let same : e.modules ≡ f.modules = one_list files paths e.modules f.modules e.read f.read in
     one_tree f.modules a b v w (subst (λ (ms : List Module). IsTree ms a v) same e.loads) f.loads
 
--- letters of -O have one meaning
+-- an argument of -O says at most one thing: if it says `a` and `b`, they are equal
 pub one_reading : (text : List ℕ) (a b : Letters) → AreLetters text a → AreLetters text b → a ≡ b
 one_reading text a b p q = grind (arith, common_steps)
 
@@ -97,7 +97,7 @@ pub one_plan : OneMeaning → (words : AskWords) (mib : Contents) (p q : Plan) �
     → HasAgent words.asking.agent q.agent → p ≡ q
 one_plan one words mib p q a b only = grind (arith, common_steps, one_chosen, one_question, one_reading)
 
--- the message of the fault `why` says that memory ran out
+-- the fault `why` is that memory ran out, perhaps while a table file was read
 pub data IsWant (why : Fault) : Type 0 where
   plain_want : why ≡ out_of_memory → IsWant why
   table_want : (path : List ℕ) → why ≡ bad_table path table_error.Memory → IsWant why
@@ -125,7 +125,7 @@ module _ (one : OneMeaning)
   no_asking_failure community_step f = omega (arith, f.0, ask.asked.short_community)
   no_asking_failure agent_step f = f.0 ask.plan.agent ask.asked.agent
 
-  -- no step up to the modules fails
+  -- no step up to loading the modules fails, since the arguments ask for a plan (`ask`)
   no_loading_failure : (step : LoadingStep) → FailsFor words files step why → ⊥
   no_loading_failure (asking step) f = no_asking_failure step f
   no_loading_failure choices_step f = no_chosen words.request ask.asked.choices f.0 ask.asked.chosen f.1

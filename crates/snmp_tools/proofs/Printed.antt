@@ -1,4 +1,4 @@
--- What a printer writes of the rows that it is given (`are_printed`).
+-- A printer writes the lines of the rows that it is given, as `ArePrinted` says (`are_printed`).
 use Rattle.std.proofs.Common.{arith, ◌≡◌, ◌++◌, ℕ, List, [], ◌∷◌, Result, Ok, Err, sym, refl, ◌∙◌, ap, subst, append-nil, append_assoc}
 use Rattle.std.proofs.lemmas.Grind.{common_steps}
 use Rattle.smi_value.specs.declared.letters.Letters.{Letters}
@@ -35,8 +35,7 @@ module _ {S : Type 0} (takes : S → VarBind → Result (Unit {0}) SinkFault →
       let now = rest.2 ∙ ap (λ (s : Stream). stream_after s rest.0) first.2 ∙ stream_after-twice (stream old) first.0 rest.0 in
       (first.0 ++ rest.0, (first.0, rest.0, first.1, rest.1, refl), now)
 
-  -- the lines of the rows given were written, and a prefix of the refused one's if the output
-  -- failed
+  -- if the sink took `rows` and refused the next row, then it wrote the lines of `rows` and, if the output failed, a prefix of the line of the refused row
   refused : (old between new : S) (rows turned : List VarBind) (why : SinkFault) → Is old → TakesAll takes old rows between
       → Refused takes between turned why new
       → IsPrintedUpTo mib letters (stream old) rows turned (ending.Sink why) (stream new)

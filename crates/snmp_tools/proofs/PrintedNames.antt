@@ -1,4 +1,5 @@
--- Names are printed one after the other, together: what the output took of them, and what waits (`IsTakenOrWaits`).
+-- Names are printed in order, several by one write. Between writes, the output took a prefix of the texts of the names read so far, and the rest of these
+-- texts waits (`IsTakenOrWaits`).
 use Rattle.std.proofs.Common.{arith, ◌≡◌, ◌⊎◌, ◌∙◌, ◌++◌, ◌+◌, ◌<◌, ap, inl, inr, refl, sym, subst, ℕ, List, [], ◌∷◌, Bor, Result, Ok, Err}
 use Rattle.std.proofs.Common.{take, drop, length, get_or}
 use Rattle.std.proofs.Common.{append_assoc, append-nil}
@@ -14,7 +15,7 @@ use Rattle.snmp_tools.specs.translate.Text.{AreTextsOf, IsTextOf}
 use Rattle.smi_tree.specs.Tree.{Contents}
 use Rattle.snmp_tools.proofs.Texts.{texts-more, texts-parts}
 
--- the output has taken the texts of the names, but for the octets at their end that wait
+-- from `before` to `now` the output took the texts of `names` without `waiting`, the octets at their end
 abbrev pub IsTakenOrWaits : Contents → Style → (names : List (List ℕ)) → (before now : Stream) → (waiting : List ℕ) → Type 0
 IsTakenOrWaits mib style names before now waiting = (taken : List ℕ) × AreTextsOf mib style names (taken ++ waiting) × (now ≡ stream_after before taken)
 
@@ -38,7 +39,7 @@ module _ (mib : Contents) (style : Style) (before now : Stream) where
     is,
   )
 
-  -- the same, if `new` is what waited with such a text appended
+  -- if `new` is `old`, which waited, with the text of the next name, then the texts of one name more are taken or wait
   pub more_waits : (names : List (Bor (List ℕ))) (i : ℕ) (d : Bor (List ℕ)) (old new : List ℕ) → i < length names
       → IsTakenOrWaits mib style (texts_at (take i names)) before now old
       → (one : List ℕ) × IsTextOf mib style (get_or names i d).now one × (new ≡ old ++ one)
@@ -73,7 +74,7 @@ module _ (mib : Contents) (style : Style) (before now : Stream) where
     stops = inl (none, is);
   }
 
--- two ways to cut a text in two: the first part of one way begins with that of the other
+-- `a` and `b` are a text cut in two, and `c` and `d` are the same text: `a` begins with `c`, or `c` is longer than `a` and begins with it
 abbrev IsCutTwice : (a b c d : List ℕ) → Type 0
 IsCutTwice a b c d = ((p : List ℕ) × (a ≡ c ++ p)) ⊎ ((p : List ℕ) × (c ≡ a ++ p) × (b ≡ p ++ d) × (0 < length p))
 
@@ -114,7 +115,7 @@ at_first mib style name more before after first is fails = record {
   stops = subst (λ (s : Stream). StopsAtName mib style s name after no_output) (sym (stream_after-nil before)) (inr (refl, (first, is, fails)));
 }
 
--- the output fails after a first part of the text of the first name, or after one of those of the later names
+-- if the output fails within `text`, which is `first` and then `rest`, then it fails within `first`, or takes `first` and fails within `rest`
 fails_by_cut : (before after : Stream) (first rest text : List ℕ) (fails : FailsWithin before text after)
     → IsCutTwice first rest fails.begun.prefix fails.begun.rest
     → FailsWithin before first after ⊎ (FailsWithin (stream_after before first) rest after × (0 < length rest))
@@ -135,7 +136,7 @@ fails_by_cut before after first rest text fails (inr (p, e, f, some)) = inr (
   grind (arith, common_steps),
 )
 
--- if the output fails within the text of the first name, or within those of the later names, then printing stops at one of the names
+-- if the output fails within the text of the first name, or within the texts of the later names, then printing stops at one of the names
 first_or_later : (mib : Contents) (style : Style) (name : List ℕ) (more : List (List ℕ)) (before after : Stream) (first rest : List ℕ)
     → IsTextOf mib style name first
     → (FailsWithin (stream_after before first) rest after → 0 < length rest → StopsWithin mib style more (stream_after before first) after no_output)
@@ -167,7 +168,7 @@ goes_on mib style names more before after why stopped = record {
   stops = stopped.stops;
 }
 
--- the output fails as it takes what waits of the first i names
+-- if the output fails within what waits of the texts of the first `i` names, then printing stops at one of the names
 pub fails_within : (mib : Contents) (style : Style) (names : List (Bor (List ℕ))) (i : ℕ) (before now after : Stream) (waiting : List ℕ)
     → IsTakenOrWaits mib style (texts_at (take i names)) before now waiting → 0 < length waiting → FailsWithin now waiting after
     → StopsWithin mib style (texts_at names) before after no_output
@@ -180,7 +181,7 @@ fails_within mib style names i before now after waiting (taken, texts, is) some 
       counted = subst (λ (s : Stream). HasIncreased s.faults after.faults) is fails.counted;
     })))
 
--- all names were read, and what waits is written
+-- if all names were read, and what waits was passed to the output, then the result of this write says whether all names were printed or printing stopped
 pub all_written : (mib : Contents) (style : Style) (names : List (Bor (List ℕ))) (i : ℕ) (before now after : Stream) (waiting left : List ℕ)
     (r : Result (Unit {0}) Failure)
     → take i names ≡ names → IsTakenOrWaits mib style (texts_at (take i names)) before now waiting

@@ -1,4 +1,4 @@
--- Why snmptranslate prints nothing: memory ran out, or its module files fail (`modules_fail`).
+-- If snmptranslate accepts its letters, and memory runs out or its module files fail, then it is refused as `IsTranslateRefusal` says (`modules_fail`).
 use Rattle.std.proofs.Common.{arith, ◌≡◌, ◌⊎◌, inl, inr, refl, ℕ, Some, None}
 use Rattle.std.proofs.lemmas.Grind.{common_steps}
 use Rattle.smi_value.specs.Letters.{first_other}

@@ -14,7 +14,7 @@ use Rattle.snmp_tools.specs.Lines.{AreLines}
 use Rattle.smi_tree.specs.{Tree.Contents}
 use Rattle.snmp_tools.proofs.Printed.{lines_of_both, prints}
 
--- a prefix of two texts ends within the first or contains it
+-- `line` begins with `prefix`, or `prefix` is `line` followed by the start of `rest`, and `left` is what remains of `rest`
 abbrev Ends : (line rest prefix left : List ℕ) → Type 0
 Ends line rest prefix left = ((cut : List ℕ) × (line ≡ prefix ++ cut)) ⊎ ((more : List ℕ) × (prefix ≡ line ++ more) × (rest ≡ more ++ left))
 
@@ -127,12 +127,12 @@ module _ {S N : Type 0} (tree : S → Contents) (letters : S → Letters) (name 
             (subst (λ s. FailsWithin s rest (stream new)) (sym (reaches old line)) fails))
       ]
 
-  -- a refused row of `rows` is the refused one of all, which begin with these
+  -- if a row of `rows` was refused, and `all` begins with `rows`, then this row is the refused one of `all` too
   pub refused_before : (old new : S) (rows left all : List VarBind) (why : SinkFault) → all ≡ rows ++ left → IsCutOff old rows why new
       → IsCutOff old all why new
   refused_before old new rows left all why parts (prefix, p, back, order, between, given, refused) = grind (arith, common_steps, append_assoc)
 
-  -- the lines `text` were passed to the output, whose stream was that of `old` before
+  -- the lines `text` were passed to the output; before that, the output was as in the state `old`
   module _ (old new : S) (p : VarBind) (more left all : List VarBind) (text sent : List ℕ) (start : Stream) (is : IsLike new old)
       (lines : AreLines (tree old) (letters old) (p ∷ more) text) (parts : all ≡ (p ∷ more) ++ left) (whole : sent ≡ text)
       (first : start ≡ stream old) where
@@ -147,7 +147,7 @@ module _ {S N : Type 0} (tree : S → Contents) (letters : S → Letters) (name 
         subst P (sym is_all) (given_all old new p more text is lines (taken e))
     given_if (Err why) none e = tt
 
-    -- if memory ran out for the next line, its row was refused
+    -- if `text` was written and memory ran out for the line of the next row, then the sink took the rows before and refused this one
     pub refused_next : (q : VarBind) (more_left : List VarBind) → left ≡ q ∷ more_left → stream new ≡ stream_after start sent
         → IsCutOff old all fault.Memory new
     refused_next q more_left next e = (

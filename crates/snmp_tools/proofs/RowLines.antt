@@ -1,4 +1,4 @@
--- If no object has a syntax, the lines of rows are those of `RowText` (`lines_are`).
+-- If no object has a syntax, then `RowText` defines the line of each row (`lines_are`).
 use Rattle.std.proofs.Common.{arith, ◌≡◌, refl, ap, ◌∙◌, ℕ, Bool, true, false, List, [], ◌∷◌, ◌++◌, None, append-nil}
 use Rattle.std.proofs.{lemmas.Grind.common_steps, lemmas.Bool.and_parts}
 use Rattle.std.specs.{Prelude.codes, Prelude.if◌then◌else◌, Prelude.decimal, Fmt.signed_decimal, List.flat_map, List.list_all}
@@ -15,7 +15,7 @@ use Rattle.snmp_tools.specs.{Lines.AreLines, RowText.row_line, RowText.string_te
 use Rattle.smi_tree.specs.{Tree.Contents}
 use Rattle.smi_tree.specs.{Naming.nearest_syntax}
 
--- the letters of `-On`
+-- what `-On` says: names are shown in numbers, and values as without letters
 abbrev pub numeric_letters : Letters
 numeric_letters = record {
   names = names.Numeric;
@@ -54,7 +54,7 @@ string_is (x ∷ xs) = text_is (x ∷ xs) (list_all is_printable (x ∷ xs)) ref
 
 -- ---- values
 
--- a text of a type's name, a shown number and nothing else is the name followed by the number
+-- if `text` is `word` and then `shown`, and `shown` is `number`, then `text` is `word` and then `number`
 number_is : (word shown number text : List ℕ) → shown ≡ number → text ≡ word ++ shown ++ [] → text ≡ word ++ number
 number_is word shown number text e whole = whole ∙ append-nil (word ++ shown) ∙ ap (λ (t : List ℕ). word ++ t) e
 

@@ -1,4 +1,4 @@
--- Why nothing is served: memory ran out, or the module files fail (`modules_fail`).
+-- If snmpd accepts its community and address, and memory runs out or its module files fail, then it is refused as `IsServeRefusal` says (`modules_fail`).
 use Rattle.std.proofs.Common.{arith, ◌≡◌, ◌⊎◌, ◌<◌, ◌≤◌, ◌+◌, inl, inr, refl, subst, ℕ, List, Option, length}
 use Rattle.std.proofs.lemmas.Grind.{common_steps}
 use Rattle.snmp_agent.specs.{Reply.Agent, declared.server.Served.Served, table.Table.MibView}

@@ -1,5 +1,4 @@
--- Why a job that asks an agent is refused (`at_showing` to `unsent`): the first step that fails,
--- after those that are done.
+-- A job that asks an agent is refused at the first step that fails; the steps before it are done (`at_showing` to `unsent`).
 use Rattle.std.proofs.{lemmas.Grind.common_steps, lemmas.List.Elements.All-head, lemmas.List.Elements.All-tail, lemmas.List.Elements.AllZip-push}
 use Rattle.std.proofs.Common.{◌≡◌, ◌⊎◌, inl, inr, ◌++◌, ◌+◌, ◌<◌, ℕ, zero, suc, List, [], ◌∷◌, All, Bor, Option, Some, None, Ok, length, map, take}
 use Rattle.std.proofs.Common.{drop, get_or, option_map, unwrap_or, refl, sym, ◌∙◌, ap, subst, append_assoc, arith}
@@ -22,7 +21,7 @@ use Rattle.snmp_tools.specs.declared.plan.Question.TheVariants as questions
 use Rattle.smi_tree.specs.{Tree.Contents}
 use Rattle.snmp_tools.proofs.Texts.{texts-more, texts-parts}
 
--- the text of an optional reference or its default is the text of the reference, or that of the default if there is none
+-- if `r` is the reference in `o`, or `d` if `o` is `None`, then the text of `r` is the text of the reference in `o`, or the text of `d` if `o` is `None`
 pub text_or : (o : Option (Bor (List ℕ))) (d r : Bor (List ℕ)) → r ≡ unwrap_or o d → r.now ≡ unwrap_or (option_map (λ s. s.now) o) d.now
 text_or None d r e = ap (λ (s : Bor (List ℕ)). s.now) e
 text_or (Some t) d r e = ap (λ (s : Bor (List ℕ)). s.now) e
@@ -41,18 +40,18 @@ module _ {S : Type 0} (IsDone : S → Type 0) (Fails : S → Fault → Type 0) (
     fails = h.fails;
   }
 
--- steps that are done may come before the first that fails
+-- if `steps` have a first step that fails, and all steps of `done` are done, then this is the first that fails of `done ++ steps`
 after_all : {S : Type 0} (IsDone : S → Type 0) (Fails : S → Fault → Type 0) (why : Fault) (done steps : List S) → AreDone IsDone done
     → IsFirstToFail steps IsDone Fails why → IsFirstToFail (done ++ steps) IsDone Fails why
 after_all IsDone Fails why [] steps d h = h
 after_all IsDone Fails why (step ∷ done) steps d h = later IsDone Fails why step (done ++ steps) d.0 (after_all IsDone Fails why done steps d.1 h)
 
--- more steps may come after the first that fails
+-- if `steps` have a first step that fails, then it is the first that fails of `steps ++ more` too
 before_more : {S : Type 0} (IsDone : S → Type 0) (Fails : S → Fault → Type 0) (why : Fault) (steps more : List S) → IsFirstToFail steps IsDone Fails why
     → IsFirstToFail (steps ++ more) IsDone Fails why
 before_more {S} IsDone Fails why steps more h = grind (arith, common_steps, append_assoc)
 
--- steps that a function maps to other steps
+-- if `f step` is done whenever `step` is, and fails whenever `step` fails, then `f` maps the first step that fails to the first that fails
 module _ {S T : Type 0} (f : S → T) where
   map_parts : (done : List S) (failed : S) (left : List S) → map f (done ++ failed ∷ left) ≡ map f done ++ f failed ∷ map f left
   map_parts [] failed left = refl
@@ -80,7 +79,7 @@ are_named mib [] os e = tt
 are_named mib (text ∷ texts) [] e = absurd e
 are_named mib (text ∷ texts) (name ∷ os) e = ((name, e.0), are_named mib texts os e.1)
 
--- what holds of the step of each name with a meaning holds of all steps of a request's names
+-- if `P` holds of the step of each name with a meaning, then it holds of all steps that look up the names of a request
 module _ (mib : Contents) (P : LaterStep → Type 0) (one : (text o : List ℕ) → TextMeans mib text (Ok o) → P (name_step text)) where
   each_text : (texts os : List (List ℕ)) → AreNames mib texts os → AreDone P (map name_step texts)
   each_text [] os e = tt
@@ -102,7 +101,7 @@ pub more_names : (mib : Contents) (texts : List (Bor (List ℕ))) (i : ℕ) (d :
     → AreNames mib (texts_at (take (i + 1) texts)) (os ++ o ∷ [])
 more_names mib texts i d os o inside are means = grind (arith, common_steps, texts-more, AllZip-push)
 
--- the text at index `i` is the first that means no identifier
+-- if the first `i` texts mean identifiers, and the text at index `i` doesn't, then it is the first that fails
 pub first_unnamed : (mib : Contents) (texts : List (Bor (List ℕ))) (i : ℕ) (d : Bor (List ℕ)) (os : List (List ℕ)) (why : Fault) → i < length texts
     → AreNames mib (texts_at (take i texts)) os → NameFails mib (get_or texts i d).now why
     → IsFirstToFail (texts_at texts) (HasMeaning mib) (NameFails mib) why
@@ -115,7 +114,7 @@ first_unnamed mib texts i d os why inside are fails = record {
   fails = fails;
 }
 
--- the name at index `i` is the first that can't be sent
+-- if the first `i` names can be sent, and the name at index `i` can't, then its text is the first that fails
 pub first_unsent : (mib : Contents) (texts : List (Bor (List ℕ))) (os : List (List ℕ)) (i : ℕ) (text d : Bor (List ℕ)) (o e : List ℕ)
     → AreNames mib (texts_at texts) os → i < length os → text ≡ get_or texts i d → o ≡ get_or os i e
     → All (λ n. IsWire (wire n)) (take i os) → (IsWire (wire o) → ⊥)
@@ -137,7 +136,7 @@ module _ (words : AskWords) (files : Holdings) (why : Fault) where
   abbrev Refused : List LoadingStep → Type 0
   Refused steps = IsFirstToFail steps Done Fails why
 
-  -- the job is refused before any module file is read
+  -- if the version or the letters of -O are refused, then the job is refused before any module file is read
   pub at_showing : ShowingFails words.asking why → IsEarlyRefusal words files why
   at_showing (inl f) = inr (first Done Fails why (asking version_step) _ f)
   at_showing (inr f) = inr (later Done Fails why (asking version_step) _ f.0 (first Done Fails why (asking letters_step) _ f.1))
@@ -214,7 +213,7 @@ module _ (words : AskWords) (files : Holdings) (why : Fault) where
           → AreDone DoneBy (name_steps request)
       names_done = each_name mib DoneBy (λ text o means. (o, means))
 
-      -- the name to continue after is neither the root nor below it, or can't be sent
+      -- if the walk can't continue after the name to continue after, then one of the steps that test this name is the first that fails
       resumed : (root after : List ℕ) (text : List ℕ) (given planned : Option (List ℕ)) → IsOptionalName mib given planned → planned ≡ Some after
           → TextMeans mib text (Ok root) → ResumeFails root after (unwrap_or given []) why
           → RefusedBy (goes_on_after (λ t. below_step text t ∷ sent_step t ∷ []) given)
@@ -254,7 +253,7 @@ module _ (words : AskWords) (files : Holdings) (why : Fault) where
             (names_done words.request asked.choices (question_of plan.question) asked.question)
             (first DoneBy FailsLater why reach_step [] (agent, only_agent, f))))
 
-        -- a name can't be sent, or the walk can't continue after it
+        -- if the question can't be asked, then the job is refused at one of the last steps, which test the names
         pub unsent : HasTextsOf words.request plan.question → IsReached files mib agent → BeginFails plan.question why → IsLastRefusal words files mib why
         unsent are reached f = record {
           loaded = loading_done;

@@ -1,5 +1,5 @@
--- Which lines a walk of a table file in numbers prints (`prints_rows`), and what it asks for if
--- snmpd serves the file (`asked_in_numbers`).
+-- A walk of a table file in numbers prints the lines that `PrintsRows` says (`prints_rows`). If snmpd serves the file, the walk asks for the rows that
+-- `IsAskInNumbers` says (`asked_in_numbers`).
 use Rattle.std.proofs.{lemmas.Grind.common_steps, lemmas.List.Concat.flat_map-append, lemmas.List.Kept.AllPairs-cons}
 use Rattle.std.proofs.Common.{◌≡◌, ◌≢◌, ◌⊎◌, inl, inr, refl, sym, ◌∙◌, subst, ℕ, zero, suc, ◌+◌, ◌<◌, ◌≤◌, Bool, false, List, [], ◌∷◌, ◌↔◌, ◌++◌, ap}
 use Rattle.std.proofs.Common.{length, None, Ok, Option, Some, arith, append-nil, append_assoc}
@@ -151,7 +151,7 @@ are_walked ls root got (row ∷ more) are is_got = page.below (λ e. cc) are
 
 -- ---- what is written
 
--- a prefix of the lines of the first rows is one of the lines of all rows
+-- a prefix of the lines of the first rows, or of all rows, is a prefix of the lines of all rows
 prefix_is : (mib : Contents) (before after : Stream) (rows first rest : List VarBind) (text : List ℕ) → HasNoSyntax mib → rows ≡ first ++ rest
     → AreLines mib numeric_letters first text ⊎ ((shown : List ℕ) × AreLines mib numeric_letters rows shown × (text ≡ shown ++ []))
     → TakesPrefix before text after → TakesPrefix before (flat_map row_line rows) after
@@ -163,7 +163,7 @@ all_are : (mib : Contents) (before after : Stream) (rows : List VarBind) (text :
     → after ≡ stream_after before (flat_map row_line rows)
 all_are mib before after rows text none (shown, are, whole) written = grind (arith, common_steps, append-nil, lines_are)
 
--- if there are no warnings, no octets were written for them
+-- if `now` is `before`, or an output took no octets from `before` to `now`, then it took no octets
 no_warnings : (before now : Stream) → (now ≡ before) ⊎ IsWritten before [] now → IsWritten before [] now
 no_warnings before now (inl same) = inl (same ∙ sym (stream_after-nil before))
 no_warnings before now (inr written) = written
@@ -189,7 +189,7 @@ only_is_long : (got : VarBind) (rows : List VarBind) → length rows ≤ length 
 only_is_long got [] = omega arith
 only_is_long got (row ∷ more) = omega arith
 
--- if strings are short, there is room for each row
+-- if strings are short, the community has at most 30 octets, and messages may have 1472 octets, then there is room for each row
 abbrev pub ShortHaveRoom : Type 0
 ShortHaveRoom = (agents : Agents) (view : MibView) (first : WalkState) → first.community ≡ agents.community → length agents.community ≤ 30
     → 1472 ≤ agents.max_size → length first.asked ≤ 128 → IsMibView view → ((p : VarBind) → IsRow view p → IsShort p.value)
@@ -288,7 +288,7 @@ module _ (loads : IsTree [] bare []) (read : NumbersAreRead) (named : AreNamesIn
             (written.ends_at_status_0 (feasible (lines text) path root w.view w.got holds.identifier holds.sendable w.in_lines w.is_view room short few));
       }
 
-  -- what a walk asks for if snmpd serves the table file
+  -- if snmpd serves the table file to a walk in numbers, then the walk asks for the rows that `IsAskInNumbers` says
   pub asked_in_numbers : (words : WalkWords) (files : Holdings) (serving : ServeWords) (server_files : Holdings) (line : List (List ℕ)) (root text : List ℕ)
       → IsWalkInNumbers words root → StateJob line (snmpd serving) → serving.mibs ≡ [] → HoldsTableFile server_files serving.table root text
       → IsAskInNumbers words files serving server_files (lines text) root

@@ -1,4 +1,4 @@
--- Texts that are appended one after the other, or printed.
+-- Lemmas about texts that are appended one after the other, and about texts that were printed or not.
 use Rattle.std.proofs.Common.{arith, ◌≡◌, ◌∙◌, ◌+◌, ◌<◌, ap, ℕ, List, [], ◌∷◌, ◌++◌, Option, Some, None, inl, inr, Bor, sym, append_assoc, drop}
 use Rattle.std.proofs.Common.{get_or, length, take}
 use Rattle.std.proofs.{lemmas.Grind.common_steps, lemmas.List.drop_more, lemmas.List.map-append, lemmas.List.take-append-drop, lemmas.List.take_more}
@@ -34,7 +34,7 @@ printed before after text line fault same none (inl (is, e)) = is ∙ ap (stream
 printed before after text line fault same none (inr (inl (kept, e))) = let no : ⊥ = cc in absurd no
 printed before after text line fault same none (inr (inr (fails, e))) = let no : ⊥ = cc in absurd no
 
--- a text wasn't printed, for the reason that a `?` returns
+-- if `text` wasn't printed for the reason `why`, and a `?` returns this reason, then `StopsAtText` holds of `line`, which is `text`, and this reason
 pub stopped : (before after : Stream) (text line : List ℕ) (fault returned : Option Fault) (why : Fault) → text ≡ line → fault ≡ Some why
     → returned ≡ Some why → IsTextPrinted before text after fault → StopsAtText before line after returned
 stopped before after text line fault returned why same some is (inl (taken, e)) = let no : ⊥ = cc in absurd no

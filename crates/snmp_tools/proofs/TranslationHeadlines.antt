@@ -1,4 +1,4 @@
--- What the outcome says of the texts of all names.
+-- From the outcome of snmptranslate follows what `Headline` says of the texts of its names (`all_printed`, `prefix_printed`).
 use Rattle.std.proofs.Common.{arith, ◌≡◌, ◌∙◌, ◌++◌, inl, inr, refl, sym, subst, ℕ, List, [], ◌∷◌, Option, Some, None, append_assoc, append-nil}
 use Rattle.std.proofs.lemmas.Grind.{common_steps}
 use Rattle.snmp_tools.specs.{load.Loaded.IsLoaded, load.Loaded.LoadFacts, FaultText.Fault, translate.Style.IsStyleOf}

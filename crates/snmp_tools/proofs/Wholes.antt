@@ -1,5 +1,5 @@
--- Exits by `?` (`outcome_err`, `outcome_as`, `if_err`), and loads of a job's module files
--- (`loads_from`, `loads_of`, `mibs_fail`).
+-- An exit by `?` has the fault of its failure as its outcome (`outcome_err`, `outcome_as`, `if_err`). What holds of a load of the files at `given` holds of a
+-- load of a job's module files, if the paths are equal (`loads_from`, `loads_of`, `mibs_fail`).
 use Rattle.std.proofs.Common.{arith, ◌≡◌, ◌⊎◌, inl, inr, refl, ap, ℕ, List, Bor, Option, Some, Result, Ok, Err, subst, sym}
 use Rattle.std.proofs.lemmas.Grind.{common_steps}
 use Rattle.std.specs.{Prelude.IfErr, Result.IsErrAnd}
@@ -35,7 +35,7 @@ pub loads_of : (Loads : LoadFacts) (given paths : List (Bor (List ℕ))) (before
     → Loads (texts given) before after → Loads (texts paths) before after
 loads_of Loads given paths before after same = subst (λ (ps : List (Bor (List ℕ))). Loads (texts ps) before after) same
 
--- why module files can't be loaded
+-- if module files can't be loaded, then the job's fault is that memory ran out, or it is as `MibsFail` says
 module _ (files : Holdings) (given paths : List (Bor (List ℕ))) (same : given ≡ paths) where
   abbrev HasOnly : Refusal → Type 0
   HasOnly why = (modules : List Module) → AreModulesOf (Holds files) (texts given) modules → why ≡ no_memory

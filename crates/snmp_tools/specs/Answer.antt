@@ -51,7 +51,7 @@ abbrev pub CanGoOn : List ℕ → Option (List ℕ) → Type 0
 CanGoOn root None = Unit {0}
 CanGoOn root (Some after) = IsAtOrBelow after root × IsWire (wire after)
 
--- the names of the question can be sent, and a walk can continue after its name
+-- the names of the question can be sent, and a walk that continues after a name can do so
 abbrev pub CanBeSent : Question → Type 0
 CanBeSent (names os) = All (λ o. IsWire (wire o)) os
 CanBeSent (subtree w) = IsWire (wire w.root) × CanGoOn w.root w.after
@@ -82,8 +82,8 @@ abbrev pub Counts : WalkEnd → ℕ → Type 0
 Counts (ending.Done count) n = count ≡ n
 Counts _ n = Unit {0}
 
--- why the run ended: with an error only if there is no room, or if there are no more ids or no
--- reply
+-- the run ended for a reason: early only if a message didn't fit, if the ids were used up, if no
+-- reply arrived, or if the link or the sink failed
 abbrev pub HasReason : Question → Plan → MibView → (given : List VarBind) → WalkEnd → Type 0
 HasReason (names os) plan view given end =
     IsEndOfGet (IsTooBig (agent_over plan view) (request_for plan os) os) ⊥
@@ -101,7 +101,7 @@ pub record IsAsked (plan : Plan) (question : Question) (view : MibView)
   pub whole : (rows : List VarBind) → AreRowsOf question view rows → IsDone end → given ≡ rows
   pub linked : end ≢ ending.Link
   pub reason : HasReason question plan view given end
-  -- if there is room, it ends early only if the output fails or memory runs out
+  -- if there is room, the run ends early only if the output fails or memory runs out
   pub complete : HasRoomFor question plan view → IsOwnEnd end
 
 -- ---- over any link
@@ -114,9 +114,10 @@ IsAskedOver {W} facts link after tries plan (names os) given refused end =
 IsAskedOver {W} facts link after tries plan (subtree w) given refused end =
     IsWalkedOver facts link after tries (first_of plan.community w) given refused end
 
--- What is known of a run over a link over which nothing was sent before. `link` is its state
--- before the run, and `after` its state after it. `Linked` says that the link was opened in the
--- first and closed in the second, so nothing else happened over it.
+-- What is known of a run over a link, if nothing was sent over the link before. `link` is the
+-- state of the link before the run, and `after` its state after the run. `Linked` says that the
+-- link was opened in the state `link` and closed in the state `after`, so nothing else happened
+-- over it.
 pub record HasFacts {W : Type 0} (Linked : (link after : W) → Type 0) (facts : LinkFacts W)
     (tries : ℕ) (plan : Plan) (given refused : List VarBind) (end : WalkEnd) : Type 0 where
   pub link : W

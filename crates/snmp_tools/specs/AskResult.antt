@@ -88,7 +88,7 @@ pub data IsOutcomeBy {N V D : Type 0} (net : Network N V D) (wire : LinkFacts V)
       fault
       → after ≡ record before { out = after.out }
       → IsOutcomeBy net wire words mib before after fault
-  -- a call of the network failed, which it counted, and nothing was printed
+  -- a call of the network failed, which the network counted, and nothing was printed
   not_linked : (plan : Plan) (host : List ℕ) (port : ℕ) → IsPlanFor words before.files mib plan
       → plan.agent ≡ udp host port → net.fails before.links after.links
       → HasIncreased (net.fault_count before.links) (net.fault_count after.links)
@@ -103,7 +103,8 @@ pub data IsOutcomeBy {N V D : Type 0} (net : Network N V D) (wire : LinkFacts V)
 
 -- What a job wrote on its output, and of the warnings about its modules on standard error. If it
 -- was refused before the modules were loaded, it wrote nothing. Otherwise it first wrote the lines
--- of the warnings, or a prefix of them if standard error failed, and then asked by these modules.
+-- of the warnings, or a prefix of them if standard error failed, and then went on with these
+-- modules.
 pub data IsOutcome {N V D : Type 0} (net : Network N V D) (wire : LinkFacts V) (Loads : LoadFacts)
     (words : AskWords) (before after : Seen N) (fault : Option Fault) : Type 0 where
   not_loaded : (why : Fault) → IsEarlyRefusal words before.files why → after ≡ before
@@ -117,8 +118,9 @@ pub data IsOutcome {N V D : Type 0} (net : Network N V D) (wire : LinkFacts V) (
 
 -- ---- what is reported
 
--- The status, and the line of a fault on standard error, or `Out of memory.` if there was no
--- memory for the line. If standard error fails, it takes a prefix of that.
+-- Without a fault, the status is 0 and nothing is reported. Otherwise the status is that of the
+-- fault. Its line is written to standard error, or `Out of memory.` if there was no memory for the
+-- line. If standard error fails, it takes a prefix of what is written.
 abbrev pub IsReported : Option Fault → Stream → Stream → ℕ → Type 0
 IsReported None before after status = (status ≡ 0) × (after ≡ before)
 IsReported (Some why) before after status =

@@ -54,7 +54,8 @@ AskingFails words agent_step why =
 
 -- ---- module files, names and agents
 
--- `why` is that of the first module file that can't be read or whose text has a fault
+-- `why` is the reason of the first module file that can't be read or whose text has a fault, and
+-- it isn't known that the files hold modules
 abbrev pub MibsFail : Holdings → (paths : List (List ℕ)) → Fault → Type 0
 MibsFail files paths why =
     (refusal : Refusal) × FilesFail files paths refusal × (why ≡ bad_modules refusal)
@@ -65,7 +66,7 @@ abbrev pub NameFails : Contents → List ℕ → Fault → Type 0
 NameFails tree text why =
     (error : NameError) × TextMeans tree text (Err error) × (why ≡ bad_name error text)
 
--- `name` is the identifier that the text means, or None if there is no text
+-- `name` is the identifier that the text means, or None without a text
 abbrev pub IsOptionalName : Contents → Option (List ℕ) → Option (List ℕ) → Type 0
 IsOptionalName mib None name = name ≡ None
 IsOptionalName mib (Some text) name =
@@ -76,7 +77,7 @@ abbrev pub IsReached : Holdings → Contents → Address → Type 0
 IsReached files mib (table path) = (view : MibView) × HasTable files mib path view
 IsReached files mib (udp host port) = Unit {0}
 
--- the agent's table file can't be read or doesn't define a table
+-- the agent's table file fails for the reason `why`, as `TableFails` says
 abbrev pub ReachFails : Holdings → Contents → Address → Fault → Type 0
 ReachFails files mib (table path) why = TableFails files mib path why
 ReachFails files mib (udp host port) why = ⊥

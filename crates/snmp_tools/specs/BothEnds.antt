@@ -2,8 +2,8 @@
 -- happened at the two ends of the network between them, and the lines, on one page.
 --
 -- `tool` promises `IsAskDone` of the arguments that ask, and `IsServeRun` of the arguments of
--- snmpd (both in `Done`). From both follows `PrintsServed`. Its lines are those of `Headline`, and
--- its premise about the network is `IsFaithful` (snmp_walk).
+-- snmpd (both in `Done`). From both follows `PrintsServed`. `Headline` defines which lines are
+-- printed, and the premise about the network is `IsFaithful` (snmp_walk).
 use Rattle.std.specs.Prelude.{◌≡◌, ◌≢◌, ◌≤◌, ◌⊎◌, ◌+◌, ℕ, false, List, [], length, codes, Option}
 use Rattle.std.specs.Prelude.{Some, None}
 use Rattle.std.specs.{List.flat_map, Str.Lines.lines}
@@ -32,7 +32,7 @@ use Rattle.snmp_tools.specs.Question.{AskFor, AskWords, Plan, Question, names, o
 use Rattle.snmp_tools.specs.Question.{subtree}
 use Rattle.smi_tree.specs.{Tree.Contents}
 
--- ---- what is asked, and of which table
+-- ---- what is asked, and about which table
 
 -- The arguments `words` ask an agent over the network. `serving` is what the arguments of snmpd
 -- say, and its table file is known to define a table. `rows` is the answer to the question from
@@ -72,9 +72,9 @@ events_of {W} facts link later tries plan (subtree w) given refused end run = ru
 
 -- What happened at the end that asks. `asked`: a link was opened, the question was asked over it,
 -- the link was closed as the run left it, and the bindings of the run were printed. `events`
--- happened in the run, in turn, as the link says. `not_linked`, `not_asked`: nothing happened,
--- since no link was opened, or one was opened and closed as it was because the question was
--- refused. Then nothing is printed, and the status isn't 0.
+-- happened in the run, one after the other, as the link says. `not_linked`, `not_asked`: nothing
+-- happened, since no link was opened, or one was opened and closed as it was because the question
+-- was refused. Then nothing is printed, and the status isn't 0.
 pub data IsAtAsker {N V D : Type 0} (net : Network N V D) (wire : LinkFacts V) (words : AskWords)
     (mib : Contents) (plan : Plan) (before after : Seen N) (status : ℕ)
     (events : List (Event (Unit {0}))) : Type 0 where
@@ -104,9 +104,9 @@ AreTurnsAt {D} {P} {E} endpoint_at happens door agent turns served later events 
     AreTurns agent turns served events
     × InTurn happens (endpoint_at door) events (endpoint_at later)
 
--- At each door of the network an agent is served in turn: what can be served there are turns. In
--- each of them a datagram arrived and got the agent's reply or was dropped, or none arrived, or a
--- receive or a send failed.
+-- At each door (server socket) of the network an agent is served turn by turn. In each turn a
+-- datagram arrived and got the agent's reply or was dropped, or none arrived, or a receive or a
+-- send failed.
 abbrev pub ServesInTurn : {N V D P E : Type 0} → Network N V D → (endpoint_at : D → E)
     → (happens : E → Event P → E → Type 0) → Type 0
 ServesInTurn {N} {V} {D} {P} {E} net endpoint_at happens =

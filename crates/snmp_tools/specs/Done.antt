@@ -28,9 +28,11 @@ pub record IsTranslated (Loads : LoadFacts) (words : TranslateWords) (files : Ho
   pub warned : Stream
   pub outcome : IsTranslateOutcome Loads words files out_before out_after err_before warned fault
   pub is_reported : IsReported fault warned err_after status
-  -- at status 0 the texts of all names are printed, and nothing else
+  -- at status 0, if the module files are known, the texts of all names are printed, and nothing
+  -- else
   pub all_at_status_0 : status ≡ 0 → PrintsAll words files out_before out_after
-  -- whatever fails, nothing is printed, or a prefix of the texts of the first names
+  -- whatever fails, if the module files are known, nothing is printed, or a prefix of the texts of
+  -- the first names
   pub prefix : PrintsPrefix words files out_before out_after
 
 -- how snmpd ended, and what it reports after the warnings about its modules

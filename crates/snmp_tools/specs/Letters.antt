@@ -10,7 +10,8 @@ use Rattle.snmp_walk.specs.declared.mode.Method.TheVariants as method
 use Rattle.snmp_walk.specs.declared.mode.Mode.TheVariants as mode
 
 -- what the letters of -C choose: `i` includes the root, `p` counts what is printed, snmpwalk's `I`
--- leaves out the last Get, and snmpbulkwalk's `r` is followed by the number of repetitions
+-- leaves out the last Get of the root, and snmpbulkwalk's `r` is followed by the number of
+-- repetitions
 pub record Choices : Type 0 where
   pub includes_root : Bool
   pub leaves_last_get : Bool
@@ -28,7 +29,7 @@ no_choices = record {
 
 -- ---- letters
 
--- `text` is these letters in order, each with the digits after it
+-- `text` is the octets of `letters` in order, each letter with the digits after it
 abbrev pub AreLettersIn : (text : List ℕ) → (letters : List (ℕ × List ℕ)) → Type 0
 AreLettersIn text [] = text ≡ []
 AreLettersIn text ((letter, digits) ∷ more) = (rest : List ℕ)
@@ -77,8 +78,8 @@ pub record HaveChosen (bulk : Bool) (text : List ℕ) (choices : Choices) : Type
   pub leaves_last_get : choices.leaves_last_get ≡ has 73 letters
   pub repetitions : IsLastNumber letters choices.repetitions
 
--- `octet` is reported if not all letters have a meaning: a digit that `text` begins with, or what
--- `IsUnknown` says of the first letter that has none
+-- `octet` is the first in `text` without a meaning: a digit that `text` begins with, or the octet
+-- that `IsUnknown` reports of the first letter without a meaning
 abbrev pub IsFirstUnknown : (bulk : Bool) → (text : List ℕ) → (octet : ℕ) → Type 0
 IsFirstUnknown bulk text octet =
     ((rest : List ℕ) × (text ≡ octet ∷ rest) × (is_ascii_digit octet ≡ true))

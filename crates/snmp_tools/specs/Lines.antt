@@ -41,7 +41,7 @@ abbrev pub IsTextPrinted : (before : Stream) → (text : List ℕ) → (after : 
 IsTextPrinted before text after fault =
     ((after ≡ stream_after before text) × (fault ≡ None)) ⊎ StopsAtText before text after fault
 
--- the line of -Cp
+-- the line of -Cp, which says how many bindings were found
 abbrev pub count_line : ℕ → List ℕ
 count_line count = codes "Variables found: " ++ decimal count ++ codes "\n"
 

@@ -220,14 +220,14 @@ FailsBy words files mib (below_step root_text text) why =
     HaveNames mib root_text text
     (λ root after. (IsAtOrBelow after root → ⊥) × (why ≡ outside_root text))
 
--- why no modules were loaded: memory ran out, or a step up to loading them failed
+-- `why` is why no modules were loaded: memory ran out, or a step up to loading them failed
 abbrev pub IsEarlyRefusal : AskWords → Holdings → Fault → Type 0
 IsEarlyRefusal words files why =
     (why ≡ out_of_memory)
     ⊎ IsFirstToFail loading_steps (IsDoneFor words files) (FailsFor words files) why
 
--- why no agent is reached after the modules were loaded: memory ran out, or a later step up to
--- reaching it failed
+-- `why` is why no agent is reached after the modules were loaded: memory ran out, or a later step
+-- up to reaching the agent failed
 pub record IsLateRefusal (words : AskWords) (files : Holdings) (mib : Contents) (why : Fault)
     : Type 0 where
   pub loaded : AreDone (IsDoneFor words files) loading_steps
@@ -235,7 +235,8 @@ pub record IsLateRefusal (words : AskWords) (files : Holdings) (mib : Contents) 
       ⊎ IsFirstToFail (reaching_steps words.request) (IsDoneBy words files mib)
       (FailsBy words files mib) why
 
--- why the agent that was reached isn't asked: the first of the last steps that fails
+-- `why` is why the agent that was reached isn't asked: one of the last steps, which test the
+-- names, failed
 pub record IsLastRefusal (words : AskWords) (files : Holdings) (mib : Contents) (why : Fault)
     : Type 0 where
   pub loaded : AreDone (IsDoneFor words files) loading_steps

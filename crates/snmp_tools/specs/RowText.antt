@@ -18,7 +18,7 @@ string_text (octet ∷ more) =
     then codes "STRING: \"" ++ flat_map escape_octet (octet ∷ more) ++ codes "\""
     else codes "Hex-STRING: " ++ hexadecimal_text (octet ∷ more)
 
--- a value after the name of its type, or what NULL and the exceptions say
+-- a value after the name of its type; NULL and the exceptions have a text of their own
 abbrev pub value_text : Datum → List ℕ
 value_text (integer_value n) = codes "INTEGER: " ++ signed_decimal n
 value_text (octet_string octets) = string_text octets

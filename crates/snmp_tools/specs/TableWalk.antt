@@ -19,15 +19,16 @@ use Rattle.snmp_tools.specs.RowText.{row_line}
 
 -- ---- what is asked for
 
--- the arguments of the command line, the first of which is the program's name
+-- the arguments of the command line; the first is the program's name
 abbrev pub table_walk : (path root : List ℕ) → List (List ℕ)
 table_walk path root =
     codes "snmp" ∷ codes "snmpwalk" ∷ codes "-On" ∷ (codes "table:" ++ path) ∷ numeric_text root
     ∷ []
 
--- The file at `path` is known to hold `text`. Its lines define a table, and don't have the mark of
--- the second format. The root can be sent: it has at least two numbers, the first is from 0 to 2,
--- and after 0 or 1 the second is below 40.
+-- `path` isn't empty, and the file there is known to hold `text`. The lines of `text` define a
+-- table, and don't begin with `#snmptab 2`, the mark of the second format of table files. The root
+-- can be sent: it has at least two numbers, the first is from 0 to 2, and after 0 or 1 the second
+-- is below 40.
 pub record HoldsTableFile (files : Holdings) (path root text : List ℕ) : Type 0 where
   pub named : path ≢ []
   pub held : Holds files path text
@@ -64,7 +65,7 @@ pub data AreWalked (lines : List (List ℕ)) (root : List ℕ) (rows : List VarB
 
 -- ---- what is printed
 
--- the lines of the rows are printed, and the status says whether that was done
+-- a prefix of the lines of the rows is printed; at status 0 all of them are
 pub record PrintsRows (lines : List (List ℕ)) (root : List ℕ)
     (before after err_before err_after : Stream) (status : ℕ) : Type 0 where
   pub rows : List VarBind

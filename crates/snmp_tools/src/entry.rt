@@ -15,17 +15,18 @@ use snmp_net::Links;
 use snmp_words::{Job, UsageError, one_job, read_words};
 use std::alloc::Global;
 
-/// Does what a command line asks for, and returns the exit status. `words` are its arguments, the
-/// first of which is the program's name.
+/// Does what a command line asks for, and returns the exit status. `words` are its arguments; the
+/// first is the program's name.
 ///
 /// The status is 0 if all of it was done, 2 if an agent replied with an error status, and 1 in any
 /// other case. A failure is reported as one line on `err`; a mistake in the syntax of the command
 /// line may take several lines.
 ///
-/// [`run_job`] lists the records in which `done` says what a job does. `rows_printed` is a case of
-/// it in plain terms (`specs/TableWalk.antt`): what `snmpwalk -On table:PATH ROOT` prints.
-/// `help_or_mistake` is about all other arguments: the error that is shown (`ShowsError`) is one
-/// that [`read_words`] may return for them.
+/// The clause `done` says what a job does, by the records that [`run_job`] lists. The clause
+/// `rows_printed` says in plain terms (`specs/TableWalk.antt`) what one command line prints:
+/// `snmpwalk -On table:PATH ROOT`. The clause `help_or_mistake` is about arguments with mistakes,
+/// or that ask for help or the version: the error that is shown (`ShowsError`) is one that
+/// [`read_words`] may return for them.
 pub fn tool<F: Files, L: Links, O: Output, E: Output>(
     alloc: Global,
     words: &[&str],
@@ -34,8 +35,9 @@ pub fn tool<F: Files, L: Links, O: Output, E: Output>(
     out: &mut O,
     err: &mut E,
 ) -> u8
-    // A walk of a table file in numbers prints the lines of the rows below the root. If there are
-    // none, it prints the line of what a Get of the root returns. It prints no other lines.
+    // A walk of a table file in numbers prints the lines of the rows below the root or, if there
+    // are none, the line of what a Get of the root returns. It prints all of this at status 0, and
+    // a prefix of it otherwise.
     ensures rows_printed { (path root text : List ℕ)
         → texts_at words.now ≡ table_walk path root
         → HoldsTableFile (F.text_at files.now) path root text
@@ -46,7 +48,8 @@ pub fn tool<F: Files, L: Links, O: Output, E: Output>(
         (seen (F.text_at files.now) links.old (O.stream out.old) (E.stream err.old))
         (seen (F.text_at files.now) links.new (O.stream out.new) (E.stream err.new)) result }
     // If the arguments have faults, one of them is reported with status 1, or the help or version
-    // that they ask for is printed. The network stays as it was.
+    // that they ask for is printed. If memory runs out or the output fails, that is reported. The
+    // network stays as it was.
     ensures help_or_mistake { faults_of (texts_at words.now) ≢ []
         → (links.new ≡ links.old) × IsHelpOrMistake (texts_at words.now)
         (O.stream out.old) (O.stream out.new) (E.stream err.old) (E.stream err.new) result }

@@ -35,7 +35,7 @@ pub enum Failure<'a> {
     Modules(FilesError<'a>),
     /// The table file at this path can't be read.
     Unreadable(&'a str),
-    /// The table file at this path has this fault.
+    /// The table file at this path has this fault, or memory ran out while it was read.
     Table(&'a str, TableError),
     /// The name has no encoding, so it can't be sent.
     NotWire(&'a str),
@@ -178,7 +178,7 @@ fn falling_message(out: &mut Draft, last: &Oid, got: &Oid)
     text_and_name(out, b" >= ", got);
 }
 
-/// Appends an error status, by its name and number, and the error index.
+/// Appends the message about an error status: its name and number, and the error index.
 fn fault_message(out: &mut Draft, status: &i32, index: &i32)
     ensures { Adds out.old (error_status_text status.now index.now) out.new }
 {

@@ -29,16 +29,18 @@ use std::alloc::{AllocError, Global};
 ///
 /// What `done` promises is in the fields of records (`specs/Done.antt`), one for each command:
 ///
-/// - snmpget, snmpwalk and snmpbulkwalk (`IsAskDone`): `outcome_reported` lists the ways in which
-///   the job can end: which step refused it, over which link it asked, what it printed, how it
-///   left the network, and what it reported. `rows_written` is about a table file whose text is
-///   known (`specs/Headline.antt`). Whatever fails, only a prefix of the lines is written
-///   (`prefix_written`). At status 0 all of them are (`all_written_at_status_0`), and the status is
-///   0 if nothing prevents it (`ends_at_status_0`).
-/// - snmptranslate (`IsTranslated`): `outcome` and `is_reported` say the same of it. Whatever
-///   fails, only a prefix of the names' texts is printed (`prefix`). At status 0 all of them are
+/// - snmpget, snmpwalk and snmpbulkwalk (`IsAskDone`): `outcome_reported` lists how the job can
+///   end: the step that refused it, or the link that it asked over, what it printed, how it left
+///   the network, and what it reported. `rows_written` is about a table file whose text is known
+///   (`specs/Headline.antt`). Whatever fails, only a prefix of the lines is written
+///   (`prefix_written`). At status 0 all of them are (`all_written_at_status_0`), and the status
+///   is 0 if nothing prevents it (`ends_at_status_0`).
+/// - snmptranslate (`IsTranslated`): `outcome` lists how the job can end, and `is_reported` says
+///   what it reports. If it is known what the module files hold, then only a prefix of the names'
+///   texts is printed, whatever fails (`prefix`), and at status 0 all of them are
 ///   (`all_at_status_0`). The network stays as it was.
-/// - snmpd (`IsServeRun`): `outcome` and `reported` say the same of it.
+/// - snmpd (`IsServeRun`): `outcome` lists how the job can end, and `reported` says what it
+///   reports.
 pub fn run_job<F: Files, L: Links, O: Output, E: Output>(
     alloc: Global,
     job: &Job<'_>,

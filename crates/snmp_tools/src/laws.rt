@@ -57,9 +57,9 @@ pub(crate) fn table_walks()
 /// [`tool`](crate::tool) promises of the two command lines.
 ///
 /// The network may lose, repeat, delay and reorder datagrams, as UDP may (RFC 768), and other
-/// clients may ask snmpd. `L` opens the link of the walk, and `M` the door (server socket) of
-/// snmpd, at which `D` receives and sends. Nothing relates AGENT to `--listen`, except that what
-/// happened at the two ends is one run of the network.
+/// clients may ask snmpd. `L` opens the link of the walk, and `M` opens the door (server socket)
+/// of snmpd. `D` is the door's endpoint, which receives and sends. Nothing relates AGENT to
+/// `--listen`, except that what happened at the two ends is one run of the network.
 ///
 /// It is known what the files hold, and snmpd has ended: if it served, it has served all its
 /// turns. Nothing is said of when the status is 0. The premise `ServesInTurn` holds of links in
@@ -89,7 +89,9 @@ pub fn served_tables<L: Links, M: Links, D: Endpoint>()
     honest_networks::<D>();
 }
 
-/// Links in memory serve an agent in turn at each of their doors, which are endpoints.
+/// Links in memory serve an agent as `ServesInTurn` says: in each turn a datagram arrives and is
+/// replied to or dropped, or none arrives, or a receive or send fails. Each door (server socket)
+/// in memory is its own endpoint.
 ///
 /// A law: the call does nothing, and its caller may use what it ensures.
 pub fn memory_serves_in_turn()

@@ -2,7 +2,7 @@
 //!
 //! Built on the command line (`snmp_words`), on outputs and files (`snmp_io`), on tables and walks
 //! (`snmp_agent`, `snmp_walk`, `snmp_net`), and on names and values as text (`smi_show`). The
-//! program `snmp` passes it the machine.
+//! program `snmp` passes it the files, network and outputs of the machine.
 //!
 //! # Examples
 //!

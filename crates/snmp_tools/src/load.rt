@@ -53,8 +53,8 @@ pub fn load_tree<'a, F: Files, E: Output>(
     Ok(tree)
 }
 
-/// Files from which a job loads its modules, with warnings written to its error output, of the
-/// type `E`. Implemented for all files.
+/// Files that a job loads its modules from. Warnings about the modules are written to the job's
+/// error output, of the type `E`. Implemented for all [`Files`].
 ///
 /// A job is generic in this trait and in `E`, so that it can't load in another way. It promises
 /// that `loads` relates the states of its error output, and only `load` ensures this. It has no

@@ -1,4 +1,4 @@
-//! Names in arguments: each is looked up, and those of a Get must have an encoding.
+//! Names in arguments: each is looked up, and each name of a Get must have an encoding.
 ghost use Rattle.std.specs.Prelude.{◌≡◌, ◌⊎◌, List, ℕ, All, IfErr, IfOk, Ok, OnOk, Some, length};
 ghost use Rattle.std.specs.Prelude.{option_map};
 ghost use Rattle.smi_show.specs.name.Meant.{TextMeans};
@@ -39,7 +39,7 @@ pub(crate) fn read_name<'a>(tree: &Tree, text: &'a str, oid: &mut Oid) -> Result
     }
 }
 
-/// Returns the identifier that the name `text` means, or `None` if there is no `text`.
+/// Returns the identifier that the name `text` means, or `None` if `text` is `None`.
 pub(crate) fn optional_name<'a>(
     tree: &Tree,
     text: Option<&'a str>,

@@ -1,5 +1,5 @@
-//! The plan of a job that asks an agent: its arguments are judged in order, up to the first
-//! without a meaning, and then its names are looked up.
+//! The plan of a job that asks an agent. Its arguments are judged in order, up to the first that
+//! is refused. If none is refused, its names are looked up.
 ghost use Rattle.std.specs.Prelude.{◌≡◌, ◌≤◌, length, IfErr, IfOk};
 ghost use Rattle.snmp_walk.specs.WalkState.{IsMethod};
 ghost use Rattle.snmp_tools.specs.{Asking.HasAgent, Letters.IsMethod-prop, FaultText.fault_of};
@@ -69,7 +69,7 @@ pub(crate) struct Orders<'a> {
     pub(crate) community: &'a [u8],
     /// The greatest size of a message of an agent in memory, in octets.
     pub(crate) max_size: usize,
-    /// Where the agent is reached.
+    /// The address of the agent.
     pub(crate) agent: AgentAddress<'a>,
     ghost short_community: { length community.now ≤ 255 },
     ghost some_size: { 1 ≤ max_size },
@@ -189,7 +189,7 @@ pub(crate) struct Walk<'a> {
     pub(crate) after: Option<Oid>,
     /// What the walk returns besides the instances below the root.
     pub(crate) mode: Mode,
-    /// The requests with which it asks for instances.
+    /// The requests that it sends for instances: GetNext or GetBulk.
     pub(crate) method: Method,
     /// Whether the number of bindings is printed after their lines.
     pub(crate) counts: bool,

@@ -24,8 +24,8 @@ use snmp_net::{AgentAddress, Links};
 use snmp_walk::{MemoryLink, SinkFault, WalkEnd, instances_below};
 use std::alloc::Global;
 
-/// Asks an agent and prints the lines of its answer, after it wrote the warnings of the modules to
-/// `err`.
+/// Asks an agent and prints the lines of its answer. Before that, judges the arguments, loads the
+/// modules and writes their warnings to `err`.
 pub(crate) fn ask<'a, F: ModuleLoader<E>, L: Links, O: Output, E: Messages>(
     alloc: Global,
     job: AskJob<'_, 'a>,
@@ -91,7 +91,8 @@ fn ask_by<'a, F: Files, L: Links, O: Output>(
     }
 }
 
-/// Returns how a run over a link in memory ended: such a link fails only if memory runs out.
+/// Returns how a run over a link in memory ended. Such a link fails only if memory runs out, so
+/// memory is the reason if the link failed.
 fn end_in_memory(end: WalkEnd) -> WalkEnd
     ensures { result ≡ end_in_memory end }
 {
@@ -101,8 +102,8 @@ fn end_in_memory(end: WalkEnd) -> WalkEnd
     }
 }
 
-/// Prints the number of bindings after the lines of a run, if the arguments ask for it. Fails if
-/// the run ended early.
+/// Prints the number of bindings after the lines of a run, if the run is done and the arguments
+/// ask for the number. Fails if the run ended early, or if the number can't be printed.
 fn finish<'a, O: Output>(
     end: WalkEnd,
     plan: &Plan<'_, 'a>,

@@ -23,8 +23,8 @@ use snmp_words::ServeJob;
 use std::alloc::{AllocError, Global};
 
 /// Serves a table file as the arguments of snmpd ask, with its names looked up in the module
-/// files. Prints where requests are received, serves the turns, and prints how many requests were
-/// replied to and how many dropped.
+/// files. Prints where requests are received, serves the turns (each a request, or a wait without
+/// one), and prints how many requests were replied to and how many dropped.
 ///
 /// Before a socket is opened, the arguments are judged, then the module files and then the table
 /// file. Warnings about the modules go to `err`. If a write to `err` fails, nothing else changes.
@@ -46,8 +46,8 @@ pub(crate) fn serve_table<'a, F: ModuleLoader<E>, L: Links, O: Output, E: Messag
     serve_by(alloc, job, address, &tree, files, links, out)
 }
 
-// Returns the address of `--listen`. Fails if the community has more than 255 octets, or if that
-// isn't a valid address.
+// Returns the address of `--listen`. Fails if the community has more than 255 octets, or if the
+// argument of `--listen` isn't a valid address.
 fn listen_address<'a>(job: &ServeJob<'a>) -> Result<UdpAddress<'a>, Failure<'a>>
     ensures short_community { OnOk result (length job.now.community.now ≤ 255) }
     ensures address { IfOk result (λ address.
@@ -90,7 +90,7 @@ fn serve_by<'a, F: Files, L: Links, O: Output>(
 }
 
 // Prints the line that says where requests are received, serves the turns of `job` at `door`, and
-// prints the line of the counts.
+// prints how many requests were replied to and how many dropped.
 fn serve_at<'a, L: Links, O: Output>(
     alloc: Global,
     job: &ServeJob<'a>,

@@ -1,4 +1,4 @@
-//! Reads table files, with names by a tree of modules.
+//! Reads table files, with their names looked up in the tree of modules.
 ghost use Rattle.std.specs.Prelude.{◌≡◌, ◌⊎◌, IfErr, IfOk};
 ghost use Rattle.snmp_tools.specs.FaultText.{fault_of, out_of_memory};
 ghost use Rattle.snmp_tools.specs.serve.TableFile.{AreNamesIn, HasTable, TableFails, names_in};

@@ -30,7 +30,8 @@ use std::alloc::{AllocError, Global};
 
 /// Prints the names of `job` in order, by the modules of its module files: of each name the text
 /// that the letters of `-O` ask for and a newline, or with `-Td` its details. Fails at the first
-/// name that has no meaning, after printing the names before it.
+/// name that has no meaning, after printing the names before it, and if the output fails or memory
+/// runs out.
 ///
 /// Before anything is printed, the letters are judged, and then the module files. Warnings about
 /// the modules go to `err`. If a write to `err` fails, nothing else changes.
@@ -92,10 +93,12 @@ fn asks_details(text: &[u8]) -> Result<bool, u8>
     Ok(text.contains(&b'd'))
 }
 
-/// Prints names in order, and stops at the first that has no meaning.
+/// Prints names in order, and stops at the first that has no meaning. Stops too if the output
+/// fails or memory runs out.
 ///
-/// The lines are written together, once there are `ENOUGH_WAITING` octets of them: a write for each
-/// takes more time than all else of a name. Before it returns, all lines are written.
+/// The lines are written together, once there are `ENOUGH_WAITING` octets of them: a write for
+/// each name would take more time than everything else that is done for the name. Before the call
+/// returns, it writes the lines that wait, unless a write failed.
 pub(crate) fn print_names<'a, O: Output>(
     alloc: Global,
     tree: &Tree,
@@ -121,10 +124,10 @@ pub(crate) fn print_names<'a, O: Output>(
     write_waiting(&mut lines, out)
 }
 
-/// The number of octets from which waiting lines are written.
+/// The number of octets at which the waiting lines are written.
 const ENOUGH_WAITING: usize = 60_000;
 
-/// Appends what is printed of a name, which is read into an existing identifier.
+/// Appends what is printed of `name`. Stores the identifier that it means in `oid`.
 fn append_name<'a>(
     tree: &Tree,
     style: Style,
@@ -160,7 +163,8 @@ fn append_shown(tree: &Tree, style: Style, oid: &Oid, lines: &mut Vec<u8>) -> Re
     Ok(())
 }
 
-/// Writes the waiting lines, and empties their buffer.
+/// Writes the waiting lines, if there are any, and then empties their buffer. Fails if the output
+/// fails.
 fn write_waiting<'a, O: Output>(lines: &mut Vec<u8>, out: &mut O) -> Result<(), Failure<'a>>
     ensures written { OnOk result ((O.stream out.new
         ≡ stream_after (O.stream out.old) lines.old.items)

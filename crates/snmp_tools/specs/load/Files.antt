@@ -10,7 +10,7 @@ use Rattle.smi_text.specs.declared.error.ParseError.TheVariants as error
 abbrev pub texts : List (Bor (List ℕ)) → List (List ℕ)
 texts paths = map (λ path. path.now) paths
 
--- The text of the file at `path` spells the modules `ms`, none of which defines a name twice.
+-- The text of the file at `path` spells the modules `ms`, and no module defines a name twice.
 -- `Held path text` says that the file at the path holds the text.
 abbrev pub AreModulesIn : (Held : (path text : List ℕ) → Type 0) → (path : List ℕ) → List Module
     → Type 0
@@ -35,14 +35,15 @@ pub data Refusal : Type 0 where
   faulty : (path : List ℕ) → ParseError → Refusal
   no_memory : Refusal
 
--- the file can't be read or its text has a fault, as far as it is known what it holds
+-- the file can't be read or its text has a fault, as `why` says and as far as it is known what the
+-- file holds
 abbrev pub FileFails : Holdings → (path : List ℕ) → Refusal → Type 0
 FileFails files path why =
     (MayHoldNone files path × (why ≡ unreadable path))
     ⊎ ((text : List ℕ) × (fault : ParseError) × MayHold files path text
     × (fault ≢ error.Memory) × IsCause fault text × (why ≡ faulty path fault))
 
--- `why` is that of the first file that fails; the files before it hold modules
+-- `why` is the reason of the first file that fails; the files before it hold modules
 abbrev pub FilesFail : Holdings → (paths : List (List ℕ)) → Refusal → Type 0
 FilesFail files paths why = IsFirstToFail paths (MayHoldModules files) (FileFails files) why
 

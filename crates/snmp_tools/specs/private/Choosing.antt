@@ -3,7 +3,7 @@ use Rattle.std.specs.Prelude.{◌≡◌, ◌⊎◌, ℕ, false, ◌||◌, ◌==�
 use Rattle.std.specs.{Char.is_ascii_digit}
 use Rattle.snmp_tools.specs.Letters.{AreRepetitions, Choices}
 
--- the parts of a text, with one more octet before it
+-- the parts of a text with `octet` before it; `parts` are the parts without this octet
 abbrev pub put : ℕ → List ℕ × List (ℕ × List ℕ) → List ℕ × List (ℕ × List ℕ)
 put octet parts = if is_ascii_digit octet then (octet ∷ parts.0, parts.1)
     else ([], (octet, parts.0) ∷ parts.1)
@@ -14,7 +14,7 @@ abbrev pub letter_parts : List ℕ → List ℕ × List (ℕ × List ℕ)
 letter_parts [] = ([], [])
 letter_parts (octet ∷ text) = put octet (letter_parts text)
 
--- `new` is what is chosen with one letter more than the letters that chose `old`
+-- if some letters chose `old`, then these letters and `part`, one letter more, choose `new`
 pub record OneMore (part : ℕ × List ℕ) (old new : Choices) : Type 0 where
   pub includes_root : new.includes_root ≡ ((part.0 == 105) || old.includes_root)
   pub counts : new.counts ≡ ((part.0 == 112) || old.counts)

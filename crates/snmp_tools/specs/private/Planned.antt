@@ -1,5 +1,5 @@
--- The requests, judged arguments and plans of the code, as definitions see them, for clauses of
--- private functions.
+-- The requests, judged arguments and plans of the code, as values of the definitions' types, for
+-- contracts of private functions.
 use Rattle.std.specs.Prelude.{◌≡◌, ◌≤◌, ◌⊎◌, length, Some, codes, ℕ, List, [], Option, drop}
 use Rattle.std.specs.Prelude.{option_map, unwrap_or}
 use Rattle.snmp_oid.specs.Numeric.{numeric_text}
@@ -39,7 +39,7 @@ request_of (request.Walk bulk letters after name) = question.walk bulk letters.n
 abbrev pub ask_words : AskJob → AskWords
 ask_words job = record { asking = asking_words job.asking.now; request = request_of job.request }
 
--- `orders` is what the arguments say before names are looked up, none of which is refused
+-- `orders` is what the arguments say before names are looked up, and no argument is refused
 pub record AreOrdersOf (words : AskWords) (orders : Orders) : Type 0 where
   pub version : words.asking.protocol ≡ codes "2c"
   pub letters : AreShown words.asking.letters orders.letters
@@ -61,8 +61,9 @@ AgentFails words why =
     AskingFails words community_step why
     ⊎ (IsAskingDone words community_step × AskingFails words agent_step why)
 
--- a name has no meaning: of a walk, the root or then the name to continue after; or memory ran out
--- for the names of a Get
+-- A name of the request has no meaning: for a Get, the first one without a meaning; for a walk,
+-- the root or, if the root has one, the name to continue after. Or memory ran out for the names of
+-- a Get.
 abbrev pub NamesFail : question.Request → Contents → Fault → Type 0
 NamesFail (question.get texts) mib why =
     (why ≡ out_of_memory) ⊎ IsFirstToFail texts (HasMeaning mib) (NameFails mib) why
@@ -81,7 +82,7 @@ abbrev pub question_of : Question → question.Question
 question_of (planned.Get names) = question.names names.oids.items
 question_of (planned.Walk w) = question.subtree (walk_of w)
 
--- the question stores the texts of the request
+-- the question stores the request's arguments for its names
 abbrev pub HasTextsOf : question.Request → Question → Type 0
 HasTextsOf (question.get texts) (planned.Get names) = texts_at names.texts.now ≡ texts
 HasTextsOf (question.walk bulk letters after name) (planned.Walk w) =

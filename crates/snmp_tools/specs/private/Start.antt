@@ -1,4 +1,4 @@
--- Why a question can't be asked, for clauses of private functions.
+-- Why a question can't be asked, for contracts of private functions.
 use Rattle.std.specs.Prelude.{◌≡◌, ◌⊎◌, ℕ, List, Some}
 use Rattle.snmp_oid.specs.Identifier.{IsWire, wire}
 use Rattle.snmp_walk.specs.Ordered.{IsAtOrBelow, IsUnsendable}
@@ -17,14 +17,16 @@ ResumeFails root after text why =
     ((IsAtOrBelow after root → ⊥) × (why ≡ outside_root text))
     ⊎ (IsAtOrBelow after root × IsUnsendable after × (why ≡ unsendable text))
 
--- why a walk can't begin
+-- `why` is why the walk can't begin: the root can't be sent or, if it can, the walk can't continue
+-- after its name
 abbrev pub StartFails : plan_walk.Walk → Fault → Type 0
 StartFails w why =
     (IsUnsendable w.root × (why ≡ unsendable w.root_text.now))
     ⊎ (IsWire (wire w.root) × ((after : List ℕ) × (w.after ≡ Some after)
     × ResumeFails w.root after w.after_text.now why))
 
--- why the question of a plan can't be asked
+-- `why` is why the question can't be asked: the first name of a Get that can't be sent, or why a
+-- walk can't begin
 abbrev pub BeginFails : plan.Question → Fault → Type 0
 BeginFails (planned.Get ns) why = (mib : Contents)
     → AreNames mib (texts_at ns.texts.now) ns.oids.items

@@ -34,30 +34,31 @@ IsServing Serves Unserved words view before after fault =
     × IsTextPrinted (stream_after before (listening_line words.listen)) (counts_line served) after
     fault)
 
--- one call that serves `agent` at `door` for `turns` turns can return `served`, and takes the
--- network from the state `before` to the state `after`
+-- one call that serves `agent` at `door` (a server socket) for `turns` turns can return `served`,
+-- and takes the network from the state `before` to the state `after`
 abbrev pub ServesAt : {N V D : Type 0} → Network N V D → (before : N) → D → (after : N) → Agent → ℕ
     → Served → Type 0
 ServesAt {N} {V} {D} net before door after agent turns served =
     (later : D) × net.serves before door agent turns served after later
 
 -- What snmpd did at `port` of `host`, with the names of the table looked up in `tree`, and why not
--- all of it was done, if so. If the table file is refused, the network stays as it was. Its count
--- of faults increases only if a call of it failed.
+-- all of it was done, if so. If the table file is refused, the network stays as it was. The
+-- network's count of faults increases only if a call of the network failed.
 pub data IsServedBy {N V D : Type 0} (net : Network N V D) (words : ServeWords) (host : List ℕ)
     (port : ℕ) (tree : Contents) (before after : Seen N) (fault : Option Fault) : Type 0 where
   -- memory ran out, or the table file can't be read or doesn't define a table
   refused : (why : Fault)
       → (why ≡ out_of_memory) ⊎ TableFails before.files tree words.table why → after ≡ before
       → fault ≡ Some why → IsServedBy net words host port tree before after fault
-  -- a call of the network failed, which it counted, and nothing else changed
+  -- a call of the network failed, which the network counted, and nothing else changed
   not_bound : (view : MibView) → HasTable before.files tree words.table view
       → net.fails before.links after.links
       → HasIncreased (net.fault_count before.links) (net.fault_count after.links)
       → after ≡ record before { links = after.links }
       → fault ≡ Some (ended words.listen ending.Link)
       → IsServedBy net words host port tree before after fault
-  -- one door (server socket) was opened, and the table was served at it after the first line
+  -- one door (server socket) was opened; if the first line was printed whole, the table was served
+  -- there
   bound : (view : MibView) (door : D) (opened : N)
       → HasTable before.files tree words.table view
       → net.binds before.links host port door opened

@@ -10,7 +10,8 @@ use Rattle.smi_show.specs.{name.Meaning.meaning, name.Meant.TextMeans}
 use Rattle.snmp_tools.specs.FaultText.{Fault, bad_table, unreadable}
 use Rattle.smi_tree.specs.{Tree.Contents}
 
--- in the second format of table files, a text names the identifier that it means by `tree`
+-- the names of a table file in the second format are looked up in `tree`: a text names the
+-- identifier that it means in `tree`, and a text that means none names none
 abbrev pub AreNamesIn : Contents → Names → Type 0
 AreNamesIn tree (names_by look_up) =
     (text o : List ℕ) → (look_up text ≡ Some o) ↔ TextMeans tree text (Ok o)
@@ -21,7 +22,8 @@ abbrev pub HasTable : Holdings → Contents → (path : List ℕ) → MibView �
 HasTable files tree path view = (names : Names) × AreNamesIn tree names
     × (text : List ℕ) × MayHold files path text × IsTableOf names (lines text) view
 
--- `why` is that the file at `path` can't be read, or that its text doesn't define a table
+-- `why` is that the file at `path` can't be read, that its text doesn't define a table, or that
+-- memory ran out while the text was read
 abbrev pub TableFails : Holdings → Contents → (path : List ℕ) → Fault → Type 0
 TableFails files tree path why =
     (MayHoldNone files path × (why ≡ unreadable path))

@@ -9,7 +9,8 @@ use Rattle.snmp_io.specs.{Files.Holdings, Files.Holds, Output.Stream, Output.Tak
 use Rattle.snmp_words.specs.Words.{TranslateWords}
 use Rattle.snmp_tools.specs.translate.Text.{AreTextsOf}
 
--- the arguments ask for names in this style, by the modules of files whose texts are known
+-- the arguments ask for names in the style `style`, and their module files are known to hold
+-- `modules`
 pub record AskForTranslation (words : TranslateWords) (files : Holdings) (style : Style)
     (modules : List Module) : Type 0 where
   pub styled : IsStyleOf words style

@@ -14,7 +14,8 @@ use Rattle.snmp_tools.specs.declared.translate.Style.{Style}
 abbrev pub HasNoText : Contents → (name : List ℕ) → Fault → Type 0
 HasNoText mib name why = NameFails mib name why ⊎ (why ≡ out_of_memory)
 
--- Nothing is printed of a name. Or the output failed, and only a prefix of its text is printed.
+-- Printing stops at `name` for the reason `why`: nothing is printed of it, or the output failed,
+-- and only a prefix of its text is printed.
 abbrev pub StopsAtName : Contents → Style → (before : Stream) → (name : List ℕ)
     → (after : Stream) → Fault → Type 0
 StopsAtName mib style before name after why =
@@ -22,7 +23,7 @@ StopsAtName mib style before name after why =
     ⊎ ((why ≡ no_output)
     × ((text : List ℕ) × IsTextOf mib style name text × FailsWithin before text after))
 
--- the names up to this one were printed, and there it stopped
+-- the names before `name` were printed, and printing stopped at `name`
 pub record StopsWithin (mib : Contents) (style : Style) (names : List (List ℕ))
     (before after : Stream) (why : Fault) : Type 0 where
   pub printed : List (List ℕ)
@@ -39,7 +40,7 @@ abbrev pub AreNamesPrinted : Contents → Style → (names : List (List ℕ))
 AreNamesPrinted mib style names before after =
     (text : List ℕ) × AreTextsOf mib style names text × (after ≡ stream_after before text)
 
--- the names were printed, or those up to the first at which it stopped
+-- all names were printed, or printing stopped at one of them for a reason
 abbrev pub IsPrinting : Contents → Style → (names : List (List ℕ)) → (before after : Stream)
     → Option Fault → Type 0
 IsPrinting mib style names before after None = AreNamesPrinted mib style names before after

@@ -9,7 +9,7 @@ use snmp_io::Draft;
 use std::alloc::AllocError;
 use thiserror::Error;
 
-/// Why module files can't be loaded, with the path of the file.
+/// Why module files can't be loaded: a file can't be read or has a fault, or memory ran out.
 #[derive(Clone, Copy, Debug, Error)]
 pub enum FilesError<'a> {
     /// The file at this path can't be read.
@@ -32,7 +32,8 @@ impl From<AllocError> for FilesError<'_> {
 }
 
 impl FilesError<'_> {
-    /// Appends the message: the path, the number of the line if there is one, and what is wrong.
+    /// Appends the message: the path, the number of the line if there is one, and what is wrong;
+    /// or `Out of memory.`
     pub fn message(&self, draft: &mut Draft)
         ensures { Adds draft.old (refusal_text (refusal_of self.now)) draft.new }
     {

@@ -52,7 +52,7 @@ fn warning_text(warning: &Warning, draft: &mut Draft)
     }
 }
 
-// Appends that an earlier module has the name `home` too.
+// Appends that there are two modules with the name `home`.
 fn double_module(home: &[u8], draft: &mut Draft)
     ensures { Adds draft.old (home.now ++ codes " is loaded twice") draft.new }
 {
@@ -60,7 +60,7 @@ fn double_module(home: &[u8], draft: &mut Draft)
     draft.octets(b" is loaded twice");
 }
 
-// Appends that the module `from`, after FROM, isn't loaded.
+// Appends that the module `home` imports from the module `from`, which isn't loaded.
 fn missing_module(home: &[u8], from: &[u8], draft: &mut Draft)
     ensures { Adds draft.old (home.now ++ codes " imports from " ++ from.now
         ++ codes ", which is not loaded") draft.new }
@@ -71,7 +71,7 @@ fn missing_module(home: &[u8], from: &[u8], draft: &mut Draft)
     draft.octets(b", which is not loaded");
 }
 
-// Appends that the module `from`, after FROM, has no `name`.
+// Appends that the module `home` imports `name` from the module `from`, which doesn't have it.
 fn missing_import(home: &Text, name: &Text, from: &Text, draft: &mut Draft)
     ensures { Adds draft.old (home.now ++ codes " imports " ++ name.now ++ codes " from "
         ++ from.now ++ codes ", which has no " ++ name.now) draft.new }

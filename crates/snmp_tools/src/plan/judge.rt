@@ -1,4 +1,4 @@
-//! Judges the arguments that all jobs which ask an agent have.
+//! Judges the arguments that every job has that asks an agent.
 ghost use Rattle.std.specs.Prelude.{◌≡◌, ◌≤◌, codes, length, IfErr, IfOk};
 ghost use Rattle.std.specs.Prelude.{string_bytes};
 ghost use Rattle.snmp_words.specs.Words.{asking_words};
@@ -27,8 +27,8 @@ pub(super) fn read_shown<'a>(asking: &Asking<'a>) -> Result<Letters, Failure<'a>
     }
 }
 
-/// Returns where AGENT is reached. Fails if the community has more than 255 octets, or if AGENT
-/// isn't a valid address.
+/// Returns the address that AGENT says. Fails if the community has more than 255 octets, or if
+/// AGENT isn't a valid address.
 pub(super) fn read_agent<'a>(asking: &Asking<'a>) -> Result<AgentAddress<'a>, Failure<'a>>
     ensures community { IfOk result (λ _. length asking.now.community.now ≤ 255) }
     ensures agent { IfOk result (λ agent. HasAgent asking.now.agent.now (address_of agent)) }

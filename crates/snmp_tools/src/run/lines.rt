@@ -46,8 +46,8 @@ impl<O: Output> Sink for Printer<'_, O> {
         write_lines(self.out, self.text.as_slice())
     }
 
-    // Writes all lines of a reply at once. Their buffer needs no more room than a single line may
-    // need, since a reply may also be one long binding.
+    // Writes all lines of a reply at once. If there is no memory for a line, writes the lines
+    // before it and then fails.
     fn rows(&mut self, mut rows: Rows<'_>) -> Result<(), SinkFault> {
         let mut binding = Binding {
             name: Oid::new(),

@@ -19,7 +19,7 @@ const FIRST_ID: u32 = 1;
 /// ended. A Get without names sends nothing.
 ///
 /// Fails, before anything is sent, at the first name that can't be asked for: it has no encoding,
-/// or it is that of `--after` and neither the root nor below it.
+/// or it is the name of `--after` and is neither the root nor below it.
 pub(crate) fn run_plan<'a, L: Link, S: Sink>(
     link: &mut L,
     plan: &Plan<'_, 'a>,
@@ -48,7 +48,7 @@ pub(crate) fn run_plan<'a, L: Link, S: Sink>(
     }
 }
 
-/// Returns the core of `walk`, before its first request. Fails as [`run_plan`] does.
+/// Returns the state of `walk` before its first request. Fails as [`run_plan`] does.
 fn start<'a>(walk: &Walk<'a>, community: &[u8]) -> Result<WalkCore, Failure<'a>>
     requires { length community.now ≤ 255 }
     ensures ok { IfOk result (λ core. core ≡ first_of community.now (walk_of walk.now)) }
@@ -69,7 +69,8 @@ fn start<'a>(walk: &Walk<'a>, community: &[u8]) -> Result<WalkCore, Failure<'a>>
     }
 }
 
-/// Returns the argument of the first name of `walk` that can't be sent.
+/// Returns the argument of the root if the root can't be sent, otherwise the argument of the name
+/// to continue after.
 fn unsendable_text<'a>(walk: &Walk<'a>) -> &'a str
     ensures root { IsUnsendable walk.now.root → result ≡ walk.now.root_text }
     ensures after { IsWire (wire walk.now.root) → result ≡ walk.now.after_text }

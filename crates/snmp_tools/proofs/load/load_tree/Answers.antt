@@ -1,4 +1,4 @@
--- What the function ensures, if memory for the lines of warnings runs out.
+-- If memory for the lines of warnings runs out, then `load_tree` ensures its clauses `refused` and `only`.
 use Rattle.std.proofs.{Common.arith, lemmas.Grind.common_steps, lemmas.Result.err_from_is_err_and}
 use Rattle.snmp_tools.proofs.load.load_tree.Goals as goal
 

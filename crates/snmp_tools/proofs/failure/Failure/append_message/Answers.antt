@@ -3,7 +3,7 @@ use Rattle.snmp_io.specs.Draft.{Adds, Written}
 use Rattle.snmp_tools.specs.{FaultText.fault_of, FaultText.fault_message, declared.failure.Failure.Failure}
 use Rattle.snmp_tools.proofs.failure.Failure.append_message.Goals as goal
 
--- the message of a failure is the message of its case
+-- if `f` is the failure `g`, and the message of `g` was appended, then the message of `f` was
 of_case : (old new : Written) (f g : Failure) → f ≡ g → Adds old (fault_message (fault_of g)) new → Adds old (fault_message (fault_of f)) new
 of_case old new f g e = subst (λ (x : Failure). Adds old (fault_message (fault_of x)) new) (sym e)
 

@@ -52,7 +52,7 @@ returns-in_ok-optional_name-in-Walk-clause-stated c =
     } in
     subst (λ (r : Request). IsQuestionOf (request_of r) (chosen c.args.choices) mib (subtree w)) (sym c.in-Walk.is) is
 
--- the texts that a walk stores are those of the request that it is made of
+-- if `request` is `r`, and a walk stores the arguments of `r`, then it stores the arguments of `request`
 of_walk : (request r : Request) (w : PlannedWalk) → request ≡ r → HasTextsOf (request_of r) (planned.Walk w) → HasTextsOf (request_of request) (planned.Walk w)
 of_walk request r w e = subst (λ (x : Request). HasTextsOf (request_of x) (planned.Walk w)) (sym e)
 
