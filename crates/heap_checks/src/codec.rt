@@ -40,7 +40,7 @@ fn is_encodable(binding: &Binding<'_>) -> bool
         }
 }
 
-/// Returns the length of one binding, which is short enough for a message.
+/// Returns the encoded length of a binding. It is short enough for a message.
 #[tactic(auto, unfolding(snmp_wire::specs::Canon::canon_bindings))]
 fn size_of_one(binding: &Binding<'_>) -> u64
     requires { IsEncodable (var_bind binding.now) }

@@ -1,5 +1,5 @@
-//! Checks of calls that don't allocate. Each call is between two marks, from which `tests/heap.c`
-//! knows how many allocations it makes.
+//! Checks of calls that don't allocate. Each call is between two marks, which are allocations of
+//! `MARK` octets: `tests/heap.c` counts the allocations between them.
 ghost use Rattle.std.specs.Prelude.{◌≡◌, All, true};
 ghost use Rattle.snmp_oid.specs.Identifier.{IsWire, wire};
 
@@ -161,9 +161,9 @@ pub fn check_find(
     Ok(())
 }
 
-/// Checks the look-ups in a loaded tree. Appends, for each node, the nodes found for its label in
-/// its module and in all modules, for its identifier, and first below that; and whether it has a
-/// syntax and an INDEX.
+/// Checks the look-ups in a loaded tree. Appends for each node the identifiers of the nodes that
+/// are found by its label in its module, by its label in all modules, by its identifier, and as its
+/// first child. Also appends whether the node has a syntax and an INDEX.
 pub fn check_look_ups(alloc: Global, text: &[u8], room: &mut Room<'_>) -> Result<(), Fault> {
     let tree = tree_of(alloc, text)?;
     let _begun = mark(alloc)?;

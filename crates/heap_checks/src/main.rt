@@ -1,10 +1,10 @@
 //! The program `heap_checks CHECK FILE FILE`, which `tests/heap.py` runs over a heap that refuses
 //! memory.
 //!
-//! A check makes a call, on the octets of the two files. It prints the whole result of the call,
-//! without allocating for that, with status 0. If memory was refused, and it has seen that what was
-//! to be changed is unchanged, it prints nothing, with status 1. Status 2: a wrong result. Status
-//! 3: memory was refused, and refused again when the call was repeated.
+//! A check makes a call, on the octets of the two files. Status 0: the call succeeded, and its
+//! whole result is printed, without allocating for that. Status 1: memory was refused, and what was
+//! to be changed is unchanged. Status 2: the result or an input was wrong, or the output failed.
+//! Status 3: memory was refused, and refused again when the call was repeated.
 #![tactic(auto)]
 
 mod agents;
@@ -26,7 +26,7 @@ use std::{env, rt};
 /// A string whose row is stored on the heap: 60 octets with its name.
 const LONG: &[u8] = b"a string of 43 octets, more than in a place";
 
-/// Why there is no whole result.
+/// Why a check has no result to print.
 #[derive(Clone, Copy, Debug)]
 pub(crate) enum Fault {
     /// Memory was refused, and what was to be changed is unchanged.
@@ -34,7 +34,8 @@ pub(crate) enum Fault {
     /// Memory was refused, and refused again when the call was repeated. What was to be changed is
     /// unchanged.
     Again,
-    /// What was to be changed isn't as it was, or an error has no cause.
+    /// The result or an input is wrong, or memory was refused and what was to be changed isn't as
+    /// it was.
     Wrong,
 }
 

@@ -12,7 +12,7 @@ use std::alloc::Global;
 /// The number of requests of a walk for which memory is reserved.
 const REQUESTS: usize = 320;
 
-/// The greatest length of such a request.
+/// The number of octets for which memory is reserved, for each request.
 const REQUEST_SIZE: usize = 1000;
 
 /// A sink that appends the name of each binding, and its value if that is a string, as lines.
@@ -67,8 +67,8 @@ pub(crate) fn walk_over(
     Ok(run_walk(link, core, 0, &mut rows))
 }
 
-/// Checks `run_walk` over a `MemoryLink`. If memory for a request is refused, the link has counted
-/// a fault, and serves another walk, whose rows begin with those of the first.
+/// Checks `run_walk` over a `MemoryLink`. If memory for a request is refused, the link must have
+/// counted a fault, and must serve a second walk, whose rows begin with the rows of the first.
 pub fn walk(
     alloc: Global,
     text: &[u8],

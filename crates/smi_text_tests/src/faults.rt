@@ -94,7 +94,7 @@ fn each_fault_has_its_line(rt: HostRuntime) {
             b"A DEFINITIONS ::= BEGIN END\n\nA DEFINITIONS ::= BEGIN END\nEND\n\n",
             syntax(4),
         ),
-        // A text that ends too early: the line of its last octet.
+        // A text that ends too early has its fault on the line of its last octet.
         (b"A", syntax(1)),
         (b"A\n", syntax(1)),
         (b"A\n\n", syntax(2)),
@@ -165,7 +165,7 @@ fn a_second_definition_of_a_name_is_a_fault(rt: HostRuntime) {
             b"A DEFINITIONS ::= BEGIN IMPORTS X, X FROM B X FROM B; X ::= BITS END",
             None,
         ),
-        // A fault in a definition comes before a repeated name.
+        // A definition that has a fault and repeats a name is reported for its fault.
         (
             b"A DEFINITIONS ::= BEGIN\nX ::= BITS\nX ::= ;\nX ::= BITS END",
             syntax(3),
@@ -195,7 +195,7 @@ fn the_first_of_several_faults_is_reported(rt: HostRuntime) {
         (b"A DEFINITIONS BEGIN\n?", syntax(1)),
         (b"A DEFINITIONS\n? BEGIN", bad_byte(2)),
         (b"A DEFINITIONS ::= BEGIN END\n'1", open_string(2)),
-        // Raw tokens end at a fault too.
+        // A fault of the lexer is also reported in the braces of a CHOICE, which aren't parsed.
         (
             b"A DEFINITIONS ::= BEGIN\nX ::= CHOICE { { ?\n} } END",
             bad_byte(2),
@@ -305,7 +305,7 @@ fn misplaced_clauses_are_faults(rt: HostRuntime) -> Result<(), Fail> {
     Ok(())
 }
 
-/// Appends 10,000 times `brace`.
+/// Appends `brace` 10,000 times.
 fn put_braces(text: &mut Vec<u8>, brace: u8) -> Result<(), AllocError> {
     for _ in 0..10000 {
         text.push(brace)?;
@@ -318,9 +318,9 @@ fn fault_of_line(alloc: Global, text: &[u8]) -> Result<Option<ParseError>, Alloc
     fault_of_pieces(alloc, &[text, b"\n"])
 }
 
-/// Appends 10,000 opening braces and as many closing ones to `text`, the start of a module. Asserts
-/// that it is refused on its last line until `rest`, which closes the brace before them, is
-/// appended.
+/// Appends 10,000 opening braces to `text`, the start of a module, then as many closing ones, and
+/// then `rest`, which closes the brace at the end of `text` and ends the module. Asserts that the
+/// text is refused on its last line until `rest` is appended.
 fn assert_deep(
     rt: &impl Abort,
     alloc: Global,

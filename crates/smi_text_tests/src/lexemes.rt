@@ -28,7 +28,7 @@ const TOKENS: &[Row] = &[
     (TokenKind::Colon, ":", 45, 46, 3),
 ];
 
-/// Returns whether `token` is this one.
+/// Returns whether `token` is the one that `row` describes.
 fn is_token(token: &Token<'_>, row: &Row) -> bool {
     let (kind, octets, start, end, line) = *row;
     token.kind == kind
@@ -178,7 +178,7 @@ fn a_string_has_any_octet_but_a_quote(rt: HostRuntime) -> Result<(), Fail> {
     Ok(())
 }
 
-/// Definitions with raw text, in which every sign is accepted.
+/// Definitions with a part that isn't parsed, only stored as tokens. Every sign is accepted there.
 const RAW: &[&str] = &[
     "x MODULE-COMPLIANCE { } } ( [ ] < > , ; : | . = .. -5 'a'H '1'B \"\" a B END \
         ::= { iso 1 }",

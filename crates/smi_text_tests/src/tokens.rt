@@ -13,7 +13,7 @@ type Row = (TokenKind, &'static [u8], usize);
 /// A text, its tokens, and its fault if it isn't read to its end.
 type Case = (&'static [u8], &'static [Row], Option<LexError>);
 
-/// Returns whether a token of `text` is this one, also by the octets at its span.
+/// Returns whether `token` is the one that `row` describes, and `text` has its octets at its span.
 fn is_token(text: &[u8], token: &Token<'_>, row: &Row) -> bool {
     let (kind, octets, line) = row;
     let span = token.span;

@@ -180,7 +180,8 @@ fn kind<'a>(modules: &'a [Module], name: &str) -> Option<&'a DefKind> {
     Some(&def.kind)
 }
 
-/// Returns whether STATUS, DESCRIPTION and REFERENCE are these. An empty `reference` is for none.
+/// Returns whether `status` has this STATUS, DESCRIPTION and REFERENCE. If `reference` is empty, it
+/// must have no REFERENCE.
 fn is_status(status: &Status, word: &str, description: &str, reference: &str) -> bool {
     let same = if reference.is_empty() {
         status.reference.is_none()
@@ -200,7 +201,7 @@ fn has_identities(modules: &[Module]) -> Option<bool> {
     Some(is_identity(m) && is_status(&oi.status, "current", "\"d\"", "\"r\""))
 }
 
-/// Returns whether a REVISION and its DESCRIPTION are these.
+/// Returns whether `revision` has this date and DESCRIPTION.
 fn is_revision(revision: &Revision, date: &str, description: &str) -> bool {
     is(&revision.date, date) && is(&revision.description, description)
 }
@@ -413,7 +414,7 @@ fn has_types(modules: &[Module]) -> Option<bool> {
     )
 }
 
-/// Returns the raw tokens of a definition.
+/// Returns the tokens of a definition that are stored without being parsed.
 fn raw<'a>(modules: &'a [Module], name: &str) -> Option<&'a [TokenText]> {
     match kind(modules, name)? {
         DefKind::ModuleCompliance(d) | DefKind::AgentCapabilities(d) => Some(d.clauses.as_slice()),

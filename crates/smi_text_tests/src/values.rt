@@ -37,7 +37,8 @@ const DEFINED: &[Defined] = &[
     (b"", None),
 ];
 
-/// Returns the module after FROM from which `module` imports `name`, and the line of that clause.
+/// Returns the name of the module from which `module` imports `name`, and the line of that FROM
+/// clause.
 fn import_of<'a>(module: &'a Module, name: &[u8]) -> Option<(&'a [u8], usize)> {
     let import = module.import(name)?;
     Some((import.source.as_bytes(), import.line))
@@ -57,7 +58,7 @@ fn imports_and_definitions_are_found_by_name(rt: HostRuntime) -> Result<(), Fail
     Ok(())
 }
 
-/// Asserts that `module` imports and defines these names and no others.
+/// Asserts that `module` imports and defines the names of [`IMPORTED`] and [`DEFINED`] as they say.
 fn assert_names(rt: &impl Abort, module: &Module) {
     for (name, expected) in IMPORTED {
         assert!(rt; import_of(module, name) == *expected);

@@ -32,7 +32,7 @@ const OUTSIDE: &[&str] = &[
     "A DEFINITIONS ::=@END@BEGIN@",
 ];
 
-/// Positions in a module, whose head comes before the text.
+/// Positions in a module, as in [`OUTSIDE`]. The head of the module comes before the first piece.
 const INSIDE: &[&str] = &[
     "IMPORTS@FROM B; END@MACROS@",
     "IMPORTS a,@FROM B; END@MACROS@",
@@ -127,7 +127,7 @@ const INSIDE: &[&str] = &[
     "x NOTIFICATION-GROUP@; END@@NOTIFICATIONS",
 ];
 
-/// Returns whether `word` is one of `words`.
+/// Returns whether `word` is one of `words`, which may contain MACROS and ANY.
 fn is_among(words: &str, word: &str) -> bool {
     for other in words.split_whitespace() {
         if other == word || other == "ANY" {

@@ -1,4 +1,4 @@
-//! Look-ups of identifiers, some of which occur more than once.
+//! Look-ups among identifiers. Some of these occur more than once.
 
 use crate::reading::oid;
 use smi_tree::{Deepest, Identifiers};
@@ -21,7 +21,7 @@ static OIDS: [&str; 10] = [
     "2.5.1",
 ];
 
-/// Returns the identifiers, in a box, whose `drop` is proved once.
+/// Returns the identifiers, in a box, so that the code that drops them is proved only once.
 fn identifiers(alloc: Global) -> Result<Box<Identifiers>, Fail> {
     let mut oids = Vec::new(alloc);
     push_oids(alloc, &mut oids)?;

@@ -1,4 +1,4 @@
-//! Chains of names, each of which refers to the next: long ones in both directions, rings, and
+//! Chains of names, in which each name refers to the next: long ones in both directions, rings, and
 //! names that refer into a ring or to nothing.
 
 use crate::reading::{modules_of, names_of, resolves_to};
@@ -21,7 +21,8 @@ enum Basis<'a> {
     Nowhere,
 }
 
-/// Returns a name with the number 1 only, and then names each of which refers to the one before it.
+/// Returns `count` names. The first has the number 1 only, and each other one refers to the name
+/// before it and appends `numbers`.
 fn references_back(alloc: Global, count: usize, numbers: &[u32]) -> Result<Vec<Basis<'_>>, Fail> {
     let mut bases = Vec::new(alloc);
     bases.push(Basis::Numbers(&[1]))?;
@@ -31,7 +32,7 @@ fn references_back(alloc: Global, count: usize, numbers: &[u32]) -> Result<Vec<B
     Ok(bases)
 }
 
-/// Returns names each of which refers to the one after it, the last one to the name with index
+/// Returns `count` names. Each refers to the name after it, and the last one to the name with index
 /// `end`.
 fn references_forward(
     alloc: Global,
@@ -114,8 +115,8 @@ fn push_numbers(text: &mut String, numbers: &[u32]) -> Result<(), Fail> {
     Ok(())
 }
 
-/// Asserts of each row that its number of names, in a module with these bases, resolves to its
-/// identifier or reason.
+/// Asserts for each row that in a module with these bases, as many names as the row says resolve to
+/// its identifier, or fail for its reason.
 fn assert_counts(
     rt: &impl Abort,
     alloc: Global,
@@ -143,13 +144,13 @@ fn long_chains_end(rt: HostRuntime) -> Result<(), Fail> {
         &references_forward_to_numbers(alloc)?,
         &[("1.3", MANY + 1)],
     )?;
-    // Without the last name, the one before it refers to nothing.
+    // Without the name with numbers at the end, the last name refers to nothing.
     let bases = references_forward(alloc, MANY, MANY)?;
     assert_counts(&rt, alloc, &bases, &[("unresolved", MANY)])
 }
 
-/// Returns names each of which refers to the one after it, the last of which has the numbers 1 and
-/// 3.
+/// Returns `MANY` names that refer to the name after them, and at the end one with the numbers 1
+/// and 3.
 fn references_forward_to_numbers(alloc: Global) -> Result<Vec<Basis<'static>>, Fail> {
     let mut bases = references_forward(alloc, MANY, MANY)?;
     bases.push(Basis::Numbers(&[1, 3]))?;

@@ -1,5 +1,5 @@
 //! How names are hashed: by a key, and without one by the fixed key 0.
-//! The expected hashes are SipHash-1-3's, as its authors' description gives them.
+//! The expected hashes follow the description of SipHash-1-3 by its authors.
 
 use crate::reading::{TINY, modules_of};
 use smi_names::NameHash;
@@ -86,7 +86,8 @@ fn names_chosen_for_the_fixed_key_are_spread_by_another_key(rt: HostRuntime) {
     assert_eq!(rt; count_in_first_group(key_of_sevens()), 1);
 }
 
-/// Returns the tree of the tiny modules, in a box, whose `drop` is proved once.
+/// Returns the tree of the tiny modules, in a box, so that the code that drops it is proved only
+/// once.
 fn tree_by(alloc: Global, hash: NameHash) -> Result<Box<Tree>, Fail> {
     let loaded = Tree::load_with_key(alloc, hash, modules_of(alloc, TINY)?)?;
     let (tree, _warnings) = loaded.into_parts();

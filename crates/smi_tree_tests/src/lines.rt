@@ -1,4 +1,5 @@
-//! Lines and values, by the letters and by the syntax of the object.
+//! Lines of bindings and texts of values, which depend on the letters of `-O` and on the syntax of
+//! the object.
 
 use crate::names::{COUNTED, MAC, sample};
 use smi_show::{Letters, line, name_text, value_text};

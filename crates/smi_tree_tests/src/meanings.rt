@@ -61,8 +61,8 @@ fn unresolved_row(names: &Names<'_>, rows: &[Row]) -> Option<usize> {
     None
 }
 
-/// What decides a name: a definition by its line, an import by its line and module, a built-in root
-/// by its number.
+/// What decides the meaning of a name: a definition, with its line; an import, with its line and
+/// module; or a built-in root, with its number. What doesn't apply is 0 or empty.
 type Decided<'a> = Option<(usize, &'a str, u32)>;
 
 /// Returns whether `decider` is the expected one.
@@ -116,7 +116,7 @@ fn are_named(names: &Names<'_>, rows: &[Row], decisions: &[Decision]) -> bool {
     unresolved_row(names, rows).is_none() && undecided_row(names, decisions).is_none()
 }
 
-/// Returns whether the modules that were read are loaded, and no others.
+/// Returns whether two modules that were read are loaded, and two that weren't are not.
 fn are_loaded(names: &Names<'_>) -> bool {
     names.is_loaded(b"RING-C")
         && names.is_loaded(b"A")

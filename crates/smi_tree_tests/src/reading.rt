@@ -53,7 +53,7 @@ pub(crate) fn modules_of(alloc: Global, text: &[u8]) -> Result<Vec<Module>, Fail
     Ok(parse_modules(alloc, text)?)
 }
 
-/// Returns the names of `modules`, in a box, whose `drop` is proved once.
+/// Returns the names of `modules`, in a box, so that the code that drops them is proved only once.
 pub(crate) fn names_of<'a>(alloc: Global, modules: &'a [Module]) -> Result<Box<Names<'a>>, Fail>
     ensures { IfOk result (λ names. names.value.modules ≡ modules.now) }
 {

@@ -17,7 +17,8 @@ const MAC: &str = "1.3.6.1.4.1.32473.2.1.2.3.119.101.115";
 
 const USE: &str = "1.3.6.1.4.1.32473.3.1.1.119.101.115";
 
-/// Returns the tree of the tiny modules, in a box, whose `drop` is proved once.
+/// Returns the tree of the tiny modules, in a box, so that the code that drops it is proved only
+/// once.
 fn tiny(alloc: Global) -> Result<Box<Tree>, Fail> {
     let modules = modules_of(alloc, TINY)?;
     let (tree, _warnings) = Tree::load(alloc, modules)?;
@@ -109,8 +110,8 @@ fn assert_writers(rt: &impl Abort, alloc: Global, tree: &Tree) -> Result<(), Fai
     Ok(())
 }
 
-/// Asserts that the writer's lines are those of `line`: for a column, and for a few names below it
-/// one after the other.
+/// Asserts that one `LineWriter` writes the same lines as `line`: for each of `PREFIXES` in turn,
+/// and after each for up to three random names, most of them below it.
 fn assert_written(
     rt: &impl Abort,
     alloc: Global,

@@ -51,7 +51,8 @@ struct Loaded {
     warnings: Vec<Warning>,
 }
 
-/// Returns the tree of a text's modules, in a box, whose `drop` is proved once.
+/// Returns the tree of a text's modules, in a box, so that the code that drops it is proved only
+/// once.
 fn load(alloc: Global, text: &str) -> Result<Box<Loaded>, Fail> {
     let modules = modules_of(alloc, text.as_bytes())?;
     let (tree, warnings) = Tree::load(alloc, modules)?;
@@ -224,7 +225,8 @@ own OBJECT IDENTIFIER ::= { 1 }
 END
 ";
 
-/// Identifiers, each with the label of its deepest node, and the numbers after those of that node.
+/// Identifiers, each with the label of the node that is its longest prefix, and the numbers after
+/// this prefix.
 static DEEPEST: [(&str, Option<&str>, &[u32]); 5] = [
     ("1.3", Some("one"), &[]),
     ("1.3.2", Some("one"), &[2]),
@@ -233,7 +235,8 @@ static DEEPEST: [(&str, Option<&str>, &[u32]); 5] = [
     ("3", None, &[3]),
 ];
 
-/// Returns whether the deepest node of an identifier has this label, and these numbers follow it.
+/// Returns whether the node that is the longest prefix of an identifier has this label, and these
+/// numbers follow it.
 fn is_deepest(tree: &Tree, text: &str, label: Option<&str>, numbers: &[u32]) -> Result<bool, Fail> {
     let oid = oid(text)?;
     let (found, rest) = tree.deepest(&oid);
@@ -324,7 +327,7 @@ fn assert_shared(rt: &impl Abort, tree: &Tree) -> Result<(), Fail> {
     Ok(())
 }
 
-/// Appends a module of 1000 nodes, each below the next, and the last below the first.
+/// Appends a module of 1000 definitions, each below the next, and the last below the first.
 fn push_ring(text: &mut String) -> Result<(), Fail> {
     text.push_str("R DEFINITIONS ::= BEGIN\n")?;
     for k in 0..1000 {
@@ -343,13 +346,14 @@ fn each_name_on_a_ring_has_a_warning(rt: HostRuntime) -> Result<(), Fail> {
     Ok(())
 }
 
-/// Returns whether a text has a tree of only the roots, with a warning for each node of the ring.
+/// Returns whether a text has a tree of only the built-in roots, and a warning for each definition
+/// on the ring.
 fn has_ring(alloc: Global, text: &str) -> Result<bool, Fail> {
     let loaded = load(alloc, text)?;
     Ok(loaded.tree.len() == 3 && are_on_a_ring(alloc, &loaded.warnings)?)
 }
 
-/// Returns whether the warnings say of each of the 1000 nodes in turn that it is on a cycle.
+/// Returns whether the warnings say of each of the 1000 definitions in turn that it is on a cycle.
 fn are_on_a_ring(alloc: Global, warnings: &[Warning]) -> Result<bool, Fail> {
     for (k, warning) in warnings.iter().enumerate() {
         if !is_on_a_ring(alloc, warning, k)? {
@@ -364,7 +368,7 @@ fn is_on_a_ring(alloc: Global, warning: &Warning, number: usize) -> Result<bool,
     Ok(says(&sentence, warning))
 }
 
-/// Appends a module of 5000 nodes below one, with each number once, but not in order.
+/// Appends a module with the node 1.9 and 5000 children of it, numbered from 0 but not in order.
 fn push_children(text: &mut String) -> Result<(), Fail> {
     text.push_str("M DEFINITIONS ::= BEGIN\n")?;
     for k in 0..5000 {
@@ -383,8 +387,7 @@ fn many_children_are_in_order(rt: HostRuntime) -> Result<(), Fail> {
     Ok(())
 }
 
-/// Returns whether a text has a tree without warnings, in which the 5000 children of 1.9 are in
-/// order.
+/// Returns whether a text has a tree without warnings, which returns 5000 children of 1.9 in order.
 fn has_wide_tree(alloc: Global, text: &str) -> Result<bool, Fail> {
     let loaded = load(alloc, text)?;
     Ok(loaded.warnings.is_empty() && is_wide(&loaded.tree)?)

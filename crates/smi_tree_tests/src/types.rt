@@ -153,7 +153,7 @@ static SYNTAXES: [Row<'static>; 15] = [
     // Imported from a module that defines it as another type.
     ("Integer32", Some((TypeBase::Integer, "", "", ""))),
     ("Counter32", Some((TypeBase::Counter32, "", "", ""))),
-    // Defined by the module itself, as a string and as nothing.
+    // Defined by the module itself, as a string and as a type that doesn't exist.
     ("Gauge32", Some((TypeBase::Gauge32, "", "", ""))),
     ("TimeTicks", Some((TypeBase::TimeTicks, "", "", ""))),
     // Defined by no module.
@@ -195,8 +195,8 @@ fn first_object(modules: &[Module], types: &Types) -> Option<usize>
     None
 }
 
-/// Returns whether there is no object after it, none in the other modules, and none in a module
-/// that doesn't exist.
+/// Returns whether there is no syntax at the index after the object, none for the first definition
+/// of the second module, and none in a module that doesn't exist.
 fn are_no_objects(modules: &[Module], types: &Types) -> bool
     requires { AreTypesOf modules.now types.now }
 {

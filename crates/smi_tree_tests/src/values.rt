@@ -352,7 +352,7 @@ fn named_number(rt: &impl Abort, alloc: Global, name: &[u8], number: &[u8]) -> N
     }
 }
 
-/// Returns `up(1)`, `down(2)` and `again(1)`.
+/// Returns `up(1)`, `down(002)` and `again(1)`.
 fn state_names(rt: &impl Abort, alloc: Global) -> [NamedNumber; 3] {
     let up = named_number(rt, alloc, b"up", b"1");
     let down = named_number(rt, alloc, b"down", b"002");

@@ -49,8 +49,8 @@ const NOT_SET: [u8; 41] = [
     0x01, 0x02, 0x01, 0x01, 0x05, 0x00, 0x02, 0x01, 0x01,
 ];
 
-/// Returns what the agent of `public` does with `request`. Its messages have at most `max_size`
-/// octets, from 1 to 65507.
+/// Returns what an agent with community `public` does with `request`. The agent's messages have at
+/// most `max_size` octets, from 1 to 65507.
 pub(crate) fn outcome(
     table: &Table,
     max_size: usize,
@@ -285,8 +285,8 @@ fn assert_shortest(rt: &impl Abort, octets: &[u8]) {
     assert!(rt; out.get(..size) == Some(octets));
 }
 
-/// Changes each octet of the request to each other octet. Asserts that the request is dropped, or
-/// its reply is a message in its shortest encoding.
+/// Replaces each octet of the request by each value. Asserts that the request is dropped, or its
+/// reply is a message in its shortest encoding.
 fn assert_messages(rt: &impl Abort, table: &Table, request: &[u8; 40]) {
     let mut out = [0; 65507];
     for offset in 0..40 {

@@ -19,8 +19,8 @@ const BULK: [u8; 41] = [
     0x01, 0x04, 0x01, 0x81, 0xFD, 0x59, 0x01, 0x05, 0x00,
 ];
 
-/// Returns whether `binding` is of `row`. This is the last number but one of its name, and its
-/// value, or -1 for endOfMibView.
+/// Returns whether `binding` is the one that `row` describes, by the last number but one of its
+/// name, and its value, or -1 for endOfMibView.
 fn is_of_row(binding: &Binding<'_>, row: (u32, i32)) -> bool {
     let number = match binding.value {
         ValueRef::Integer(number) => number,
@@ -31,7 +31,7 @@ fn is_of_row(binding: &Binding<'_>, row: (u32, i32)) -> bool {
     numbers.len() == 10 && numbers[8] == row.0 && number == row.1
 }
 
-/// Returns whether there is a next binding, and it is of `row`.
+/// Returns whether there is a next binding, and it is the one that `row` describes.
 fn has_row(bindings: &mut Bindings<'_>, row: (u32, i32)) -> bool {
     match bindings.next() {
         Some(binding) => is_of_row(&binding, row),
@@ -39,7 +39,7 @@ fn has_row(bindings: &mut Bindings<'_>, row: (u32, i32)) -> bool {
     }
 }
 
-/// Returns whether the bindings are of `rows`, and there are no others.
+/// Returns whether the bindings are those that `rows` describes, in order, and there are no others.
 fn have_rows(bindings: &mut Bindings<'_>, rows: &[(u32, i32)]) -> bool {
     let mut all = true;
     for row in rows {
@@ -48,7 +48,8 @@ fn have_rows(bindings: &mut Bindings<'_>, rows: &[(u32, i32)]) -> bool {
     all && bindings.next().is_none()
 }
 
-/// Returns whether `reply` is a message without an error, and its bindings are of `rows`.
+/// Returns whether `reply` is a message without an error, and its bindings are those that `rows`
+/// describes.
 fn is_reply_of(reply: &[u8], rows: &[(u32, i32)]) -> bool {
     match decode(reply) {
         Ok(message) => {
@@ -58,7 +59,8 @@ fn is_reply_of(reply: &[u8], rows: &[(u32, i32)]) -> bool {
     }
 }
 
-/// Returns whether the reply has `octets` octets and no error, and its bindings are of `rows`.
+/// Returns whether the reply has `octets` octets and no error, and its bindings are those that
+/// `rows` describes.
 fn has_integers(
     table: &Table,
     max_size: usize,
@@ -128,8 +130,8 @@ const THREE: [u8; 79] = [
     0x06, 0x0B, 0x2B, 0x06, 0x01, 0x04, 0x01, 0x81, 0xFD, 0x59, 0x01, 0x05, 0x00, 0x05, 0x00,
 ];
 
-/// Asserts that the reply to the GetBulk of the three names, with these numbers, has `octets`
-/// octets and bindings of `rows`.
+/// Asserts that the reply to the GetBulk of the three names, with these non-repeaters and
+/// max-repetitions, has `octets` octets and the bindings that `rows` describes.
 fn assert_three(
     rt: &impl Abort,
     table: &Table,
@@ -158,8 +160,8 @@ const AT_MOST_ZERO: &[i32] = &[-5, -1, 0, i32::MIN];
 
 const AT_LEAST_THREE: &[i32] = &[3, 9, i32::MAX];
 
-/// Asserts that numbers below 0 count as 0, and more non-repeaters than names as the number of
-/// names.
+/// Asserts that non-repeaters and max-repetitions below 0 count as 0, and more non-repeaters than
+/// names as the number of names.
 fn assert_bounds(rt: &impl Abort, table: &Table) {
     for few in AT_MOST_ZERO {
         assert_three(rt, table, *few, 1, 80, FIRST);
@@ -179,7 +181,8 @@ fn numbers_out_of_bounds_count_as_the_nearest_bound(rt: HostRuntime) {
     assert_bounds(&rt, &table);
 }
 
-/// The successor of the first name, and all rounds of the other two.
+/// The successor of the first name, and all repetitions for the other two, up to the first that has
+/// endOfMibView for both.
 const ROUNDS: &[(u32, i32)] = &[
     (1, 1),
     (1, 1),
@@ -211,8 +214,8 @@ fn long_length(length: u16) -> [u8; 3] {
     [0x82, high, low]
 }
 
-/// Returns the GetBulk of `count` names, 1.3.6.128 and those after it, with max-repetitions 3. Each
-/// binding takes ten octets.
+/// Returns the GetBulk of the `count` names 1.3.6.128, 1.3.6.129 and so on, with max-repetitions 3.
+/// Each binding takes ten octets.
 fn bulk_of(alloc: Global, count: u16) -> Result<Vec<u8>, AllocError> {
     let mut octets = Vec::new(alloc);
     add_bulk(&mut octets, count)?;
@@ -263,8 +266,8 @@ pub(crate) fn table_to(rt: &impl Abort, alloc: Global, last: u32) -> Table {
     table_of(rt, alloc, text.as_bytes())
 }
 
-/// Returns whether `binding` is the row of `number`. Past the last row, it is endOfMibView with the
-/// name of the last row.
+/// Returns whether `binding` is the row of `number`, or, if `number` is above `last`, endOfMibView
+/// with the name of the last row.
 fn is_number(binding: &Binding<'_>, number: u32, last: u32) -> bool {
     let name = binding.name.as_slice();
     let is_expected = match binding.value {
@@ -275,7 +278,8 @@ fn is_number(binding: &Binding<'_>, number: u32, last: u32) -> bool {
     name.len() == 4 && name[3] == number.min(last) && is_expected
 }
 
-/// Returns the number of bindings in the reply, if they are the rounds of `count` names in order.
+/// Returns the number of bindings in the reply, if they are the repetitions for `count` names, in
+/// order.
 fn rounds_in(reply: &[u8], count: u32, last: u32) -> Option<u32> {
     let message = decode(reply).ok()?;
     let mut bindings = message.bindings();
@@ -294,7 +298,7 @@ fn rounds_in(reply: &[u8], count: u32, last: u32) -> Option<u32> {
 }
 
 /// Returns the number of bindings in the reply to the GetBulk of `count` names, if they are its
-/// rounds. The last name reaches the end of the view in the last round.
+/// repetitions. In the third one, the last name reaches the end of the MIB view.
 fn rounds_of(rt: &impl Abort, alloc: Global, count: u16) -> Option<u32> {
     let request = bulk_of(alloc, count).ok()?;
     let last = u32::from(count).wrapping_add(129);
@@ -308,8 +312,8 @@ fn rounds_of(rt: &impl Abort, alloc: Global, count: u16) -> Option<u32> {
 
 #[test]
 fn the_rounds_of_many_names_are_in_order(rt: HostRuntime) {
-    // For 4,000 names there is room for one round and a part of the next: a binding takes 12
-    // octets.
+    // For 4,000 names there is room for one repetition and a part of the next: a binding takes
+    // 12 octets.
     const CASES: &[(u16, u32)] = &[(1, 3), (63, 189), (64, 192), (65, 195), (4000, 5456)];
     for &(count, bindings) in CASES {
         assert!(rt;

@@ -20,8 +20,8 @@ pub(crate) fn is_numbered(binding: &Binding<'_>, number: u32, value: u32) -> boo
     }
 }
 
-/// Returns whether the rows are those of the numbers from `low` to `high`, each with its number as
-/// its value, and no others.
+/// Returns whether `table` has a row for each number from `low` to `high`, with the number as its
+/// value, and no other rows.
 fn has_rows(table: &Table, low: u32, high: u32) -> bool {
     let mut binding = Binding::empty();
     let Some(mut rows) = all_rows(table) else {
@@ -119,7 +119,7 @@ fn is_refused(table: &mut Table, name: &[u8], value: ValueRef<'_>, error: PutErr
     }
 }
 
-/// Asserts that no value can be put at `name`.
+/// Asserts that an integer, and also Null, is refused at `name` because of the name.
 fn assert_bad_name(rt: &impl Abort, table: &mut Table, name: &[u8]) {
     assert!(rt;
         is_refused(table, name, ValueRef::Integer(1), PutError::BadName)
@@ -134,7 +134,7 @@ fn is_bad_value(table: &mut Table, value: ValueRef<'_>) -> bool {
         && get_returns(table, b"1.3.6.1", &ValueRef::Integer(1))
 }
 
-/// Asserts that `value`, and what isn't the value of an instance, is refused at 1.3.6.1.
+/// Asserts that Null, the exceptions and `value` are refused at 1.3.6.1.
 fn assert_bad_values(rt: &impl Abort, table: &mut Table, value: ValueRef<'_>) {
     assert!(rt; is_bad_value(table, ValueRef::Null));
     assert!(rt; is_bad_value(table, ValueRef::NoSuchObject));

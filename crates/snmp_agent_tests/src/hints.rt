@@ -1,5 +1,5 @@
-//! An agent that answers a series of requests, with a hint from one request to the next: its
-//! replies are those without a hint.
+//! An agent answers a series of requests with a hint, which stores where earlier names were in the
+//! table. Its replies are the same as without a hint.
 
 use crate::bulk::table_to;
 use crate::table::table_of;
@@ -52,8 +52,8 @@ fn is_same(table: &Table, request: &[u8], hint: &mut Hint) -> bool {
     }
 }
 
-/// Asserts that the reply to `request` is the same with `hint`. `at` is for the message: the index
-/// or number of a row, and the round.
+/// Asserts that the reply to `request` is the same with `hint`. If not, the message has `at`: the
+/// index or number of a row, and the round.
 fn assert_same(rt: &impl Abort, table: &Table, request: &[u8], hint: &mut Hint, at: (u32, u32)) {
     let (index, round) = at;
     assert!(rt;
@@ -284,8 +284,8 @@ fn columns_of_rows_with_a_long_index_have_the_same_replies(rt: HostRuntime) {
     let table = routes_table(&rt, rt.alloc());
     let mut hint = Hint::default();
     let mut request = [0; 65507];
-    // All columns of one row after the other, in three rounds. After the last row of a column come
-    // the next column and, after the last column, the end.
+    // Each request is for all columns of one row. The rows come in order, in three rounds. After
+    // the last row of a column comes the next column, and after the last column the end.
     for round in 0..3 {
         for row in 0..ROUTES {
             for &kind in &[Kind::GetRequest, Kind::GetNextRequest, Kind::GetBulkRequest] {

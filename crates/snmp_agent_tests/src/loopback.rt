@@ -18,7 +18,7 @@ fn socket_of(rt: &(impl Net + Abort)) -> UdpSocket {
     socket
 }
 
-/// Returns the configuration of the agent of `public`.
+/// Returns the configuration of an agent with community `public`.
 fn public() -> Config<'static> {
     Config {
         community: b"public",
@@ -127,7 +127,8 @@ fn a_failed_receive_is_a_fault(rt: HostRuntime) {
     assert_turns(&rt, &server, &table, 3, of_counts(1, 0, 1, 1));
 }
 
-/// An endpoint at which every second receive fails, and every second reply.
+/// An endpoint that receives `GET` again and again. Every second receive fails, and every second
+/// reply.
 #[derive(Drop)]
 struct Failing {
     receives: u64,

@@ -1,4 +1,5 @@
-//! Tables whose rows are in no order are compared with a simple model, which puts row by row.
+//! Table files whose rows are in no order are read, and compared with a map into which the rows are
+//! put one by one.
 
 use crate::pages::{EVEN, Random, has_rows, map_of, text_of};
 use crate::table::{add_row, fault_of};
@@ -12,7 +13,8 @@ use std::process::Abort;
 /// one by one.
 const FIRST_ROWS: u32 = 10_000;
 
-/// The number of other rows that are put one by one before a table gathers the next: three samples.
+/// The number of other rows that a table puts one by one before it gathers the next. It looks at
+/// them in three samples of 128 rows.
 const SEEN: u32 = 384;
 
 /// The order of the other rows, whose numbers are odd.
@@ -27,12 +29,13 @@ struct Order {
     step: u32,
 }
 
-/// Lines that differ from those of the rows in turn.
+/// Two lines of a file that aren't the row in turn: one repeats an earlier row, and one is faulty.
+/// If an index is past the last row, there is no such line.
 #[derive(Clone, Copy, Debug)]
 struct Wrong {
     /// The index of the row whose line has an earlier row instead.
     again: u32,
-    /// The index of that earlier row.
+    /// The index of the row that is repeated.
     first: u32,
     /// The index of the row whose line is faulty instead.
     bad: u32,
@@ -142,7 +145,9 @@ impl TableFile {
     }
 }
 
-/// Asserts that the file of such rows is read as expected, in the second format if `is_marked`.
+/// Asserts that the file of the first rows and of the rows in `order`, but with the lines of
+/// `wrong`, is read as its rows or refused with its fault. It is in the second format if
+/// `is_marked`.
 fn assert_read_so(
     rt: &impl Abort,
     alloc: Global,
@@ -169,8 +174,9 @@ fn is_read_so(alloc: Global, file: &TableFile) -> bool {
     }
 }
 
-/// Returns a random order of 100 to 1,699 rows: decreasing, of one column, or of several. The first
-/// rows are put one by one. If the step is long, or the columns are many, the others are gathered.
+/// Returns a random order of 100 to 1,699 rows: decreasing, of one column, or of several. A table
+/// puts the first of them one by one. If the step is long, or the columns are many, it gathers the
+/// others.
 fn any_order(random: &mut Random) -> Order {
     let count = random.below(1600);
     let steps = [0, 1, 619, 1543, 3089];
@@ -184,7 +190,7 @@ fn any_order(random: &mut Random) -> Order {
     }
 }
 
-/// Returns faults at random indices, some of which are past the last row.
+/// Returns wrong lines at random indices. Some indices are past the last row.
 fn any_wrong(random: &mut Random, count: u32) -> Wrong {
     let more = count.saturating_mul(2);
     let again = random.below(more);
@@ -258,8 +264,8 @@ const WITH_SAME_HASH: [(&str, &str); 6] = [
     ),
 ];
 
-/// Appends the first name of each such pair, `before` rows in no order, the second name of each
-/// pair, and the row at index `again`.
+/// Appends rows with the first name of each pair of [`WITH_SAME_HASH`], `before` rows in no order,
+/// rows with the second name of each pair, and the row at index `again` of this order.
 fn add_names(text: &mut String, before: u32, again: u32) -> Result<(), AllocError> {
     let order = Order {
         count: before,
@@ -278,7 +284,7 @@ fn add_names(text: &mut String, before: u32, again: u32) -> Result<(), AllocErro
     add_row(text, order.number(again), 1)
 }
 
-/// Returns the fault of a text with the rows at the start, and those of [`add_names`].
+/// Returns the fault of the text that has the first rows and then the rows of [`add_names`].
 fn fault_of_names(alloc: Global, first_lines: &str, before: u32, again: u32) -> Option<TableError> {
     let mut text = beginning(alloc, first_lines, false).ok()?;
     add_names(&mut text, before, again).ok()?;

@@ -1,4 +1,4 @@
-//! Tables of several pages, whose rows are compared with those of a plain map.
+//! Tables whose rows are stored in several pages are compared with plain maps.
 
 use crate::changes::{is_numbered, name_of};
 use crate::table::{add_row, all_rows, fault_of, table_of};
@@ -22,8 +22,8 @@ impl Random {
     }
 }
 
-/// Returns whether the rows of `table` are those of `map`, from the number of each to its value,
-/// and no others.
+/// Returns whether `table` has exactly the rows of `map`, which maps the number of each row to its
+/// value.
 pub(crate) fn has_rows(table: &Table, map: &BTreeMap<u32, u32>) -> bool {
     let mut binding = Binding::empty();
     let Some(mut rows) = all_rows(table) else {
@@ -39,8 +39,8 @@ pub(crate) fn has_rows(table: &Table, map: &BTreeMap<u32, u32>) -> bool {
     matches!(binding.value, ValueRef::EndOfMibView)
 }
 
-/// Puts the value at the row of the number, in both. Returns whether both say the same: that there
-/// was such a row, or that there was none.
+/// Puts the value at the row of the number, in `table` and in `map`. Returns whether they agree on
+/// whether there was such a row.
 fn is_put(table: &mut Table, map: &mut BTreeMap<u32, u32>, number: u32, value: u32) -> bool {
     let Some(name) = name_of(number) else {
         return false;
@@ -54,8 +54,8 @@ fn is_put(table: &mut Table, map: &mut BTreeMap<u32, u32>, number: u32, value: u
     }
 }
 
-/// Removes the row of the number from both. Returns whether both say the same: that there was such
-/// a row, or that there was none.
+/// Removes the row of the number from `table` and `map`. Returns whether they agree on whether
+/// there was such a row.
 fn is_removed(table: &mut Table, map: &mut BTreeMap<u32, u32>, number: u32) -> bool {
     match name_of(number) {
         Some(name) => table.remove(&name) == map.remove(&number).is_some(),
@@ -63,7 +63,7 @@ fn is_removed(table: &mut Table, map: &mut BTreeMap<u32, u32>, number: u32) -> b
     }
 }
 
-/// Asserts that both have the same rows after the same random changes.
+/// Asserts that `table` and `map` have the same rows after the same random changes.
 fn assert_changed(rt: &impl Abort, table: &mut Table, map: &mut BTreeMap<u32, u32>) {
     let mut random = Random { state: 1 };
     for change in 0..10000 {
@@ -86,7 +86,7 @@ fn random_changes_have_the_same_effect_on_a_map(rt: HostRuntime) {
     assert_changed(&rt, &mut table, &mut map);
 }
 
-/// How the number of a row is made of a smaller number: the factors of its square and of itself.
+/// How the number of a row is made of a smaller number `n`: for `(a, b)` it is `a * n * n + b * n`.
 pub(crate) type Spread = (u32, u32);
 
 /// Each number as it is.
@@ -144,7 +144,7 @@ fn is_read(alloc: Global, count: u32, step: u32, factors: Spread) -> Option<bool
 
 #[test]
 fn counts_of_rows_around_the_size_of_a_page_are_read(rt: HostRuntime) {
-    // A step without a common factor with a count reaches each number once.
+    // A step without a common factor with the count reaches each number below the count once.
     for &count in &[0, 1, 127, 128, 129, 255, 256, 257, 512, 513] {
         assert!(rt;
             is_read(rt.alloc(), count, 1, PLAIN) == Some(true),
@@ -157,9 +157,9 @@ fn counts_of_rows_around_the_size_of_a_page_are_read(rt: HostRuntime) {
     }
 }
 
-/// Counts of rows, each with a step by which many rows have a smaller name than the line before. At
-/// the last counts these are so many that a table gathers them. It sorts them into the pages when
-/// they may be as many as the rows there, which happens once before the end.
+/// Counts of rows, each with the step between the numbers of successive lines. Many rows then have
+/// a smaller name than the line before. At the last counts these are so many that a table gathers
+/// them. Before the end it sorts them in once, when they are as many as its pages have room for.
 const UNORDERED: [(u32, u32); 14] = [
     (100, 61),
     (129, 79),
@@ -199,8 +199,8 @@ fn unordered_names_of_short_and_long_numbers_are_read(rt: HostRuntime) {
     }
 }
 
-/// Three lines, counted from 1: that of a row, that of the same row again, and one that isn't a
-/// row. 0 is for none.
+/// The numbers of three lines, from 1: one with a row, one with the same row again, and one that
+/// isn't a row. 0 is for no line.
 type Lines = (u32, u32, u32);
 
 /// Appends `count` rows, in the order of [`text_of`], with these faults.
@@ -221,7 +221,7 @@ fn add_rows(text: &mut String, count: u32, step: u32, lines: Lines) -> Result<()
     Ok(())
 }
 
-/// Returns the fault of a table file with the rows of [`add_rows`].
+/// Returns the fault of a table file with the lines of [`add_rows`].
 fn fault_of_rows(alloc: Global, count: u32, step: u32, lines: Lines) -> Option<TableError> {
     let mut text = String::new(alloc);
     add_rows(&mut text, count, step, lines).ok()?;
@@ -278,8 +278,8 @@ fn the_first_line_that_repeats_a_name_is_reported(rt: HostRuntime) {
     }
 }
 
-/// The numbers just below and above the limits at which an encoding becomes longer, and the
-/// greatest.
+/// Numbers just below and above three limits at which an encoding becomes longer, and the greatest
+/// number.
 const LIMITS: [u32; 7] = [127, 128, 16383, 16384, 2097151, 2097152, 4294967295];
 
 /// Puts the rows of the numbers in `remaining`, in their permutation number `order`. Returns
@@ -324,16 +324,16 @@ fn names_at_the_limits_of_encodings_are_in_order(rt: HostRuntime) {
     }
 }
 
-/// Returns whether a table of `count` rows with even numbers has the rows of a map after each
-/// change at index `index`.
+/// Returns [`is_changed`] at index `index` for a table of `count` rows with even numbers, and a map
+/// with the same rows.
 fn is_changed_at(alloc: Global, count: u32, index: u32) -> Option<bool> {
     let mut table = table_read(alloc, count, 1, EVEN)?;
     let mut map = map_of(alloc, count, EVEN)?;
     Some(is_changed(&mut table, &mut map, index))
 }
 
-/// Returns whether the table has the rows of the map after each change: the row at index `index`
-/// gets a new value, one is put next to it, and both are removed.
+/// Changes `table` and `map`: the row at index `index` gets a new value, a row is put after it, and
+/// the two rows are removed. Returns whether the table has the rows of the map after each change.
 fn is_changed(table: &mut Table, map: &mut BTreeMap<u32, u32>, index: u32) -> bool {
     let number = index.wrapping_mul(2);
     let beside = number.wrapping_add(1);

@@ -25,12 +25,12 @@ fn next<'a>(table: &'a Table, name: &EncodedName<'_>) -> Binding<'a> {
     binding
 }
 
-/// Returns the table of this text.
+/// Returns the table that `text` describes, as a table file.
 pub(crate) fn table_of(rt: &impl Abort, alloc: Global, text: &[u8]) -> Table {
     Table::read(alloc, text).expect(rt, "a table")
 }
 
-/// Returns the identifier of this text.
+/// Returns the identifier that `text` writes as numbers and dots.
 pub(crate) fn name(rt: &impl Abort, text: &[u8]) -> Oid {
     parse_numeric(text).expect(rt, "a name")
 }
@@ -49,8 +49,8 @@ pub(crate) fn all_rows<'a>(table: &'a Table) -> Option<Successors<'a>> {
     Some(table.after(&EncodedName::read(&[0])?))
 }
 
-/// Returns whether this variable is read `rounds` rows past the first row after `from`, into a
-/// binding that held that first row.
+/// Reads the row that is `rounds` rows past the first row after `from`, into a binding that has the
+/// first one. Returns whether the binding then has this name and value.
 fn is_read(table: &Table, from: &[u8], rounds: usize, name: &[u8], value: &ValueRef<'_>) -> bool {
     match parse_numeric(from) {
         Ok(from) if from.is_wire() => {
@@ -156,7 +156,7 @@ pub(crate) fn assert_get(rt: &impl Abort, table: &Table, name: &[u8], value: &Va
     assert!(rt; get_returns(table, name, value), "{name:?}");
 }
 
-/// Asserts that a Get of a row returns its value, and a Get of another name an exception.
+/// Asserts that a Get of a row's name returns its value, and a Get of another name an exception.
 fn assert_exceptions(rt: &impl Abort, table: &Table) {
     let rows = [
         (LAST, ValueRef::Integer(3)),
@@ -375,7 +375,8 @@ fn assert_longest_string(rt: &impl Abort, alloc: Global, text: &[u8]) {
     assert!(rt; has_longest_string(&table_of(rt, alloc, text)));
 }
 
-/// Asserts that a string of 65535 parts after the tag is read, and that one part more is a fault.
+/// Asserts that a line is read whose value is `part`, an octet, 65535 times after `tag`, and that
+/// one part more is a fault.
 fn assert_longest(rt: &impl Abort, alloc: Global, tag: &[u8], part: &[u8]) {
     let longest = repeated_text(rt, alloc, tag, part, 65535, b"");
     assert_longest_string(rt, alloc, &longest);

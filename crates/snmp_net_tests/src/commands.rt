@@ -13,8 +13,8 @@ fn is_shown_so(alloc: Global, job: &Job<'_>, text: &str) -> bool {
 }
 
 /// Returns whether `words` are read as the job that `Debug` shows as `job`.
-// Here and in the other helpers, what was read is dropped by a call: at the end of a scope, the
-// code that drops each kind of job would be inlined.
+// Here and in the other helpers, what was read is dropped by a call of `drop`. Otherwise the code
+// that drops each kind of job would be inlined at the end of each helper.
 fn are_read_as(alloc: Global, words: &[&str], job: &str) -> bool {
     let read = read_words(alloc, words);
     let is_same = match &read {
@@ -350,7 +350,7 @@ fn is_single_in_get(alloc: Global, option: &str) -> bool {
         && are_refused(alloc, &["snmp", "snmpget", option, option, "router", ".1"])
 }
 
-/// Returns whether `option` is accepted once in the arguments of an agent, and refused twice.
+/// Returns whether `option` is accepted once in the arguments of snmpd, and refused twice.
 fn is_single_in_serve(alloc: Global, option: &str) -> bool {
     !are_refused(alloc, &["snmp", "snmpd", "--table=t.tab", option])
         && are_refused(alloc, &["snmp", "snmpd", option, "--table=t.tab", option])

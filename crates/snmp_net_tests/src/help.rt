@@ -3,7 +3,7 @@
 use snmp_words::{UsageError, read_words};
 use std::alloc::Global;
 
-/// Returns whether `text` ends with a newline, and each of `lines` is a line of it without the
+/// Returns whether `text` ends with a newline, and has each of `lines` as a line, perhaps with
 /// blanks around it.
 fn has_lines(text: &str, lines: &[&str]) -> bool {
     let mut all = true;

@@ -15,7 +15,7 @@ use std::time::Duration;
 const THREE: &[u8] =
     b"1.3.6.1.4.1.32473.1.10.0|2|3\n1.3.6.1.4.1.32473.1.2.0|4|wes\n1.3.6.1.4.1.32473.1.1.0|2|1\n";
 
-/// Returns the configuration of the agent of `public`.
+/// Returns the configuration of an agent with community `public`.
 fn public() -> Config<'static> {
     Config {
         community: b"public",
@@ -37,8 +37,8 @@ fn three(rt: &impl Abort, alloc: Global) -> Table {
     Table::read(alloc, THREE).expect(rt, "a table")
 }
 
-/// A sink that counts the rows. It also collects the last number but one of each name, and each
-/// integer, as two decimal digits each.
+/// A sink that counts the rows. It also appends the last number but one of each name, and each
+/// integer, to `number`, as two decimal digits each.
 #[derive(Drop)]
 struct Columns {
     number: u64,
@@ -244,7 +244,8 @@ fn sender_of(rt: &impl Abort, wire: &mut UdpLink, door: &UdpSocket) -> SocketAdd
     sender
 }
 
-/// Returns whether `wire` receives a stray without octets, then the reply, and nothing more.
+/// Returns whether `wire` receives an empty datagram, in place of one from another sender, then the
+/// reply, and nothing more.
 fn receives_reply(wire: &mut UdpLink) -> bool {
     let mut buffer = [0; 1472];
     wire.receive(&mut buffer) == Ok(Some(0))
@@ -254,8 +255,8 @@ fn receives_reply(wire: &mut UdpLink) -> bool {
         && wire.faults() == 0
 }
 
-/// Sends two datagrams to `wire`, the first from another door. Asserts that the one from its own
-/// door is the reply.
+/// Sends two datagrams to `wire`, the first from `other`. Asserts that only the one from `door`
+/// arrives as the reply.
 fn assert_reply(rt: &impl Abort, wire: &mut UdpLink, door: &UdpSocket, other: &UdpSocket) {
     let sender = sender_of(rt, wire, door);
     assert!(rt; other.send_to(b"another", sender).is_ok());

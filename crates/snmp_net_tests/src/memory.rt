@@ -16,7 +16,7 @@ const GET: [u8; 40] = [
     0x01, 0x02, 0x01, 0x01, 0x05, 0x00, 0x05, 0x00,
 ];
 
-/// The configuration of the agent of `public`.
+/// The configuration of an agent with community `public`.
 const PUBLIC: Config<'static> = Config {
     community: b"public",
     max_size: 1472,

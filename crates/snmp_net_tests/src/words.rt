@@ -1,4 +1,4 @@
-//! Arguments that are addresses: of agents, and to listen at.
+//! Arguments that are addresses: addresses of agents, and addresses to listen at.
 
 use snmp_net::{AgentAddress, UdpAddress};
 

@@ -13,7 +13,8 @@ use std::process::Abort;
 const THREE: &[u8] =
     b"1.3.6.1.4.1.32473.1.1.0|2|1\n1.3.6.1.4.1.32473.1.2.0|2|2\n1.3.6.1.4.1.32473.1.10.0|2|3\n";
 
-/// Which call of a link fails, counted from 1, and how many there were.
+/// Which call of a link fails, counted from 1, and how many calls there were. If `failing` is 0,
+/// none fails.
 #[derive(Clone, Copy)]
 struct Calls {
     failing: usize,
@@ -28,7 +29,7 @@ impl Calls {
     }
 }
 
-/// A link in memory, one of whose sends and one of whose receives fail.
+/// A link in memory that fails at most one send and at most one receive.
 #[derive(Drop)]
 struct Failing<'a> {
     link: MemoryLink<'a>,
@@ -119,7 +120,8 @@ struct Expected {
     receives: usize,
 }
 
-/// Returns whether the walk over the link of a case does what is expected before the link fails.
+/// Returns whether the walk over the link of a case does what is expected, and ends when the link
+/// fails.
 fn walk_does_as_expected(
     alloc: Global,
     table: &Table,
@@ -139,15 +141,16 @@ fn walk_does_as_expected(
         && link.receives.count == expected.receives
 }
 
-/// Asserts that the walk over the link of a case does what is expected before the link fails.
+/// Asserts that the walk over the link of a case does what is expected, and ends when the link
+/// fails.
 fn assert_walk(rt: &impl Abort, alloc: Global, case: Case<'_>, expected: Expected) {
     let core = walk_of(rt, ROOT, Mode::Plain, Method::Next, 1);
     let table = table_of(rt, alloc, THREE);
     assert!(rt; walk_does_as_expected(alloc, &table, core, case, expected));
 }
 
-/// Returns whether the Get over the link of a case, which fails, returns nothing, after `sends`
-/// sends and `receives` receives.
+/// Returns whether the Get over the link of a case ends when the link fails, and returns nothing,
+/// after `sends` sends and `receives` receives.
 fn get_returns_nothing(
     alloc: Global,
     table: &Table,
@@ -166,8 +169,8 @@ fn get_returns_nothing(
         && link.receives.count == receives
 }
 
-/// Asserts that the Get over the link of a case, which fails, returns nothing, after `sends` sends
-/// and `receives` receives.
+/// Asserts that the Get over the link of a case ends when the link fails, and returns nothing,
+/// after `sends` sends and `receives` receives.
 fn assert_get(rt: &impl Abort, alloc: Global, case: Case<'_>, sends: usize, receives: usize) {
     let names = names_of(rt, alloc, &[b"1.3.6.1.4.1.32473.1.1.0"]);
     let table = table_of(rt, alloc, THREE);
@@ -232,8 +235,8 @@ fn a_failing_link_ends_a_get_without_bindings(rt: HostRuntime) {
 /// The reasons for which a sink refuses a binding.
 const FAULTS: &[SinkFault] = &[SinkFault::Output, SinkFault::Memory];
 
-/// A sink that takes bindings as digits, and refuses binding number `refused`, counted from 1, for
-/// this reason.
+/// A sink that takes bindings as digits, and refuses binding number `refused`, counted from 1, with
+/// the reason `fault`.
 #[derive(Drop)]
 struct Refusing {
     digits: Digits,
@@ -255,7 +258,7 @@ impl Sink for Refusing {
 }
 
 impl Refusing {
-    /// Returns a sink that refuses binding number `refused` for this reason, and was given none.
+    /// Returns a sink that refuses binding number `refused` with the reason `fault`.
     fn new(refused: usize, fault: SinkFault) -> Refusing {
         Refusing {
             digits: Digits::new(),
@@ -265,15 +268,15 @@ impl Refusing {
         }
     }
 
-    /// Returns whether the sink was given these integers, and after them the binding that it
-    /// refuses.
+    /// Returns whether the sink took the digits of `number`, and then refused the last binding
+    /// passed to it.
     fn was_given(&self, number: u64) -> bool {
         self.digits.number == number && self.calls == self.refused
     }
 }
 
-/// Returns whether a walk into a sink that refuses binding number `refused` returns the integers
-/// before it and nothing after it, and ends with the sink's reason.
+/// Returns whether a walk into a sink that refuses binding number `refused` returns the digits of
+/// `number` before it and nothing after it, and ends with the sink's reason.
 fn is_walk_refused(
     alloc: Global,
     table: &Table,
@@ -290,7 +293,7 @@ fn is_walk_refused(
 }
 
 /// Asserts that a walk below this root, into a sink that refuses binding number `refused`, returns
-/// the integers before it and nothing after it, and ends with the sink's reason.
+/// the digits of `number` before it and nothing after it, and ends with the sink's reason.
 fn assert_refused(
     rt: &impl Abort,
     alloc: Global,
@@ -321,8 +324,8 @@ fn a_refused_binding_ends_the_walk_after_those_before(rt: HostRuntime) {
     }
 }
 
-/// Returns whether a Get into a sink that refuses binding number `refused` returns the integers
-/// before it and nothing after it, and ends with the sink's reason.
+/// Returns whether a Get into a sink that refuses binding number `refused` returns the digits of
+/// `number` before it and nothing after it, and ends with the sink's reason.
 fn is_get_refused(
     alloc: Global,
     table: &Table,
@@ -343,8 +346,8 @@ const NAMES: [&[u8]; 3] = [
     b"1.3.6.1.4.1.32473.1.1.0",
 ];
 
-/// Asserts that a Get into a sink that refuses binding number `refused` returns the integers before
-/// it and nothing after it, and ends with the sink's reason.
+/// Asserts that a Get into a sink that refuses binding number `refused` returns the digits of
+/// `number` before it and nothing after it, and ends with the sink's reason.
 fn assert_get_refused(
     rt: &impl Abort,
     alloc: Global,

@@ -21,7 +21,7 @@ const FIRST: &[u8] = b"1.3.6.1.4.1.32473.1.1.0";
 /// The name of the integer 2.
 const SECOND: &[u8] = b"1.3.6.1.4.1.32473.1.2.0";
 
-/// A name between those of the integers 2 and 3.
+/// A name without a row, between the names of the integers 2 and 3.
 const ABSENT: &[u8] = b"1.3.6.1.4.1.32473.1.3.0";
 
 /// A Get: the greatest message size of its agent, its retries, and the deliveries of its link.

@@ -25,7 +25,7 @@ struct Case<'a> {
 }
 
 impl<'a> Case<'a> {
-    /// Returns a plain walk without retries.
+    /// Returns the case of a plain walk without retries.
     fn new(method: Method, ways: &'a [Way]) -> Case<'a> {
         Case {
             mode: Mode::Plain,
@@ -36,7 +36,7 @@ impl<'a> Case<'a> {
     }
 }
 
-/// Returns whether the walk returns these integers, as the digits of `number`, and ends with `end`.
+/// Returns whether the walk returns the digits of `number` as its integers, and ends with `end`.
 fn walk_returns(
     table: &Table,
     core: WalkCore,
@@ -52,8 +52,8 @@ fn walk_returns(
     walk_loose(&mut link, core, case.retries, &mut digits) == *end && digits.number == number
 }
 
-/// Asserts that the walk below the root over the table of `text` returns these integers, as the
-/// digits of `number`, and ends with `end`.
+/// Asserts that the walk below the root over the table of `text` returns the digits of `number` as
+/// its integers, and ends with `end`.
 fn assert_walk(
     rt: &impl Abort,
     alloc: Global,
@@ -68,12 +68,13 @@ fn assert_walk(
     assert!(rt; walk_returns(&table, core, max_size, case, number, end));
 }
 
-/// Asserts that the walk over the nine rows returns these of their integers and ends with `end`.
+/// Asserts that the walk over the nine rows returns the digits of `number`, and ends with `end`.
 fn assert_nine(rt: &impl Abort, alloc: Global, case: Case<'_>, number: u64, end: &WalkEnd) {
     assert_walk(rt, alloc, NINE, 1472, case, number, end);
 }
 
-/// Asserts that the walk over the nine rows by this method, with these ways, returns each row once.
+/// Asserts that the walk over the nine rows by this method returns each row once, if the agent
+/// replies in these ways.
 fn assert_all(rt: &impl Abort, alloc: Global, method: Method, ways: &[Way]) {
     let case = Case::new(method, ways);
     assert_nine(rt, alloc, case, 123456789, &WalkEnd::Done(9));
@@ -202,8 +203,8 @@ fn a_way_whose_reply_does_not_fit_is_the_full_reply(rt: HostRuntime) {
     );
 }
 
-/// Returns whether the Get of these names over a link with this way returns `rows` bindings and
-/// ends with `end`.
+/// Returns whether the Get of these names returns `rows` bindings and ends with `end`, if the agent
+/// replies in this way.
 fn get_returns(table: &Table, names: &[Oid], way: Way, rows: usize, end: &WalkEnd) -> bool {
     let ways = [way];
     let mut link = LooseLink::new(table, public(1472), &ways);
@@ -211,8 +212,8 @@ fn get_returns(table: &Table, names: &[Oid], way: Way, rows: usize, end: &WalkEn
     get_ends(&mut link, names, 1, 0, &mut digits, end) && digits.rows == rows
 }
 
-/// Asserts that the Get of these names over a link with this way returns `rows` bindings and ends
-/// with `end`.
+/// Asserts that the Get of these names returns `rows` bindings and ends with `end`, if the agent
+/// replies in this way.
 fn assert_get(rt: &impl Abort, alloc: Global, names: &[Oid], way: Way, rows: usize, end: &WalkEnd) {
     let table = table_of(rt, alloc, NINE);
     assert!(rt; get_returns(&table, names, way, rows, end));
@@ -258,7 +259,7 @@ const FAILED: [u8; 42] = [
     0x01, 0x04, 0x01, 0x81, 0xFD, 0x59, 0x01, 0x01, 0x05, 0x00,
 ];
 
-/// The Response to `GET` with the integer 1, and a length of five octets.
+/// The Response to `GET` with the integer 1. The outermost length is encoded in five octets.
 const LONG: [u8; 47] = [
     0x30, 0x84, 0x00, 0x00, 0x00, 0x29, 0x02, 0x01, 0x01, 0x04, 0x06, 0x70, 0x75, 0x62, 0x6C, 0x69,
     0x63, 0xA2, 0x1C, 0x02, 0x01, 0x01, 0x02, 0x01, 0x00, 0x02, 0x01, 0x00, 0x30, 0x11, 0x30, 0x0F,

@@ -58,8 +58,8 @@ fn is_fault(link: &mut MemoryLink<'_>, buffer: &mut [u8], number: u64) -> bool {
     link.receive(buffer) == Err(LinkFault) && link.faults() == number
 }
 
-/// Returns whether the link delivers the replies to the requests 1, 2 and 3, the second after
-/// nothing, and fails for each short buffer between them.
+/// Returns whether the link delivers the reply to request 1, then nothing, and then the replies to
+/// 2 and 3. Each receive into a short buffer must fail and use no delivery.
 fn receives_all(link: &mut MemoryLink<'_>) -> bool {
     let mut short = [0; 65506];
     let mut exact = [0; 43];
@@ -74,7 +74,8 @@ fn receives_all(link: &mut MemoryLink<'_>) -> bool {
         && receives_into_longer(link, 4)
 }
 
-/// Returns whether a link with a reply, a loss and a late reply delivers as [`receives_all`] says.
+/// Sends three requests over a link that delivers the first reply, nothing, and the second reply.
+/// After these, it delivers the reply to the latest request. Returns [`receives_all`] of it.
 fn are_received(rt: &impl Abort, alloc: Global, table: &Table) -> bool {
     let deliveries = [Some(1), None, Some(2)];
     let mut link = MemoryLink::new(alloc, table, public(1472), &deliveries);

@@ -16,16 +16,15 @@ use std::process::Abort;
 const THREE: &[u8] =
     b"1.3.6.1.4.1.32473.1.1.0|2|1\n1.3.6.1.4.1.32473.1.2.0|2|2\n1.3.6.1.4.1.32473.1.3.0|2|3\n";
 
-/// A walk by GetNext, each of whose requests asks for the next row: the deliveries of its network,
-/// and its retries.
+/// A walk by GetNext: the deliveries of its network, and its retries.
 #[derive(Clone, Copy)]
 struct Case<'a> {
     deliveries: &'a [Delivery],
     retries: u32,
 }
 
-/// Returns whether the walk of a case returns these integers, as the digits of `number`, and ends
-/// with `end`.
+/// Returns whether the walk of a case returns the digits of `number` as its integers, and ends with
+/// `end`.
 fn walk_returns(
     alloc: Global,
     table: &Table,
@@ -42,8 +41,8 @@ fn walk_returns(
     walk_served(&mut link, core, case.retries, &mut digits) == *end && digits.number == number
 }
 
-/// Asserts that the walk over the network of these deliveries returns these integers, as the digits
-/// of `number`, and ends with `end`.
+/// Asserts that a walk over a network with these deliveries returns the digits of `number` as its
+/// integers, and ends with `end`.
 fn assert_walk(
     rt: &impl Abort,
     alloc: Global,
@@ -91,7 +90,7 @@ fn a_request_that_arrives_twice_returns_its_row_once(rt: HostRuntime) {
         Delivery::Request(1),
         Delivery::Request(1),
         Delivery::Reply(1),
-        // The reply to the repeated request arrives instead of the reply to the next request.
+        // The reply to the repeated request arrives before the reply to the next request.
         Delivery::Reply(2),
     ];
     assert_walk(&rt, rt.alloc(), TWICE, 0, 123, &WalkEnd::Done(3));
@@ -162,14 +161,14 @@ fn the_agent_has_a_turn_for_each_request_that_is_delivered(rt: HostRuntime) {
     assert!(&rt; MemoryNetwork::new(rt.alloc(), &[]).turns() == 1);
 }
 
-/// Returns whether a datagram of three octets is a fault of a receive into two, and arrives whole
-/// in three, at both ends.
+/// Returns whether at both ends a datagram of three octets arrives whole in a buffer of three, and
+/// a receive into a buffer of two fails.
 fn arrives_whole(network: &mut MemoryNetwork<'_>) -> bool {
     let mut short = [0; 2];
     let mut exact = [0; 3];
     network.receive(&mut short) == Err(EndpointFault)
         && network.faults() == 1
-        // Without deliveries, a fault of the agent's receive is a fault of the walk's too.
+        // Without deliveries, the walk's receive fails too after the agent's receive failed.
         && network.receive_reply(&mut exact) == Err(LinkFault)
         && network.faults() == 2
         && network.receive(&mut exact) == Ok(Some((3, ())))

@@ -1,4 +1,4 @@
-//! Walks over tables of several pages.
+//! Walks over tables that are stored in several pages, of up to 128 rows each.
 
 use crate::runs::{ROOT, name_of, public, resumed_walk, walk_ends, walk_of};
 use snmp_agent::Table;
@@ -48,7 +48,7 @@ fn rows_of(alloc: Global, count: u32, step: u32) -> Result<Vec<u8>, AllocError> 
 }
 
 /// Returns whether a walk over the `count` rows of `table` returns each of them once, in order, and
-/// nothing else. If there are none, it returns the exception of the root.
+/// nothing else. If there are none, the walk must return one binding, from a Get of the root.
 fn is_walked(
     rt: &impl Abort,
     alloc: Global,
@@ -106,7 +106,7 @@ fn assert_walked(rt: &impl Abort, alloc: Global, count: u32, step: u32, methods:
                 is_walked(rt, alloc, &table, count, method, size),
                 "{count} rows by {step} in messages of {size} octets"
             );
-            // After the first and the last row of a page, and the last of all.
+            // Resumed near the start and the end of a page, and after the last row.
             for &after in &[0, 127, 128, 255, 256, 511, count.saturating_sub(1)] {
                 assert!(rt;
                     after >= count || is_resumed(rt, alloc, &table, count, after, method, size),
@@ -120,7 +120,7 @@ fn assert_walked(rt: &impl Abort, alloc: Global, count: u32, step: u32, methods:
 #[test]
 fn tables_around_the_size_of_a_page_are_walked_in_order(rt: HostRuntime) {
     let methods = [Method::Next, Method::Bulk(50)];
-    // A step without a common factor with a count reaches each number once.
+    // A step without a common factor with the count reaches each number below the count once.
     for &count in &[0, 1, 127, 128, 129, 255, 256, 257, 512, 513] {
         assert_walked(&rt, rt.alloc(), count, 1, &methods);
         assert_walked(&rt, rt.alloc(), count, 101, &methods);

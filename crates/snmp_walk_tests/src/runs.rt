@@ -1,4 +1,4 @@
-//! Walks and Gets with community `public`, and whether they end as they should.
+//! What the tests share: tables, names, and walks and Gets with community `public`.
 ghost use Rattle.std.specs.Prelude.{◌≡◌, All, true};
 ghost use Rattle.snmp_oid.specs.Identifier.{IsWire, wire};
 ghost use Rattle.snmp_walk.specs.Facts.{IsFresh};
@@ -14,7 +14,8 @@ use std::process::Abort;
 /// The root of most walks.
 pub const ROOT: &[u8] = b"1.3.6.1.4.1.32473.1";
 
-/// Returns the configuration of the agent of `public`. Its messages have at most `max_size` octets.
+/// Returns the configuration of an agent with community `public`, whose messages have at most
+/// `max_size` octets.
 pub fn public(max_size: usize) -> Config<'static> {
     Config {
         community: b"public",
@@ -22,17 +23,18 @@ pub fn public(max_size: usize) -> Config<'static> {
     }
 }
 
-/// Returns the table of this text.
+/// Returns the table that `text` describes, as a table file.
 pub fn table_of(rt: &impl Abort, alloc: Global, text: &[u8]) -> Table {
     Table::read(alloc, text).expect(rt, "a table")
 }
 
-/// Returns the identifier of this text.
+/// Returns the identifier that `text` writes as numbers and dots.
 pub fn name_of(rt: &impl Abort, text: &[u8]) -> Oid {
     parse_numeric(text).expect(rt, "a name")
 }
 
-/// Returns the walk below this root, with this first id.
+/// Returns the walk below `root`, with first id `first_id`. A walk needs max-repetitions of at
+/// least 1 and an id below 2^31, so others are changed to such numbers.
 pub fn walk_of(rt: &impl Abort, root: &[u8], mode: Mode, method: Method, first_id: u32) -> WalkCore
     ensures { IsFresh result }
 {
@@ -45,7 +47,7 @@ pub fn walk_of(rt: &impl Abort, root: &[u8], mode: Mode, method: Method, first_i
     WalkCore::start(root, mode, method, b"public", first_id).expect(rt, "a root that can be sent")
 }
 
-/// Returns the walk below the root that is resumed after the name `after`.
+/// Returns the walk below [`ROOT`] that is resumed after the name `after`, with first id 1.
 pub fn resumed_walk(rt: &impl Abort, after: &Oid, method: Method) -> WalkCore
     requires { IsMethod method }
     ensures { IsFresh result }
@@ -78,7 +80,7 @@ pub fn put(rt: &impl Abort, text: &mut Vec<u8>, octets: &[u8]) {
         .expect(rt, "memory for octets");
 }
 
-/// Returns the identifiers of these texts.
+/// Returns the identifiers that `texts` write as numbers and dots.
 pub fn names_of(rt: &impl Abort, alloc: Global, texts: &[&[u8]]) -> Vec<Oid> {
     let mut names = Vec::new(alloc);
     for text in texts {

@@ -42,8 +42,8 @@ struct Asked {
     retries: u8,
 }
 
-/// What the walk of a table returns: the digit of each binding, if it has one, and how many
-/// bindings there are after the reply to each request.
+/// What a walk returns if each request gets its reply: the digit of each binding, if it has one,
+/// and how many bindings were returned up to the reply to each request.
 #[derive(Drop)]
 struct Whole {
     digits: Vec<Option<u8>>,
@@ -56,7 +56,7 @@ impl Whole {
         push(rt, &mut self.digits, digit);
     }
 
-    /// Ends a request, whose reply comes with the bindings up to here.
+    /// Records one more request. Its reply returns the last of the bindings appended so far.
     fn end_request(&mut self, rt: &impl Abort) {
         push(rt, &mut self.rows_after, self.digits.len());
     }
@@ -77,9 +77,9 @@ impl Whole {
         self.end_request(rt);
     }
 
-    /// Appends the requests of the walk, by their definition. Its table has a row for each of these
-    /// numbers below the root, with the number as its value, and the root's own row if `own` is its
-    /// value.
+    /// Appends the bindings and requests of the walk that `asked` describes. Its table has a row
+    /// for each of these numbers below the root, with the number as its value. If `own` isn't
+    /// `None`, the root too has a row, with the value `own`.
     fn add_walk(&mut self, rt: &impl Abort, asked: Asked, numbers: &[u8], own: Option<u8>) {
         let is_whole = asked.after.is_none();
         if asked.mode == Mode::Include && is_whole {
@@ -96,7 +96,7 @@ impl Whole {
         }
     }
 
-    /// Returns what a run of these counts is to return.
+    /// Returns what is expected of a run with these counts.
     fn wanted_after(&self, counts: RunCounts) -> Wanted {
         let rows = match counts.replied.checked_sub(1) {
             Some(last) => self.rows_after.get(last).copied().unwrap_or(0),
@@ -123,9 +123,10 @@ struct RunCounts {
     sends: usize,
 }
 
-/// Returns whether a try of `request` receives its reply, by the definition of the deliveries: each
-/// delivers the reply to the datagram of its number, and after the last delivery it is the reply to
-/// the latest datagram. `sent` has the request in each datagram that was sent.
+/// Returns whether a try of `request`, of up to 64 receives, receives its reply. A delivery is the
+/// reply to the datagram of its number, from 1; if there is no such datagram, the try ends. After
+/// the last delivery, a receive returns the reply to the latest datagram. `sent` has the request in
+/// each datagram that was sent, and `used` counts the deliveries so far.
 fn receives_reply(
     request: usize,
     sent: &[usize],
@@ -155,8 +156,8 @@ fn receives_reply(
     false
 }
 
-/// Returns how many of `requests` requests have their replies. Appends to `sent` the request in
-/// each datagram.
+/// Returns how many of `requests` requests get their replies. Appends to `sent` the request in each
+/// datagram that is sent.
 fn replied_count(
     rt: &impl Abort,
     sent: &mut Vec<usize>,
@@ -180,8 +181,8 @@ fn replied_count(
     requests
 }
 
-/// Returns how many of `requests` requests have their replies, and how many datagrams are sent, if
-/// the deliveries are those of `drawn`.
+/// Returns how many of `requests` requests get their replies, and how many datagrams are sent, with
+/// the retries and deliveries of `drawn`.
 fn counts_of(rt: &impl Abort, alloc: Global, requests: usize, drawn: &Drawn) -> RunCounts {
     let mut sent = Vec::new(alloc);
     let retries = drawn.asked.retries;
@@ -204,8 +205,9 @@ fn draw_numbers(rt: &impl Abort, alloc: Global, random: &mut Random) -> Vec<u8> 
     numbers
 }
 
-/// Appends a table with a row for each number below the root, from the highest to the lowest,
-/// perhaps one for the root itself, and rows before and after these.
+/// Appends the lines of a table, with the greatest name first: a row after the subtree of the root,
+/// one for each number below the root, one for the root itself if `own` is its value, and a row
+/// before the subtree.
 fn put_table(rt: &impl Abort, text: &mut Vec<u8>, numbers: &[u8], own: Option<u8>) {
     put(rt, text, b"1.3.6.1.4.1.32473.2|2|8\n");
     for number in numbers.iter().rev() {

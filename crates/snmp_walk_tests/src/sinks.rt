@@ -3,8 +3,8 @@
 use snmp_walk::{Link, LinkFault, MemoryLink, Sink, SinkFault};
 use snmp_wire::{Binding, ValueRef, parse_numeric};
 
-/// A sink that writes the integers of its bindings one after the other, as the digits of a number,
-/// and counts the bindings.
+/// A sink that appends each integer from 0 to 9 to `number` as a digit (1, 2 and 3 make 123), and
+/// counts the bindings.
 #[derive(Drop)]
 pub struct Digits {
     pub number: u64,
@@ -83,8 +83,8 @@ impl<'a> Sink for Listed<'a> {
     }
 }
 
-/// A link in memory that counts its sends, and how many of them were of another request than the
-/// one before.
+/// A link in memory that counts its sends, and its requests: the sends whose datagram has another
+/// id than the one sent before.
 #[derive(Drop)]
 pub struct Counted<'a> {
     pub link: MemoryLink<'a>,
@@ -126,7 +126,7 @@ impl<'a> Link for Counted<'a> {
     ghost lawful = { λ _ h. absurd h };
 
     fn send(&mut self, datagram: &[u8]) -> Result<(), LinkFault> {
-        // The last octet of the request-id, if the community is `public`.
+        // The request-id, if it has one octet and the community is `public`.
         let id = datagram.get(17).copied();
         if self.sends == 0 || id != self.last_id {
             self.requests = self.requests.saturating_add(1);

@@ -15,11 +15,12 @@ use std::process::Abort;
 const THREE: &[u8] =
     b"1.3.6.1.4.1.32473.1.1.0|2|1\n1.3.6.1.4.1.32473.1.2.0|2|2\n1.3.6.1.4.1.32473.1.10.0|2|3\n";
 
-/// A stray, how many times it arrives after each datagram sent, and the retries.
+/// A stray, how many times it arrives, and the retries of the run.
 #[derive(Clone, Copy)]
 struct Case<'a> {
     stray: &'a [u8],
-    /// How many times the stray arrives after each datagram sent; after later datagrams, never.
+    /// How many times the stray arrives after each datagram that is sent, before its reply. After
+    /// datagrams that aren't in the list, the stray doesn't arrive.
     before: &'a [usize],
     retries: u32,
 }
@@ -29,7 +30,7 @@ struct Case<'a> {
 struct Crowded<'a, 'c> {
     link: Counted<'a>,
     case: Case<'c>,
-    /// How many times the stray still arrives.
+    /// How many times the stray still arrives before the next reply.
     remaining: usize,
     receives: usize,
 }
@@ -256,8 +257,8 @@ fn octets_that_are_no_message_are_strays(rt: HostRuntime) {
 
 #[test]
 fn a_reply_with_one_wrong_part_is_a_stray(rt: HostRuntime) {
-    // The offset of the part, and an octet there that makes the datagram malformed, or makes
-    // another version, another community, another kind or another id.
+    // The offset of the part, and an octet there that makes the datagram malformed, or changes
+    // the version, the community, the kind of PDU or the id.
     const PARTS: &[(usize, u8)] = &[
         (1, 0x80),
         (1, 0x29),

@@ -10,8 +10,8 @@ use snmp_wire::ValueRef;
 use std::alloc::Global;
 use std::process::Abort;
 
-/// A link: its tables, the index of the table that replies to each datagram, and its deliveries.
-/// Also the retries.
+/// A link and the retries of a walk over it. The link has its tables, the index of the table that
+/// replies to each datagram, in the order of sending, and its deliveries.
 #[derive(Clone, Copy)]
 struct Case<'a> {
     tables: &'a [Table],
@@ -60,11 +60,11 @@ fn assert_changing(rt: &impl Abort, alloc: Global, case: Case<'_>, wanted: &[Row
     assert!(rt; returns_wanted(alloc, core, case, wanted, sends));
 }
 
-/// The rows 1, 2 and 4.
+/// A table with the rows 1, 2 and 4.
 const A: &[u8] =
     b"1.3.6.1.4.1.32473.8.1|2|1\n1.3.6.1.4.1.32473.8.2|2|2\n1.3.6.1.4.1.32473.8.4|2|4\n";
 
-/// The rows 0, 2, 3 and 4.
+/// A table with the rows 0, 2, 3 and 4.
 const B: &[u8] = b"1.3.6.1.4.1.32473.8.0|2|9\n\
     1.3.6.1.4.1.32473.8.2|2|2\n\
     1.3.6.1.4.1.32473.8.3|2|3\n\
@@ -78,7 +78,8 @@ const NAMES: [&[u8]; 4] = [
     b"1.3.6.1.4.1.32473.8.4",
 ];
 
-/// Asserts that a walk over the rows of A and then those of B returns the rows 1 to 4.
+/// Asserts that a walk returns the rows 1 to 4 if its first datagram is answered from `A`, and the
+/// others from `B`.
 fn assert_both(rt: &impl Abort, alloc: Global, tables: &[Table]) {
     let case = Case {
         tables,
@@ -101,8 +102,9 @@ fn rows_of_both_tables_are_returned_in_order(rt: HostRuntime) {
     assert_both(&rt, rt.alloc(), &tables);
 }
 
-/// Asserts that a walk over a table of the row 1 and then an empty one returns this row, and over
-/// the empty one first an exception.
+/// The tables are one with the row 1, and an empty one. Asserts that a walk returns the row 1 if
+/// its first datagram is answered from the first table and the next from the empty one. If it is
+/// the other way round, the walk returns an exception.
 fn assert_emptied(rt: &impl Abort, alloc: Global, tables: &[Table]) {
     let case = Case {
         tables,
@@ -167,11 +169,11 @@ fn assert_uses(rt: &impl Abort, alloc: Global, tables: &[Table]) {
         (&[1, 0], &[], [1, 0, 2], 4),
         (&[2, 1, 0, 1], &[], [2, 1, 0], 4),
         (&[1, 1, 0, 0, 1, 2], &[], [1, 1, 0], 4),
-        // The first request is sent twice. The reply is to its second datagram, or the late one to
-        // its first.
+        // The first request is sent twice. In the first case the reply that arrives is to its
+        // second datagram, in the other case a late one to its first.
         (&[0, 1, 0], &[None], [1, 0, 2], 5),
         (&[0, 1, 0], &[None, Some(1)], [0, 0, 2], 5),
-        // A stray, a loss, and a late reply to the second request.
+        // The first reply, this reply again (a stray), a loss, and a late reply to the second.
         (&[1, 0, 1], &[Some(1), Some(1), None, Some(2)], [1, 0, 2], 5),
         // A datagram that wasn't sent yet has no reply.
         (&[0, 1], &[Some(2)], [1, 2, 2], 5),

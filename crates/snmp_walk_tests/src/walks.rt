@@ -206,8 +206,8 @@ fn a_try_ends_with_its_64th_receive(rt: HostRuntime) {
     assert_walk(&rt, rt.alloc(), nothing, none, &WalkEnd::NoResponse);
 }
 
-/// Returns whether a walk over a link that has memory for it returns all rows, and then its ids run
-/// out.
+/// Returns whether a walk over a link that has reserved enough memory returns all rows, and then
+/// ends because its ids run out.
 fn runs_out(alloc: Global, table: &Table, core: WalkCore) -> bool
     requires { IsFresh core }
 {

@@ -1,4 +1,4 @@
--- The encoding of no binding, and of one, is at most 4,000,000,000 octets long.
+-- If a list has no binding, or only one, whose encoding has at most 70,000 octets, then its bindings together are encoded in at most 4,000,000,000 octets.
 use Rattle.std.proofs.Common.{◌≡◌, ℕ, ◌<◌, ◌≤◌, List, [], ◌∷◌, length, get_or, ap, arith, length-append}
 use Rattle.snmp_wire.specs.declared.binding.Binding.{Binding}
 use Rattle.snmp_wire.specs.Canon.{canon_binding, canon_bindings}

@@ -34,7 +34,7 @@ fn is_faultless(datagram: &[u8]) -> bool
     decode(datagram).is_ok()
 }
 
-/// No error's condition holds of all octets: none holds of these messages.
+/// Each error has a condition (`IsFault`), which not all datagrams meet: these messages meet none.
 #[test]
 fn a_message_meets_no_error_condition(rt: HostRuntime) {
     assert!(rt; is_faultless(&REQUEST));
@@ -58,7 +58,7 @@ fn has_one(message: &MessageRef<'_>, name: &[u32], value: &ValueRef<'_>) -> bool
 /// sysName.0.
 const NAME: [u32; 9] = [1, 3, 6, 1, 2, 1, 1, 5, 0];
 
-/// Returns whether a message has the head of `REQUEST`.
+/// Returns whether a message has the head of `REQUEST`: all that comes before the bindings.
 fn has_head(message: &MessageRef<'_>) -> bool {
     message.version() == 1
         && message.community() == b"public".as_slice()
@@ -104,7 +104,7 @@ fn assert_value(rt: &impl Abort, datagram: &[u8], value: &ValueRef<'_>) {
     assert!(rt; is_value(datagram, value), "{datagram:?}");
 }
 
-/// Asserts that the octets of each row are read as its value.
+/// Asserts for each row that its octets, as the value of a binding, are read as its value.
 fn assert_values(
     rt: &impl Abort,
     alloc: Global,
@@ -116,7 +116,7 @@ fn assert_values(
     Ok(())
 }
 
-/// Asserts that each row is refused because its content isn't that of a value with its tag.
+/// Asserts that each of these values is refused for its content, which no value with its tag has.
 fn assert_bad_contents(rt: &impl Abort, alloc: Global, rows: &[&[u8]]) -> Result<(), AllocError> {
     for octets in rows {
         let datagram = with_value(rt, alloc, octets)?;
@@ -270,7 +270,7 @@ const BAD_INTEGERS: &[&[u8]] = &[&[0x02, 0x05, 0x00, 0x00, 0x00, 0x00, 0x05], &[
 
 #[test]
 fn integers_are_read_in_shortest_and_longer_forms(rt: HostRuntime) -> Result<(), Fail> {
-    // In their shortest form and in longer ones.
+    // Integers in their shortest form and in longer ones.
     let rows = [
         (
             [0x02, 0x04, 0x00, 0x00, 0x00, 0x05].as_slice(),
@@ -299,7 +299,7 @@ const TOO_LARGE: &[&[u8]] = &[
 
 #[test]
 fn unsigned_numbers_are_read_up_to_their_limits(rt: HostRuntime) -> Result<(), Fail> {
-    // With and without a leading zero octet.
+    // Numbers with and without a leading zero octet.
     let rows = [
         ([0x41, 0x01, 0xC8].as_slice(), ValueRef::Counter32(200)),
         (&[0x41, 0x02, 0x00, 0xC8], ValueRef::Counter32(200)),
@@ -537,8 +537,8 @@ const FOUR_BINDINGS: [u8; 64] = [
     0x08, 0x06, 0x03, 0x2B, 0x87, 0x68, 0x04, 0x01, 0x78, 0x30, 0x05, 0x06, 0x01, 0x2B, 0x05, 0x00,
 ];
 
-/// Reads the next binding of each: of `read` into `binding`. Returns whether both have this name
-/// and value.
+/// Reads the next binding of `iterated`, and that of `read` into `binding`. Returns whether both
+/// have this name and value.
 fn are_next<'a>(
     iterated: &mut Bindings<'a>,
     read: &mut Bindings<'a>,
@@ -551,7 +551,8 @@ fn are_next<'a>(
         && iterated.next().as_ref() == Some(&*binding)
 }
 
-/// Returns whether neither has a binding left, and `binding` stays as it was.
+/// Returns whether `iterated` and `read` have no binding left, and `binding` is still the last one:
+/// 1.3 with Null.
 fn are_read<'a>(
     iterated: &mut Bindings<'a>,
     read: &mut Bindings<'a>,

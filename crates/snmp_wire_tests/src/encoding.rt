@@ -12,7 +12,8 @@ use snmp_wire::{
 };
 use std::process::Abort;
 
-/// Returns the parts of an SNMPv2c message with community `public`, id 1, and 0 as its `a`.
+/// Returns the parts of an SNMPv2c message with community `public`, id 1, and error-status or
+/// non-repeaters 0. `b` is its error-index or max-repetitions.
 fn message<'a>(kind: Kind, b: i32, bindings: &'a [Binding<'a>]) -> Parts<'a>
     ensures community { length result.community.now ≤ 65535 }
     ensures bindings { result.bindings.now ≡ bindings.now }
@@ -67,7 +68,7 @@ fn assert_encodable(rt: &impl Abort, binding: &Binding<'_>)
     assert!(rt; is_encodable(&binding.value));
 }
 
-/// Returns the length of the encoding of at most one binding, which is short enough for a message.
+/// Returns the encoded length of `bindings`, at most one. It is short enough for a message.
 fn octets_of(bindings: &[Binding<'_>]) -> u64
     requires at_most_one { length bindings.now ≤ 1 }
     requires encodable { All (λ b. IsEncodable (var_bind b)) bindings.now }
@@ -90,12 +91,12 @@ fn assert_message(rt: &impl Abort, kind: Kind, b: i32, binding: Binding<'_>, oct
     assert_parts(rt, &message(kind, b, &bindings), octets);
 }
 
-/// Returns whether each octet of `out` is as it was before something was written.
+/// Returns whether each octet of `out` is 0xEE, which the tests fill buffers with before a call.
 fn is_untouched(out: &[u8]) -> bool {
     out.iter().all(|octet| *octet == 0xEE)
 }
 
-/// Calls [`encode`] without its clauses: the tests compare what it returns and writes.
+/// Calls [`encode`]. It has no `ensures`, since the tests compare what is returned and written.
 fn put(parts: &Parts<'_>, out: &mut [u8]) -> Option<usize>
     requires community { length parts.now.community.now ≤ 65535 }
     requires bindings { All (λ b. IsEncodable (var_bind b)) parts.now.bindings.now }
@@ -104,7 +105,7 @@ fn put(parts: &Parts<'_>, out: &mut [u8]) -> Option<usize>
     encode(parts, out)
 }
 
-/// Calls [`size`] without its clauses.
+/// Calls [`size`]. It has no `ensures`, since the tests compare what is returned.
 fn size_of(parts: &Parts<'_>) -> u64
     requires community { length parts.now.community.now ≤ 65535 }
     requires bindings { All (λ b. IsEncodable (var_bind b)) parts.now.bindings.now }
@@ -113,14 +114,14 @@ fn size_of(parts: &Parts<'_>) -> u64
     size(parts)
 }
 
-/// Calls [`encode_binding`] without its clauses.
+/// Calls [`encode_binding`]. It has no `ensures`, since the tests compare what is written.
 fn put_binding(binding: &Binding<'_>, out: &mut [u8]) -> Option<usize>
     requires { IsEncodable (var_bind binding.now) }
 {
     encode_binding(binding, out)
 }
 
-/// Calls [`binding_size`] without its clauses.
+/// Calls [`binding_size`]. It has no `ensures`, since the tests compare what is returned.
 fn size_of_binding(binding: &Binding<'_>) -> u64
     requires { IsEncodable (var_bind binding.now) }
 {
@@ -348,8 +349,8 @@ fn write_again<'a>(
     len
 }
 
-/// Each octet of a request is replaced by each other. What is then read as a message is written in
-/// its shortest encoding, and that is read as the same message.
+/// Each octet of a request is replaced by each value. What is then read as a message is written,
+/// and what was written is read, and written again as the same octets.
 #[test]
 fn what_is_read_is_written_and_read_again(rt: HostRuntime) {
     for at in 0..REQUEST.len() {
@@ -363,7 +364,7 @@ fn what_is_read_is_written_and_read_again(rt: HostRuntime) {
     }
 }
 
-/// Returns whether the heads of two messages are equal.
+/// Returns whether the heads of two messages are equal, apart from the communities.
 fn have_same_head(again: &MessageRef<'_>, message: &MessageRef<'_>) -> bool {
     again.version() == message.version()
         && again.kind() == message.kind()
@@ -379,8 +380,8 @@ fn is_written_as(rt: &impl Abort, message: &MessageRef<'_>, octets: &[u8]) -> bo
     out.get(..len) == Some(octets)
 }
 
-/// Returns whether `octets` encode a message with the head of `message`, and that message is
-/// written as `octets` again.
+/// Returns whether `octets` encode a message with the head of `message`, apart from the community,
+/// and that message is written as `octets` again.
 fn is_read_again(rt: &impl Abort, octets: &[u8], message: &MessageRef<'_>) -> bool {
     match decode(octets) {
         Ok(again) => have_same_head(&again, message) && is_written_as(rt, &again, octets),
@@ -389,7 +390,7 @@ fn is_read_again(rt: &impl Abort, octets: &[u8], message: &MessageRef<'_>) -> bo
 }
 
 /// Asserts that a message with at most one binding is written, and that what was written is read as
-/// a message with the same head, which is written in the same way again.
+/// [`is_read_again`] says.
 fn assert_written(rt: &impl Abort, message: &MessageRef<'_>) {
     let mut out = [0; 512];
     let len = write_all(rt, message, &mut out);

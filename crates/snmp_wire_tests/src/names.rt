@@ -6,7 +6,8 @@ use snmp_wire::{
 };
 use std::process::Abort;
 
-/// Numbers around those at which an encoding becomes longer, or all bits of an octet are set.
+/// Numbers around the limits at which an encoding becomes longer, also if they are the second
+/// number of an identifier, which is encoded as one with the first. The last is the greatest.
 const AT_EDGES: &[u32] = &[
     0, 1, 39, 40, 47, 48, 126, 127, 128, 129, 16383, 16384, 16385, 2097151, 2097152, 268435455,
     268435456, 4294967295,

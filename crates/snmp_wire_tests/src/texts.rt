@@ -1,4 +1,4 @@
-//! Identifiers are read from decimal numbers with dots, and written so.
+//! Identifiers are read from text, decimal numbers with dots between them, and written as text.
 
 use snmp_oid::{LONGEST_TEXT, MAX_LEN, Oid, OidTextError, parse_numeric, write_numeric};
 use std::alloc::AllocError;

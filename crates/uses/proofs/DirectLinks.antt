@@ -10,7 +10,7 @@ use Rattle.uses.specs.contracts.direct.DirectLink.TheImpl.{ghosts}
 abbrev Takes : Direct → List (Event (Unit {0})) → Direct → Type 0
 Takes old events new = InTurn (Happens ghosts) old events new
 
--- if a sequence of events took the link from `old` to `new`, then the events before `x` took it to a state in which `x` happened
+-- if the events `xs`, then `x`, then `ys` took the link from `old` to `new`, then `xs` took it from `old` to a state `at`, and `x` happened there
 up_to : (xs ys : List (Event (Unit {0}))) (x : Event (Unit {0})) (old new : Direct) → Takes old (xs ++ x ∷ ys) new
     → (at : Direct) × (next : Direct) × Takes old xs at × Happens ghosts at x next
 up_to [] ys x old new h = (old, h.0, refl, h.1)
@@ -27,7 +27,7 @@ same_agent : (events : List (Event (Unit {0}))) (old new : Direct) → Takes old
 same_agent [] old new h = ap agent_at h
 same_agent (e ∷ more) old new h = same_agent more h.0 new h.2 ∙ same_step e old h.0 h.1
 
--- what is replied to was sent in these events, or waited before them
+-- if `events` took the link from `old` to `new`, and `q` is the pending datagram of `new`, then `q` was sent in `events`, or was pending in `old`
 waited : (events : List (Event (Unit {0}))) (old new : Direct) (q : List ℕ) → Takes old events new → pending new ≡ Some q
     → OneOf (tried events) q ⊎ (pending old ≡ Some q)
 waited [] old new q h waits = inr (ap pending (sym h) ∙ waits)
@@ -52,7 +52,7 @@ waited (receive_failed ∷ more) old new q h waits = elim (waited more h.0 new q
   | inr now ↦ inr (sym h.1.now ∙ now)
 ]
 
--- if they begin with a send, it was sent in these
+-- if all the events begin with a send, `before` took the link from `old` to `at`, and `q` is pending in `at`, then `q` was sent in `before`
 sent_before : (before after : List (Event (Unit {0}))) (r : List ℕ) (old at : Direct) (q : List ℕ)
     → BeginWithSend (before ++ came tt r ∷ after) → Takes old before at → pending at ≡ Some q → OneOf (tried before) q
 sent_before [] after r old at q begins h waits = absurd begins

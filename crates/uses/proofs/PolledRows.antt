@@ -1,4 +1,4 @@
--- What a walk without its root's Get gives of one table is a poll.
+-- If a walk of mode `NoLast` is over an agent with one table, then its rows are what a poll of that table collects (`IsPolled`).
 use Rattle.std.proofs.Common.{◌≡◌, ◌∙◌, ℕ, List, [], ◌∷◌, ◌++◌, sym, ap, subst, append_assoc}
 use Rattle.snmp_oid.specs.Identifier.{wire}
 use Rattle.snmp_wire.specs.Message.{VarBind}

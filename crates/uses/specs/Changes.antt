@@ -16,13 +16,14 @@ get_of community id name = record {
   bindings = asking name ∷ [];
 }
 
--- the Response to such a Get that has this binding
+-- the Response, with the one binding `binding`, to the Get of the binding's name by a manager of
+-- this community, with the request-id `id`
 abbrev pub reply_with : List ℕ → ℤ → VarBind → Message
 reply_with community id binding =
     response (get_of community id binding.name) no_error (pos 0) (binding ∷ [])
 
--- if the message has at most `max_size` octets, it is at the start of `out`, and `size` is its
--- length
+-- if the shortest encoding of `message` has at most `max_size` octets, then it is at the start of
+-- `out`, and `size` is its length
 abbrev pub IsSent : ℕ → Message → Option ℕ → List ℕ → Type 0
 IsSent max_size message size out = Fits max_size message
     → (size ≡ Some (length (canon message))) × (take (length (canon message)) out ≡ canon message)

@@ -10,8 +10,8 @@ use Rattle.snmp_walk.specs.{Facts.IsDone, Link.OneOf, Ordered.AreOrdered, RunRes
 use Rattle.snmp_walk.specs.Walk.{rows_below}
 use Rattle.uses.specs.declared.subtrees.Subtree.{Subtree}
 
--- The rows are the table's instances below the root, each once and in order: all of them if the
--- poll is done, and otherwise the first of them.
+-- `rows` are the instances of `view` below `root`, each once and in order: all of them if `end`
+-- says that the poll is done, and otherwise the first of them.
 pub record IsPolled (view : MibView) (root : List ℕ) (end : WalkEnd) (rows : List VarBind)
     : Type 0 where
   -- each row is an instance of the table below the root,
@@ -21,18 +21,19 @@ pub record IsPolled (view : MibView) (root : List ℕ) (end : WalkEnd) (rows : L
   -- no instance is left out that comes before one of the rows,
   pub none_skipped : (p q : VarBind) → OneOf rows q → IsRow view p → IsBelow p.name root
       → Precedes p.name q.name → OneOf rows p
-  -- and at the end none is
+  -- and if the poll is done, no instance below the root is left out
   pub all : IsDone end → (p : VarBind) → IsRow view p → IsBelow p.name root → OneOf rows p
 
--- a beginning of the rows below the root is polled, if it is all of them at the end
+-- a prefix `rows` of the rows of `view` below `root` is what a poll collects, if it is all of them
+-- when `end` says that the poll is done
 abbrev pub AreBeginningsPolled : Type 0
 AreBeginningsPolled = (view : MibView) (root : List ℕ) (end : WalkEnd) (rows more : List VarBind)
     → IsMibView view → rows_below root (variables view) ≡ rows ++ more
     → (IsDone end → rows ≡ rows_below root (variables view)) → IsPolled view root end rows
 
--- A poll of this root took the link from one state to the other. If it began, what happened at the
--- link has this consequence: where all that arrived are replies of the agent of one table, the rows
--- are polled from that table.
+-- A poll of `root`, which collected `subtree`, took the link from state `old` to `new`. The names
+-- of the rows increase. If the poll began, and all that arrived at the link are replies of a lawful
+-- agent with one table to what was sent, then the rows are polled from that table (`IsPolled`).
 pub record IsPolledOver {W : Type 0} (facts : LinkFacts W) (old : W) (root : List ℕ)
     (subtree : Subtree) (new : W) : Type 0 where
   pub root_is : subtree.root ≡ root
@@ -41,8 +42,8 @@ pub record IsPolledOver {W : Type 0} (facts : LinkFacts W) (old : W) (root : Lis
       (λ agents why. (view : MibView) → agents.tables ≡ view ∷ []
       → IsPolled view root why subtree.rows))
 
--- the subtrees were polled in turn, one for each root, each from the state in which the poll before
--- it left the link
+-- `subtrees` were polled in turn, one for each of `roots`. The first poll began in state `old`,
+-- each later one in the state after the poll before it, and the last one ended in state `new`.
 abbrev pub ArePolledInTurn : {W : Type 0} → LinkFacts W → W → List (List ℕ) → List Subtree → W
     → Type 0
 ArePolledInTurn {W} facts old [] [] new = new ≡ old

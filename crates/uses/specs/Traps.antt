@@ -16,6 +16,6 @@ pub record IsTrapMessage (message : Message) (oid : List ℕ) : Type 0 where
   pub bindings : message.bindings
       ≡ first ∷ record { name = snmp_trap_oid; value = object_id oid } ∷ more
 
--- the octets encode such a message
+-- `octets` encode an SNMPv2-Trap of SNMPv2c, whose second binding says that snmpTrapOID.0 is `oid`
 abbrev pub IsTrap : List ℕ → List ℕ → Type 0
 IsTrap octets oid = (message : Message) × Spells message octets × IsTrapMessage message oid

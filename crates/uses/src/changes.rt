@@ -44,7 +44,7 @@ fn write_get(community: &[u8], name: &Oid, id: i32, out: &mut [u8; 1000]) -> usi
 {
     message_sizes();
     requests_are_short();
-    // An identifier has at most 128 numbers.
+    // The contract of `as_slice` says that a name has at most 128 numbers, so the Get is short.
     let _numbers = name.as_slice();
     let bindings = [Binding {
         name: name.copy(),

@@ -10,11 +10,11 @@ use std::marker::Model;
 pub struct Row {
     /// The name of the instance.
     pub name: Oid,
-    /// Its value.
+    /// The value of the instance.
     pub value: Value,
 }
 
-/// The rows that were collected, in the order in which they arrived.
+/// The rows that were collected, in order of arrival.
 ///
 /// Contracts see the list of their bindings.
 #[derive(Drop)]

@@ -11,14 +11,14 @@ use snmp_wire::{MAX_DATAGRAM, Oid};
 use std::alloc::Global;
 
 /// A link to the agent of a table. Each receive returns the agent's reply to the datagram that was
-/// sent last, and no other datagram is stored.
+/// sent last, if there is a reply. No other datagram is stored.
 #[derive(Drop)]
 pub struct Direct<'a> {
     table: &'a Table,
     config: Config<'a>,
     /// The datagram that was sent last.
     last: Vec<u8>,
-    /// Whether there is one.
+    /// Whether `last` is a datagram that was sent.
     is_sent: bool,
     fault_count: u64,
 }
@@ -28,7 +28,7 @@ impl<'a> Direct<'a> {
     ghost use Rattle.snmp_agent.specs.Reply.{IsReply, agent_of};
     ghost use Rattle.uses.specs.Direct.{agent_at};
 
-    /// Returns a link over which nothing was sent.
+    /// Returns a new link. Nothing was sent over it.
     pub fn new(alloc: Global, table: &'a Table, config: Config<'a>) -> Direct<'a>
         ensures { agent_at result ≡ agent_of table.now config.entry }
     {
@@ -61,8 +61,8 @@ impl<'a> Link for Direct<'a> {
     ghost use Rattle.snmp_walk.specs.Memory.{agents_over};
     ghost use Rattle.uses.specs.Direct.{HasAsked, HasFailed, HasReplied, IsIdle};
 
-    // It doesn't store what was sent before, so it isn't honest in the sense of a link: what it
-    // promises are the four relations below.
+    // A `Direct` doesn't store all that was sent over it, so it can't be `honest`, which is about
+    // all that was sent. What it promises are `HasAsked`, `HasFailed`, `HasReplied` and `IsIdle`.
     ghost records = { λ _. ⊥ };
 
     ghost honest = { λ _. ⊥ };
@@ -126,7 +126,8 @@ impl<'a> Link for Direct<'a> {
 /// Collects the instances below `root` of the table at the other end of a `Direct`.
 ///
 /// It may be called again and again over one link, always with ids from 1 on: a poll begins with a
-/// send, and then the agent replies only to what the poll sent. So the promise has no premise.
+/// send, and then the agent replies only to what the poll sent. So `table` is promised whatever was
+/// sent over the link before.
 pub fn poll_again(
     link: &mut Direct<'_>,
     root: Oid,

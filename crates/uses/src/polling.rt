@@ -24,10 +24,11 @@ use snmp_wire::Oid;
 ///
 /// What the rows are depends on the link:
 ///
-/// - `table`: over an honest link, such as `MemoryLink`, they are the instances below the root
-///   (`IsPolled`).
-/// - `happened`: over any other link they are these if all that arrived are replies of an agent,
-///   as over a network that alters nothing.
+/// - `table`: over an honest link, which delivers only its agent's replies to what was sent, they
+///   are the instances below the root (`IsPolled`), if earlier requests over it had lower ids. A
+///   new `MemoryLink` is honest.
+/// - `happened`: over any link they are these instances if all that arrived are replies of an
+///   agent, as over a network that alters nothing.
 /// - `rising`: whatever arrives, the names increase, so that no instance is collected twice.
 pub fn poll<L: Link>(
     link: &mut L,
@@ -85,8 +86,9 @@ pub fn next_id(first_id: u32, rows: &Collected) -> Option<u32>
 
 /// Collects the instances below two roots over one link, one after the other, with ids from 1 on.
 ///
-/// The second poll begins with the id after those of the first, so that it takes no late reply to
-/// one of the first's requests for its own. Without such an id it ends with `TooManyRequests`.
+/// The ids of the second poll are greater than the ids of the first, so that a late reply to the
+/// first poll isn't taken for a reply to the second. If there is no greater id, the second poll
+/// isn't begun, and its end is `TooManyRequests`.
 pub fn poll_twice<L: Link>(
     link: &mut L,
     roots: (Oid, Oid),
@@ -120,7 +122,7 @@ pub fn poll_twice<L: Link>(
 }
 
 /// A law, as a call that does nothing: a prefix of the rows of a table below a root is what a poll
-/// collects (`IsPolled`).
+/// collects (`IsPolled`), if it is all of them when the poll is done.
 fn beginnings_are_polled()
     ensures { AreBeginningsPolled }
 {

@@ -40,7 +40,7 @@ fn are_first_two(rt: &impl Abort, rows: &Collected) -> bool {
     }
 }
 
-/// Returns whether the rows are the one of the second subtree.
+/// Returns whether the only row is the one of the second subtree.
 fn is_last(rt: &impl Abort, rows: &Collected) -> bool {
     match rows.as_slice() {
         [row] => {
@@ -55,7 +55,7 @@ fn is_last(rt: &impl Abort, rows: &Collected) -> bool {
 fn two_subtrees_are_polled_over_one_link(rt: HostRuntime) {
     let alloc = rt.alloc();
     let table = three(&rt, alloc);
-    // The first reply is lost, and arrives again during the second poll.
+    // The first reply doesn't arrive in time, but late, during the second poll.
     let deliveries = [None, Some(2), Some(3), Some(4), Some(1)];
     let mut link = MemoryLink::new(alloc, &table, public(), &deliveries);
     let mut rows = Collected::new(alloc);

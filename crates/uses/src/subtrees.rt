@@ -14,7 +14,7 @@ pub struct Subtree {
     pub root: Oid,
     /// How the poll ended, or why it didn't begin.
     pub end: Result<WalkEnd, StartError>,
-    /// The instances below the root.
+    /// The rows that the poll collected.
     pub rows: Collected,
 }
 
@@ -23,9 +23,9 @@ pub struct Subtree {
 /// A poll that fails doesn't stop those after it: each subtree says how its poll ended. Ids
 /// continue from poll to poll; after the greatest id they begin with 1 again.
 ///
-/// The link may be a socket, of which nothing is promised. If all that arrived in a poll are
-/// replies of an agent to what was sent, the rows are those of the agent's table
-/// (`ArePolledInTurn`). A caller opens it through the network of `rt`:
+/// The link may be a socket: then nothing is promised about what arrives. If all that arrived in a
+/// poll are an agent's replies to what was sent, the rows are instances of the agent's table below
+/// the root (`ArePolledInTurn`). A caller opens a socket through the network of `rt`:
 ///
 /// ```
 /// let mut link = UdpLink::open(&rt, "192.0.2.1", 161, 1)?;

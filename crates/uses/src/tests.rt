@@ -1,4 +1,4 @@
-//! Each call once.
+//! Tests of `trap_oid` and `put_and_remove`.
 
 use crate::{put_and_remove, trap_oid};
 use snmp_agent::{Config, Table};

@@ -1,4 +1,4 @@
-//! A receiver of traps.
+//! The notification that a received trap reports.
 ghost use Rattle.std.specs.Prelude.{List, ℕ, IfSome, IfNone};
 ghost use Rattle.uses.specs.Traps.{IsTrap, IsTrapMessage};
 
@@ -12,7 +12,8 @@ const SNMP_TRAP_OID: [u32; 11] = [1, 3, 6, 1, 6, 3, 1, 1, 4, 1, 0];
 
 /// Returns the identifier of the notification that a datagram reports: the value of snmpTrapOID.0,
 /// which is the second binding of an SNMPv2-Trap (RFC 3416, section 4.2.6). Returns `None` if the
-/// datagram isn't an SNMPv2-Trap of SNMPv2c, or if its second binding is another one.
+/// datagram isn't an SNMPv2-Trap of SNMPv2c, or if its second binding isn't snmpTrapOID.0 with an
+/// identifier.
 pub fn trap_oid(datagram: &[u8]) -> Option<Oid>
     ensures some { IfSome result (IsTrap datagram.now) }
     ensures none { IfNone result ((oid : List ℕ) → IsTrap datagram.now oid → ⊥) }

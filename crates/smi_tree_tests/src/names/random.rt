@@ -9,8 +9,8 @@ fn next(state: u64) -> (u64, u32) {
     (after, (after >> 33) as u32)
 }
 
-/// Returns an identifier below `prefix`, or sometimes elsewhere. Its further numbers, at most 11,
-/// are often those of printable characters.
+/// Returns `prefix`, or sometimes an empty identifier, with up to 11 further numbers. These are
+/// often the codes of printable characters.
 pub fn random_oid(prefix: &[u32], seed: u64) -> Oid {
     let (mut state, first) = next(seed);
     let mut oid = Oid::new();

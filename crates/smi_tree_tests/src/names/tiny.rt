@@ -41,8 +41,8 @@ pub const TRIPLE: &str = "tinyNumber, tinyPair, tinyAddress";
 pub const MAC: &str =
     "OBJECT-TYPE SYNTAX Mac MAX-ACCESS read-only STATUS current DESCRIPTION \"Address.\"";
 
-/// Returns the tree of the module in which `tinyMac`, a column at 1.3.6.2, is defined by `clauses`,
-/// and its rows have this INDEX. It is in a box, whose `drop` is proved once.
+/// Returns the tree of a module whose rows have this INDEX, and whose column `tinyMac`, 1.3.6.2, is
+/// defined by `clauses`. It is in a box, so that the code that drops it is proved only once.
 pub fn sample(alloc: Global, index: &str, clauses: &str) -> Result<Box<Tree>, Fail> {
     let mut text = Vec::from_slice(alloc, BEFORE)?;
     text.extend_from_slice(index.as_bytes())?;
