@@ -920,7 +920,16 @@ def small_stack():
                       differs(run("snmpget", "-Onqv", server.address, *names, before=before)[0], 0))
 
 
-# -- the key of names
+# -- counts of instructions
+
+def counted(*words):
+    """Runs the program. Returns how it ended, and the number of its instructions."""
+    with file() as log:
+        ran = run(*words, before=["valgrind", "--tool=callgrind", "--callgrind-out-file=/dev/null", f"--log-file={log}",
+                                  "--trace-children=yes"])
+        with open(log, encoding="utf-8") as lines:
+            return ran, int(re.findall(r"Collected : (\d+)", lines.read())[-1])
+
 
 def module_of(names):
     """Returns a module file with 20,000 names: 'plain' ones, or 'chosen' ones whose hashes under the fixed key fall
@@ -941,14 +950,25 @@ def module_of(names):
 def chosen_names():
     wrong, counts = [], {}
     for names in "plain", "chosen":
-        with file(module_of(names)) as module, file() as log:
-            before = ["valgrind", "--tool=callgrind", "--callgrind-out-file=/dev/null", f"--log-file={log}",
-                      "--trace-children=yes"]
-            ran = run("snmptranslate", "--mib", module, "-On", ".1.3", before=before)
-            with open(log, encoding="utf-8") as lines:
-                counts[names] = int(re.findall(r"Collected : (\d+)", lines.read())[-1])
+        with file(module_of(names)) as module:
+            ran, counts[names] = counted("snmptranslate", "--mib", module, "-On", ".1.3")
         wrong.append(differs((names, ran), (names, (0, ".1.3\n", ""))))
     return wrongs(*wrong, "" if counts["chosen"] <= 2 * counts["plain"] else f"{counts} instructions")
+
+
+# Catches: a program that searches for a label among all children of a node.
+@test("twice as many rows take about twice the instructions, also if their names have the labels of as many siblings",
+      lacks_counts())
+def many_siblings():
+    wrong, counts = [], {}
+    for size in 2000, 4000:
+        nodes = "".join(f"wide{i} OBJECT IDENTIFIER ::= {{ wide {i} }}\n" for i in range(size))
+        module = f"WIDE-MIB DEFINITIONS ::= BEGIN\nwide OBJECT IDENTIFIER ::= {{ iso 9 }}\n{nodes}END\n"
+        rows = "".join(f"wide.wide{i}.{i}|2|{i}\n" for i in range(size))
+        with file(module.encode()) as mib, file(f"#snmptab 2\n{rows}".encode()) as table:
+            ran, counts[size] = counted("snmpget", "--mib", mib, "-Oqv", f"table:{table}", "wide.wide99.99")
+        wrong.append(differs((size, ran), (size, (0, "99\n", ""))))
+    return wrongs(*wrong, "" if counts[4000] <= 2.5 * counts[2000] else f"{counts} instructions")
 
 
 # -- descriptors and ports

@@ -1,18 +1,15 @@
 -- The first child with a label is the one with the lowest number.
-use Rattle.std.proofs.{lemmas.Grind.common_steps, lemmas.Bool.cases_eq, lemmas.Bool.cases_order}
-use Rattle.std.proofs.Common.{◌≡◌, ◌≢◌, ℕ, zero, suc, ◌<◌, ◌≤◌, Bool, cond, List, [], ◌∷◌, ◌++◌, length, Option, Some, None, refl, ap, arith}
-use Rattle.std.specs.{List.find, List.filter_map, List.Contains, List.Sorted.IsStrictlySortedBy, Ordering.nat_cmp}
-use Rattle.std.proofs.lemmas.Map.Keys.{sorted_tail, below_from_sorted}
-use Rattle.smi_tree.specs.branches.FirstIndex.{first_index, oid_at, AreChildren}
+use Rattle.std.proofs.{lemmas.Grind.common_steps, lemmas.Bool.cases_eq, lemmas.Bool.cases_lt, lemmas.Bool.cases_order, lemmas.List.length-map}
+use Rattle.std.proofs.lemmas.Option.{slice_get_within}
+use Rattle.std.proofs.Common.{◌≡◌, ◌≢◌, ℕ, zero, suc, ◌+◌, ◌<◌, ◌≤◌, List, [], ◌∷◌, ◌++◌, length, Option, Some, None, IfSome, IsSomeAnd, true}
+use Rattle.std.proofs.Common.{option_map, refl, sym, ap, ◌∙◌, arith, ◌⊎◌, inl, inr}
+use Rattle.smi_tree.specs.{branches.FirstIndex.first_index, branches.FirstIndex.oid_at, branches.Children.IsLowerChild}
+use Rattle.smi_text.specs.trees.Mark.{same_text}
+use Rattle.smi_tree.specs.Indices.{label_at, IsPrevious}
 use Rattle.smi_names.specs.{meaning.Meaning.or_else, nodes.Nodes.Node}
-use Rattle.smi_tree.specs.Nodes.{IsOfLowest, nothing, lowest, IsFirstChild, is_labelled, of_lowest, highest, child_at, child_of, oids_of}
-use Rattle.smi_tree.specs.Nodes.{last_number}
-use Rattle.smi_tree.proofs.{FirstIndex.index_found, First.none_if}
-
--- the first result of `f` for the numbers, in their order, that isn't `None`
-abbrev pub of_first : (ℕ → Option ℕ) → List ℕ → Option ℕ
-of_first f [] = None
-of_first f (n ∷ ns) = or_else (f n) (of_first f ns)
+use Rattle.smi_tree.specs.Nodes.{IsOfLowest, nothing, lowest, IsFirstChild, is_labelled, of_lowest, highest, child_at, child_of, oids_of, labels_of}
+use Rattle.smi_tree.specs.Nodes.{last_number, index_anywhere, has_label}
+use Rattle.smi_tree.proofs.{FirstIndex.index_found, First.none_if, First.passing, Previous.IsFirstOf, Previous.first_of, Previous.label-of, Lists.get_within, SameTexts.same, SameTexts.same_itself}
 
 -- `f` has at most one result for the lowest number
 one_lowest : {f : ℕ → Option ℕ} {r s : Option ℕ} → IsOfLowest f r → IsOfLowest f s → r ≡ s
@@ -37,33 +34,6 @@ of_lowest-lowest f b within = by (of_lowest f b) (lowest_below f b)
     by : (r : Option ℕ) → IsLowestBelow f b r → IsOfLowest f r
     by None below = nothing (λ m. none_if (f m) (λ k e. let none = below m (within m k e) in cc))
     by (Some k) (n, e, before) = lowest n k e before
-
-in-rest : (n m : ℕ) (ns : List ℕ) → Contains (n ∷ ns) m → n ≢ m → Contains ns m
-in-rest n m ns (i, l, e) other = grind (arith, common_steps)
-
--- if the numbers `ns` increase, and `f` is `None` for all others, then its first result for `ns` is the result for the lowest number
-of_first-lowest : (f : ℕ → Option ℕ) (ns : List ℕ) → IsStrictlySortedBy nat_cmp ns → ((n k : ℕ) → f n ≡ Some k → Contains ns n)
-    → IsOfLowest f (of_first f ns)
-of_first-lowest f [] rising all = nothing (λ m. none_if (f m) (λ k e. let there = all m k e in omega (arith, there.1)))
-of_first-lowest f (n ∷ ns) rising all =
-    by (f n) refl (λ none. of_first-lowest f ns (sorted_tail nat_cmp n ns rising) (λ m k e. in-rest n m ns (all m k e) (none m k e)))
-  where
-    before : (m : ℕ) → m < n → f m ≡ None
-    before m l = none_if (f m) (λ j e.
-        let there = in-rest n m ns (all m j e) (λ s. absurd (omega (arith, s, l))) in
-        let above = below_from_sorted (n ∷ ns) 0 (suc there.0) m rising (omega arith) (omega (arith, there.1)) in
-        omega (arith, rw there.2 at above, l))
-
-    by : (r : Option ℕ) → f n ≡ r → (((m k : ℕ) → f m ≡ Some k → n ≢ m) → IsOfLowest f (of_first f ns)) → IsOfLowest f (or_else (f n) (of_first f ns))
-    by None e rest = rw e (rest (λ m k h same. let at : f n ≡ Some k = rw same h in cc))
-    by (Some k) e rest = rw e (lowest n k e before)
-
--- if `h` returns what `g` returns, but only if that passes the test `p`, then the first result of `g` for `ns` that passes is the first result of `h`
-find-first : (p : ℕ → Bool) (g : ℕ → Option ℕ) (h : ℕ → Option ℕ) (ns : List ℕ)
-    → ((n : ℕ) → g n ≡ None → h n ≡ None) → ((n k : ℕ) → g n ≡ Some k → h n ≡ cond (p k) (Some k) None)
-    → find p (filter_map g ns) ≡ of_first h ns
-find-first p g h [] none some = refl
-find-first p g h (n ∷ ns) none some = grind (arith, common_steps, find-first p g h ns none some, none n, some n)
 
 last_number-push : (o : List ℕ) (n : ℕ) → last_number (o ++ n ∷ []) ≡ n
 last_number-push (m ∷ k ∷ o) n = last_number-push (k ∷ o) n
@@ -90,13 +60,108 @@ child_first nodes o label = of_lowest-lowest (child_at nodes o label) (suc (high
 pub child_is : (nodes : List Node) (o label : List ℕ) (r : Option ℕ) → IsFirstChild nodes o label r → r ≡ child_of nodes o label
 child_is nodes o label r is = one_lowest is (child_first nodes o label)
 
--- if the children are searched in order, the first one with the label is the first child
-pub child_found : (nodes : List Node) (o label : List ℕ) (indices : List ℕ) → AreChildren (oids_of nodes) o indices
-    → IsFirstChild nodes o label (find (is_labelled nodes label) indices)
-child_found nodes o label indices c =
-    rw (
-      c.there,
-      find-first (is_labelled nodes label) (λ n. first_index (oids_of nodes) (o ++ n ∷ [])) (child_at nodes o label) c.numbers
-          (λ n none. rw none refl) (λ n k some. rw some refl),
+-- the node at index `id` has the label `label`, and of the children of `o` with this label whose indices are at least `id`, `child` has the lowest number
+pub record IsLowestFrom (nodes : List Node) (o label : List ℕ) (id : ℕ) (child : Option (ℕ × ℕ)) : Type 0 where
+  pub within : id < length nodes
+  pub labelled : label_at (labels_of nodes) id ≡ label
+  pub is : IfSome child (λ c. child_at nodes o label c.0 ≡ Some c.1)
+  pub least : (n k : ℕ) → child_at nodes o label n ≡ Some k → id ≤ k → IsSomeAnd child (λ c. c.0 ≤ n)
+
+module _ (nodes : List Node) (o label : List ℕ) where
+  -- a child with the label has an index at which the label is
+  there : (n k : ℕ) → child_at nodes o label n ≡ Some k → (k < length nodes) × (label_at (labels_of nodes) k ≡ label)
+  there n k e =
+      let at = index_found (oids_of nodes) (o ++ n ∷ []) k (child-id nodes o label n k e) in
+      let n = get_within nodes k (omega (arith, at.0, length-map nodes (λ (m : Node). m.oid))) in
+      let named : same_text n.0.label label ≡ true = grind (arith, common_steps, e, n.1) in
+      (slice_get_within nodes k n.0 n.1, label-of (λ (m : Node). m.label) nodes k n.0 n.1 ∙ same n.0.label label named)
+
+  -- if a label is at an index, the identifier there that is a child is one with this label
+  labelled : (n k : ℕ) → k < length nodes → label_at (labels_of nodes) k ≡ label → first_index (oids_of nodes) (o ++ n ∷ []) ≡ Some k
+      → child_at nodes o label n ≡ Some k
+  labelled n k l at e =
+      let m = get_within nodes k l in
+      let named : m.0.label ≡ label = sym (label-of (λ (m : Node). m.label) nodes k m.0 m.1) ∙ at in
+      grind (arith, common_steps, e, m.1, named, same_itself label)
+
+  -- if `old` is the lowest child from `from` on, `new` is the lowest child from the next index `p` before it
+  lower : (from p : ℕ) (old new : Option (ℕ × ℕ)) → IfSome old (λ c. child_at nodes o label c.0 ≡ Some c.1)
+      → ((n k : ℕ) → child_at nodes o label n ≡ Some k → from ≤ k → IsSomeAnd old (λ c. c.0 ≤ n)) → p < length nodes
+      → label_at (labels_of nodes) p ≡ label → ((k : ℕ) → label_at (labels_of nodes) k ≡ label → k < length nodes → k < from → k ≤ p)
+      → IsLowerChild (oids_of nodes) o old p new → IsLowestFrom nodes o label p new
+  lower from p old new is least inside at none l = record {
+    within = inside;
+    labelled = at;
+    is = elim l.one [
+      | inl kept ↦ rw kept is
+      | inr here ↦ by new here
+    ];
+    least = λ n k e le. elim (cases_eq k p) [
+      | inl here ↦ l.of_id n (child-id nodes o label n p (rw here at e))
+      | inr other ↦ (let known = there n k e in
+          trans n old new (least n k e (grind (arith, none k known.1 known.0, cases_lt k from, other, le))) l.of_old)
+    ];
+  }
+    where
+      by : (new : Option (ℕ × ℕ)) → IfSome new (λ c. (c.1 ≡ p) × (first_index (oids_of nodes) (o ++ c.0 ∷ []) ≡ Some p))
+          → IfSome new (λ c. child_at nodes o label c.0 ≡ Some c.1)
+      by None here = tt
+      by (Some c) here = rw here.0 (labelled c.0 p inside at here.1)
+
+      trans : (n : ℕ) (old new : Option (ℕ × ℕ)) → IsSomeAnd old (λ c. c.0 ≤ n) → IfSome old (λ c. IsSomeAnd new (λ d. d.0 ≤ c.0))
+          → IsSomeAnd new (λ d. d.0 ≤ n)
+      trans n (Some c) (Some d) a b = omega arith
+      trans n (Some c) None a b = absurd b
+      trans n None _ a b = absurd a
+
+  -- `first` is the first node with the label
+  module _ (first : ℕ) (e : index_anywhere nodes label ≡ Some first) where
+    is_first : IsFirstOf (labels_of nodes) label first
+    is_first = first_of (λ (n : Node). n.label) nodes label first e
+
+    all : length (labels_of nodes) ≡ length nodes
+    all = length-map nodes (λ (n : Node). n.label)
+
+    pub within : first < length nodes
+    within = omega (arith, is_first.within, all)
+
+    pub search_begins : (p : ℕ) (new : Option (ℕ × ℕ)) → IsPrevious (labels_of nodes) (length nodes) first p
+        → IsLowerChild (oids_of nodes) o None p new → IsLowestFrom nodes o label p new
+    search_begins p new at l =
+        let named = at.same ∙ is_first.is in
+        let last = is_first.before p named (omega (arith, at.within, all)) in
+        lower (length nodes) p None new tt (λ n k f le. omega (arith, (there n k f).0, le)) at.within named
+        (λ k is inside _. (at.around last k inside (is ∙ sym is_first.is)).1) l
+
+    pub search_moves : (id p : ℕ) (old new : Option (ℕ × ℕ)) → IsLowestFrom nodes o label id old → id ≢ first
+        → IsPrevious (labels_of nodes) (length nodes) id p → IsLowerChild (oids_of nodes) o old p new
+        → (p < id) × IsLowestFrom nodes o label p new
+    search_moves id p old new at other next l = (
+      before,
+      lower id p old new at.is at.least next.within (next.same ∙ at.labelled)
+          (λ k is inside l. grind (arith, cases_lt p k, next.between k, l, is, at.labelled)) l,
     )
-    (of_first-lowest (child_at nodes o label) c.numbers c.rising (λ n k e. c.all n k (child-id nodes o label n k e)))
+      where
+        before : p < id
+        before = elim (cases_lt p id) [
+          | inl less ↦ less
+          | inr after ↦ (let a = next.around after first (omega (arith, is_first.within, all)) (is_first.is ∙ sym at.labelled) in
+              let b = is_first.before id at.labelled (omega (arith, at.within, all)) in absurd (other (omega (arith, a.0, b))))
+        ]
+
+    after : (n k : ℕ) → child_at nodes o label n ≡ Some k → first ≤ k
+    after n k f = let at = there n k f in is_first.before k at.1 (omega (arith, at.0, all))
+
+    pub search_ends : (child : Option (ℕ × ℕ)) → IsLowestFrom nodes o label first child → IsFirstChild nodes o label (option_map (λ c. c.1) child)
+    search_ends None at = nothing (λ n. none_if (child_at nodes o label n) (λ k f. at.least n k f (after n k f)))
+    search_ends (Some c) at =
+        lowest c.0 c.1 at.is (λ m l. none_if (child_at nodes o label m) (λ k f. let up = at.least m k f (after m k f) in omega (arith, up, l)))
+
+  -- if no node has the label, no child has it
+  pub no_child : index_anywhere nodes label ≡ None → IsFirstChild nodes o label None
+  no_child e = nothing (λ n. none_if (child_at nodes o label n) (λ k f.
+      let at = there n k f in
+      let m = get_within nodes k at.0 in
+      let named : m.0.label ≡ label = sym (label-of (λ (m : Node). m.label) nodes k m.0 m.1) ∙ at.1 in
+      let first = passing (has_label label) nodes k m.0 m.1 (rw named (same_itself label)) in
+      cc (e, first.1)))

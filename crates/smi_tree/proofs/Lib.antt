@@ -1,5 +1,6 @@
 pub mod SameTexts
 pub mod First
+pub mod Previous
 pub mod SharedLabels
 pub mod Sources
 pub mod Childhood

@@ -1,11 +1,11 @@
 -- The list of nodes that is made from sources and identifiers has one node for each source, at the same index (`node-at`).
 use Rattle.std.proofs.lemmas.Grind.{common_steps}
-use Rattle.std.proofs.Common.{◌≡◌, ℕ, ◌+◌, Bool, List, [], ◌∷◌, length, Some, is_some, refl, arith}
+use Rattle.std.proofs.Common.{◌≡◌, ℕ, ◌+◌, Bool, List, [], ◌∷◌, length, map, Some, is_some, refl, arith}
 use Rattle.std.specs.List.{slice_get, position_from, find}
 use Rattle.smi_text.specs.declared.trees.tree.Module.{Module}
 use Rattle.smi_names.specs.{nodes.Nodes.Node, nodes.Gathered.node_from, nodes.Gathered.nodes_of, declared.nodes.gather.Source.Source}
 use Rattle.smi_names.specs.declared.nodes.gather.Source.TheVariants as S
-use Rattle.smi_tree.specs.Nodes.{has_label, is_of, index_anywhere, index_in_module, oids_of}
+use Rattle.smi_tree.specs.Nodes.{has_label, is_of, index_anywhere, index_in_module, oids_of, labels_of}
 use Rattle.smi_tree.specs.{branches.FirstIndex.oid_at, Indices.home_from, Indices.label_from, Indices.definition_from, Indices.label_in}
 use Rattle.smi_tree.specs.Indices as indices
 
@@ -23,6 +23,10 @@ module _ (ms : List Module) where
   pub oids_nodes : (ss : List Source) (os : List (List ℕ)) → length ss ≡ length os → oids_of (nodes_of ms ss os) ≡ os
   oids_nodes [] os e = grind (arith, common_steps)
   oids_nodes (s ∷ ss) os e = grind (arith, common_steps, oids_nodes ss, parts)
+
+  pub labels_nodes : (ss : List Source) (os : List (List ℕ)) → length ss ≡ length os → labels_of (nodes_of ms ss os) ≡ map (label_from ms) ss
+  labels_nodes [] os e = refl
+  labels_nodes (s ∷ ss) os e = grind (arith, common_steps, labels_nodes ss, parts)
 
   -- if a source has the index `k`, so does its node, with the identifier at that index
   pub node-at : (ss : List Source) (os : List (List ℕ)) → length ss ≡ length os → (k : ℕ) (s : Source) → slice_get ss k ≡ Some s

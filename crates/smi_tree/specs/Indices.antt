@@ -1,6 +1,6 @@
 -- Look-ups of sources by name, and maps from names to indices.
-use Rattle.std.specs.Prelude.{◌≡◌, ℕ, ◌==◌, ◌&&◌, Bool, false, List, [], if◌then◌else◌, Option}
-use Rattle.std.specs.Prelude.{Some, None, option_map}
+use Rattle.std.specs.Prelude.{◌≡◌, ◌≢◌, ℕ, ◌<◌, ◌≤◌, ◌==◌, ◌&&◌, Bool, false, List, [], length}
+use Rattle.std.specs.Prelude.{if◌then◌else◌, Option, Some, None, option_map, slice_index_or}
 use Rattle.std.specs.{Option.option_and_then, List.slice_get, List.position_from}
 use Rattle.indexmap.specs.IndexMap.{IndexMap, get}
 use Rattle.smi_text.specs.{trees.Mark.same_text, declared.trees.tree.Def.Def}
@@ -48,6 +48,23 @@ AreOthers ms ss others prefix = (home x : List ℕ) (p f : ℕ) (s : Source)
     → module_index ms home ≡ Some p → position_from (has_label ms x) 0 ss ≡ Some f
     → slice_get ss f ≡ Some s → is_named home (home_from ms s) ≡ false
     → get same_key others (p, f) ≡ position_from (is_of ms home x) 0 prefix
+
+-- the label at index `k`
+abbrev pub label_at : List (List ℕ) → ℕ → List ℕ
+label_at labels k = slice_index_or labels k []
+
+-- `p` is the last index before `k`, among the first `n` labels, of the label at index `k`; if `k`
+-- is the first index of this label, then `p` is its last one
+pub record IsPrevious (labels : List (List ℕ)) (n k p : ℕ) : Type 0 where
+  pub within : p < n
+  pub same : label_at labels p ≡ label_at labels k
+  pub between : (j : ℕ) → p < j → j < k → label_at labels j ≢ label_at labels k
+  pub around : k ≤ p → (j : ℕ) → j < n → label_at labels j ≡ label_at labels k → (k ≤ j) × (j ≤ p)
+
+-- `previous` has this index for each of the first `n` labels
+pub record ArePrevious (labels : List (List ℕ)) (n : ℕ) (previous : List ℕ) : Type 0 where
+  pub long : length previous ≡ n
+  pub each : (k : ℕ) → k < n → IsPrevious labels n k (slice_index_or previous k 0)
 
 -- ---- for private functions
 

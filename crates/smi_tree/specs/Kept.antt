@@ -1,5 +1,5 @@
 -- What a tree stores of its nodes.
-use Rattle.std.specs.Prelude.{◌≡◌, ℕ, List, length, Option}
+use Rattle.std.specs.Prelude.{◌≡◌, ℕ, List, length, map, Option}
 use Rattle.std.specs.List.{position_from}
 use Rattle.indexmap.specs.IndexMap.{hasher_of}
 use Rattle.smi_text.specs.declared.trees.tree.Module.{Module}
@@ -12,7 +12,7 @@ use Rattle.smi_tree.specs.{declared.columns.index_part.IndexPart.IndexPart, Show
 use Rattle.smi_tree.specs.declared.indices.LabelIndices.{LabelIndices}
 use Rattle.smi_tree.specs.declared.tree.loaded.Resolved.{Resolved}
 use Rattle.smi_tree.specs.Tree.{Contents, IsTree, Load}
-use Rattle.smi_tree.specs.Indices.{Others, has_label, AreOthers}
+use Rattle.smi_tree.specs.Indices.{Others, label_from, has_label, AreOthers, ArePrevious}
 
 abbrev pub contents : List Module → List Source → List (List ℕ) → Types
     → List (Option (List IndexPart)) → Contents
@@ -24,16 +24,19 @@ contents ms ss os types indexes = record {
 }
 
 -- what a `Tree` stores is the tree of its modules, `ms`; its maps have the index of the first
--- module of each name, and the indices of the first sources with each label
+-- module of each name, and the indices of the first sources with each label; `of_previous` has, for
+-- each source, the last one before it with the same label; for a label's first source, the last one
+-- with this label
 pub record IsTreeKept (ms : List Module) (ss : List Source) (os : List (List ℕ)) (types : Types)
     (indexes : List (Option (List IndexPart))) (of_homes of_labels : NameIndices)
-    (of_others : Others) : Type 0 where
+    (of_others : Others) (of_previous : List ℕ) : Type 0 where
   pub long : length ss ≡ length os
   pub warnings : List Warning
   pub tree : IsTree ms (contents ms ss os types indexes) warnings
   pub homes : (x : List ℕ) → index_in of_homes x ≡ module_index ms x
   pub labels : (x : List ℕ) → index_in of_labels x ≡ position_from (has_label ms x) 0 ss
   pub others : AreOthers ms ss of_others ss
+  pub previous : ArePrevious (map (label_from ms) ss) (length ss) of_previous
 
 -- what a load stores, as a value: the tree, the warnings and the key
 abbrev pub load_kept : List Module → Resolved → Load
@@ -47,7 +50,7 @@ load_kept ms r = record {
 pub record IsLoadKept (ms : List Module) (r : Resolved) (of_homes : NameIndices)
     (indices : LabelIndices) : Type 0 where
   pub kept : IsTreeKept ms r.sources.items r.identifiers r.types r.indexes of_homes indices.labels
-      indices.others
+      indices.others indices.previous.items
   pub key_of_homes : hasher_of of_homes ≡ r.key
   pub key_of_labels : hasher_of indices.labels ≡ r.key
   pub key_of_others : hasher_of indices.others ≡ r.key

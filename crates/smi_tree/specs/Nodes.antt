@@ -30,6 +30,10 @@ index_anywhere nodes label = position_from (has_label label) 0 nodes
 abbrev pub oids_of : List Node → List (List ℕ)
 oids_of nodes = map (λ n. n.oid) nodes
 
+-- the labels of the nodes
+abbrev pub labels_of : List Node → List (List ℕ)
+labels_of nodes = map (λ n. n.label) nodes
+
 -- whether there is a node at index `k` that has this label
 abbrev pub is_labelled : List Node → List ℕ → ℕ → Bool
 is_labelled nodes label k = unwrap_or (option_map (has_label label) (slice_get nodes k)) false

@@ -2,12 +2,12 @@
 //!
 //! Names come from files that others wrote. Someone who doesn't know the key of the maps can't
 //! choose names that all have the same hash.
-ghost use Rattle.std.specs.Prelude.{◌≡◌, List, ℕ, IfOk};
+ghost use Rattle.std.specs.Prelude.{◌≡◌, List, ℕ, IfOk, length, map};
 ghost use Rattle.std.specs.List.{position_from};
 ghost use Rattle.indexmap.specs.IndexMap.{hasher_of};
 ghost use Rattle.smi_names.specs.{meaning.Names.module_index, meaning.Scopes.index_in};
 ghost use Rattle.smi_tree.specs.Indices as indices;
-ghost use Rattle.smi_tree.specs.Indices.{AreOthers};
+ghost use Rattle.smi_tree.specs.Indices.{AreOthers, ArePrevious};
 
 use crate::node::{home, label};
 use indexmap::IndexMap;
@@ -32,6 +32,9 @@ pub(crate) struct LabelIndices {
     /// For each label, and each module other than the module of its first source: the index of the
     /// label's first source in that module, if it has one there.
     pub(crate) others: Others,
+    /// For each source, the last one before it with the same label. For a label's first source,
+    /// the last one with this label.
+    pub(crate) previous: Vec<usize>,
 }
 
 /// Returns the index that `indices` has for `name`, if it has one.
@@ -77,8 +80,10 @@ fn key_of(
     Some((home, first))
 }
 
-/// Returns the index of each label's first source, and the index of its first source in each other
-/// module. `homes` has the index of the first module of each name.
+/// Returns the index of each label's first source, the index of its first source in each other
+/// module, and for each source the last one before it with the same label. (For a label's first
+/// source, this is the last one with this label.) `homes` has the index of the first module of each
+/// name.
 pub(crate) fn labels(
     alloc: Global,
     hash: NameHash,
@@ -91,17 +96,28 @@ pub(crate) fn labels(
         ≡ position_from (indices.has_label modules.now x) 0 sources.now) }
     ensures others { IfOk result
         (λ made. AreOthers modules.now sources.now made.others sources.now) }
+    ensures previous { IfOk result (λ made. ArePrevious
+        (map (indices.label_from modules.now) sources.now) (length sources.now)
+        made.previous.items) }
     ensures hashed { IfOk result
         (λ made. (hasher_of made.labels ≡ hash) × (hasher_of made.others ≡ hash)) }
 {
     let mut labels = IndexMap::with_capacity_and_hasher(alloc, sources.len(), hash)?;
     let mut others = IndexMap::with_hasher(alloc, hash);
+    let mut previous = Vec::with_capacity(alloc, sources.len())?;
     'sources: for (k, source) in sources.iter().enumerate() {
         let label = NameBuf::new(alloc, label(modules, *source))?;
         let first = insert_if_absent(&mut labels, label, k)?;
         if let Some(key) = key_of(modules, homes, *source, first, k) {
             insert_if_absent(&mut others, key, k)?;
         }
+        // If there is a source before this one, `previous` has the last of them at `first`.
+        previous.push(k)?;
+        previous.swap(first, k);
     }
-    Ok(LabelIndices { labels, others })
+    Ok(LabelIndices {
+        labels,
+        others,
+        previous,
+    })
 }

@@ -11,8 +11,8 @@ ghost use Rattle.smi_tree.specs.Naming.{IsSound, is_module_loaded, nearest_defin
 ghost use Rattle.smi_tree.specs.Naming.{nearest_node, nearest_syntax, oid_anywhere, oid_in_module};
 ghost use Rattle.smi_tree.specs.Naming.{oid_of, oid_of_child, oid_of_root, view_of};
 ghost use Rattle.smi_tree.specs.Naming.{view_of_longest};
-ghost use Rattle.smi_tree.specs.Nodes.{IsFirstChild, is_labelled, oids_of, index_anywhere};
-ghost use Rattle.smi_tree.specs.Nodes.{index_in_module};
+ghost use Rattle.smi_tree.specs.{Indices.IsPrevious, Nodes.IsFirstChild, Nodes.oids_of};
+ghost use Rattle.smi_tree.specs.Nodes.{index_anywhere, index_in_module, labels_of};
 ghost use Rattle.smi_tree.specs.LongestPrefix.{depth_of, longest, longest_of};
 ghost use Rattle.smi_tree.specs.{types.Kept.facts_of, Shown.shown_at, Shown.units_at};
 
@@ -56,6 +56,9 @@ pub struct Tree {
     /// For each label, and each module other than the module of the label's first node: the index
     /// of the first node with that label in that module.
     others: Others,
+    /// For each node, the last one before it with the same label. For a label's first node, the last
+    /// one with this label.
+    previous: Vec<NodeId>,
     /// The syntax of each object.
     types: Types,
     /// For each node that is a column, what the numbers after its identifier encode (INDEX or
@@ -74,7 +77,7 @@ impl Model for Tree {
 
     ghost invariant = { λ s.
         IsTreeKept s.modules.items s.sources.items s.identifiers s.types s.indexes s.homes s.labels
-        s.others };
+        s.others s.previous.items };
 }
 
 impl Drop for Tree {
@@ -88,6 +91,7 @@ impl Drop for Tree {
             homes: _homes,
             labels: _labels,
             others: _others,
+            previous: _previous,
             types: _types,
             indexes: _indexes,
         } = self;
@@ -205,18 +209,20 @@ impl Tree {
         self.oids().children(oid)
     }
 
-    /// Returns the first of the children of `oid` that has this label.
-    #[tactic(auto, using(crate::proofs::Childhood::child_found))]
+    /// Returns the first of the children of `oid` that has this label. Visits each node with this
+    /// label, and not each child.
     pub fn child(&self, oid: &Oid, label: &[u8]) -> Option<NodeId>
         ensures { IsFirstChild self.now.nodes oid.now label.now result }
     {
-        let mut children = self.children(oid);
-        'children: while let Some(id) = children.next() {
-            if self.has_label(id, label) {
-                return Some(id);
-            }
+        let first = self.find_any(label)?;
+        // From the last node with the label to the first.
+        let mut id = self.previous_of(first);
+        let mut child = self.oids().lower_child(oid, None, id);
+        'nodes: while id != first {
+            id = self.previous_of(id);
+            child = self.oids().lower_child(oid, child, id);
         }
-        None
+        Some(child?.1)
     }
 
     /// Returns the syntax of a node's object: what its chain of types defines. The chain is the
@@ -387,11 +393,13 @@ impl Tree {
         Some(node.oid)
     }
 
-    /// Returns whether the node `id` has this label.
-    fn has_label(&self, id: NodeId, name: &[u8]) -> bool
-        ensures { result ≡ is_labelled self.now.nodes name.now id }
+    /// Returns the last node before the node `id` with the same label. If there is none, returns
+    /// the last node with this label.
+    fn previous_of(&self, id: NodeId) -> NodeId
+        requires { id < length self.now.nodes }
+        ensures { IsPrevious (labels_of self.now.nodes) (length self.now.nodes) id result }
     {
-        matches!(self.node_at(id), Some(node) if node.label == name)
+        self.previous[id]
     }
 
     /// Returns the definition of the node `id`. Returns `None` for a root, or if no node has the

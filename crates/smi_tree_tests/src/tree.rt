@@ -327,6 +327,70 @@ fn assert_shared(rt: &impl Abort, tree: &Tree) -> Result<(), Fail> {
     Ok(())
 }
 
+const NAMESAKES: &str = "A DEFINITIONS ::= BEGIN
+top OBJECT IDENTIFIER ::= { iso 9 }
+same OBJECT IDENTIFIER ::= { top 5 }
+other OBJECT IDENTIFIER ::= { top 3 }
+END
+B DEFINITIONS ::= BEGIN
+same OBJECT IDENTIFIER ::= { 1 9 3 }
+iso OBJECT IDENTIFIER ::= { 1 9 8 }
+END
+C DEFINITIONS ::= BEGIN
+same OBJECT IDENTIFIER ::= { 1 9 4 }
+top OBJECT IDENTIFIER ::= { 1 9 9 }
+END
+D DEFINITIONS ::= BEGIN
+same OBJECT IDENTIFIER ::= { 1 9 5 1 }
+iso OBJECT IDENTIFIER ::= { 1 9 7 }
+END
+E DEFINITIONS ::= BEGIN
+same OBJECT IDENTIFIER ::= { 1 9 4 }
+END
+";
+
+/// Identifiers, each with a label and the module of its first child with this label.
+static FIRST_CHILDREN: [(&str, &str, &str); 5] = [
+    ("1.9", "same", "C"),
+    ("1.9", "top", "C"),
+    ("1.9", "iso", "D"),
+    ("1.9.5", "same", "D"),
+    ("1", "top", "A"),
+];
+
+#[test]
+fn the_first_child_with_a_label_has_the_lowest_number(rt: HostRuntime) -> Result<(), Fail> {
+    let loaded = load(rt.alloc(), NAMESAKES)?;
+    assert_first_children(&rt, &loaded.tree)
+}
+
+fn assert_first_children(rt: &impl Abort, tree: &Tree) -> Result<(), Fail> {
+    for (parent, label, home) in &FIRST_CHILDREN {
+        let wanted = find(tree, home.as_bytes(), label.as_bytes());
+        assert!(rt; child(tree, parent, label)? == wanted, "{parent} {label}");
+    }
+    for label in &["same", "other", "top", "iso", "gone"] {
+        assert!(rt; is_as_searched(tree, &Oid::new(), label), "{label}");
+        for id in 0..tree.len() {
+            let parent = tree.node(id).oid.to_oid();
+            assert!(rt; is_as_searched(tree, &parent, label), "{id} {label}");
+        }
+    }
+    Ok(())
+}
+
+/// Returns whether the first child of an identifier with this label is the first of all its
+/// children that has this label.
+fn is_as_searched(tree: &Tree, oid: &Oid, label: &str) -> bool {
+    let mut searched = None;
+    for id in tree.children(oid) {
+        if searched.is_none() && is_labelled(tree, Some(id), Some(label)) {
+            searched = Some(id);
+        }
+    }
+    tree.child(oid, label.as_bytes()) == searched
+}
+
 /// Appends a module of 1000 definitions, each below the next, and the last below the first.
 fn push_ring(text: &mut String) -> Result<(), Fail> {
     text.push_str("R DEFINITIONS ::= BEGIN\n")?;

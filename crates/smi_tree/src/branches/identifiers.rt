@@ -8,7 +8,7 @@ ghost use Rattle.smi_tree.specs.branches.FirstIndex.{HasNoBeginning};
 ghost use Rattle.smi_tree.specs.branches.FirstIndex.{AreChildren, HasNoneBelow};
 ghost use Rattle.smi_tree.specs.branches.Branches.{AreBranchesOf, IsUnderWay, branch_of};
 ghost use Rattle.smi_tree.specs.branches.Branches.{id_at, deeper_of};
-ghost use Rattle.smi_tree.specs.branches.Children.{ids_left};
+ghost use Rattle.smi_tree.specs.branches.Children.{IsLowerChild, ids_left};
 
 use crate::branches::branch::{Branch, add, first, next};
 use snmp_oid::{Oid, StoredOid};
@@ -150,6 +150,31 @@ impl Identifiers {
         Children {
             branches: &self.branches,
             left: after.iter(),
+        }
+    }
+
+    /// Returns the child of `oid` with the lower number: `child`, or the identifier at index `id`,
+    /// if this is a child of `oid` and `id` is its first index. A child is its last number and its
+    /// first index.
+    pub(crate) fn lower_child(
+        &self,
+        oid: &Oid,
+        child: Option<(u32, usize)>,
+        id: usize,
+    ) -> Option<(u32, usize)>
+        requires { id < length self.now }
+        ensures { IsLowerChild self.now oid.now child id result }
+    {
+        let numbers = self.get(id).as_slice();
+        let Some((number, prefix)) = numbers.split_last() else {
+            return child;
+        };
+        if prefix != oid.as_slice() || self.find_numbers(numbers) != Some(id) {
+            return child;
+        }
+        match child {
+            Some(lower) if lower.0 <= *number => child,
+            _ => Some((*number, id)),
         }
     }
 }

@@ -123,6 +123,7 @@ impl Loaded {
             homes,
             labels: indices.labels,
             others: indices.others,
+            previous: indices.previous,
             types: resolved.types,
             indexes: resolved.indexes,
         };

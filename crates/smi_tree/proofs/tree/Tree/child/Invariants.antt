@@ -1,11 +1,8 @@
-use Rattle.std.proofs.Common.{◌≡◌, length}
-use Rattle.std.specs.List.{find}
-use Rattle.smi_tree.specs.{branches.Children.ids_left, Nodes.is_labelled}
+use Rattle.smi_tree.proofs.Childhood.{IsLowestFrom}
 use Rattle.smi_tree.proofs.tree.Tree.child.Given as goal
 
-abbrev pub invariant-children : goal.invariant-children
-invariant-children l =
-    find (is_labelled l.self.nodes l.label) (ids_left l.children) ≡ find (is_labelled l.self.nodes l.label) (ids_left l.initial.children)
+abbrev pub invariant-nodes : goal.invariant-nodes
+invariant-nodes l = IsLowestFrom l.self.nodes l.oid l.label l.id l.child
 
-abbrev pub decreases-children : goal.decreases-children
-decreases-children l = length (ids_left l.children)
+abbrev pub decreases-nodes : goal.decreases-nodes
+decreases-nodes l = l.id

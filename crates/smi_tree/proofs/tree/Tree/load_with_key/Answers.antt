@@ -15,6 +15,7 @@ invariant_of-result c =
         homes = homes;
         labels = indices.labels;
         others = indices.others;
+        previous = indices.previous;
       };
       key_of_homes = c.in_ok-homes.ensures.hashed ∙ sym c.in_ok-resolved.ensures.hashed;
       key_of_labels = c.in_ok-indices.ensures.hashed.0 ∙ sym c.in_ok-resolved.ensures.hashed;
