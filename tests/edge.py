@@ -971,6 +971,31 @@ def many_siblings():
     return wrongs(*wrong, "" if counts[4000] <= 2.5 * counts[2000] else f"{counts} instructions")
 
 
+# The last name of each number is never shown. Catches: a program that searches the names of an enumeration or of BITS
+# one after the other.
+@test("twice as many names of an enumeration hardly slow its rows, and as many bits and names take about twice as long",
+      lacks_counts())
+def many_names():
+    wrong, counts = [], {}
+    for size in 1000, 2000:
+        names = ", ".join(f"n{i}({i})" for i in range(size)) + f", again({size - 1})"
+        long = "MAX-ACCESS read-only STATUS current DESCRIPTION \"\" ::= { iso"
+        module = (f"LONG-MIB DEFINITIONS ::= BEGIN\nstate OBJECT-TYPE SYNTAX INTEGER {{ {names} }} {long} 8 }}\n"
+                  f"flags OBJECT-TYPE SYNTAX BITS {{ {names} }} {long} 9 }}\nEND\n")
+        octets = "".join("\nFF " if i and i % 16 == 0 else "FF " for i in range(size // 8))
+        bits = "".join(f"n{i}({i}) " for i in range(size))
+        for name, value, shown, rows in [("state", f"2|{size - 1}", f"n{size - 1}", 1000),
+                                         ("flags", "4x|" + "FF" * (size // 8), octets + bits, 100)]:
+            lines = "".join(f"{name}.{i}|{value}\n" for i in range(rows))
+            with file(module.encode()) as mib, file(f"#snmptab 2\n{lines}".encode()) as table:
+                ran, counts[name, size] = counted("snmpwalk", "--mib", mib, "-Oqv", f"table:{table}", name)
+            wrong.append(differs((name, size, ran), (name, size, (0, f"{shown}\n" * rows, ""))))
+    most = {"state": 1.5, "flags": 2.5}
+    wrong += [f"{counts} instructions" for name, times in most.items()
+              if counts[name, 2000] > times * counts[name, 1000]]
+    return wrongs(*wrong)
+
+
 # -- descriptors and ports
 
 def with_descriptors(count, *words):

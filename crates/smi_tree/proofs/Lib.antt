@@ -26,3 +26,4 @@ pub mod Rows
 pub mod IndexesOfNodes
 pub mod ColumnsSingle
 pub mod Pairwise
+pub mod NumbersKept

@@ -7,7 +7,7 @@ use Rattle.smi_names.specs.{meaning.Names.module_index, nodes.Gathered.nodes_of}
 use Rattle.smi_names.specs.meaning.Scopes.{NameIndices, index_in}
 use Rattle.smi_names.specs.declared.nodes.gather.Source.{Source}
 use Rattle.smi_names.specs.declared.nodes.warning.Warning.{Warning}
-use Rattle.smi_tree.specs.declared.types.Types.{Types}
+use Rattle.smi_tree.specs.{declared.types.Types.Types, types.Numbers.AreNumbersOfAll}
 use Rattle.smi_tree.specs.{declared.columns.index_part.IndexPart.IndexPart, Shown.syntaxes_from}
 use Rattle.smi_tree.specs.declared.indices.LabelIndices.{LabelIndices}
 use Rattle.smi_tree.specs.declared.tree.loaded.Resolved.{Resolved}
@@ -33,6 +33,7 @@ pub record IsTreeKept (ms : List Module) (ss : List Source) (os : List (List ℕ
   pub long : length ss ≡ length os
   pub warnings : List Warning
   pub tree : IsTree ms (contents ms ss os types indexes) warnings
+  pub numbers : AreNumbersOfAll ms types.numbers.items
   pub homes : (x : List ℕ) → index_in of_homes x ≡ module_index ms x
   pub labels : (x : List ℕ) → index_in of_labels x ≡ position_from (has_label ms x) 0 ss
   pub others : AreOthers ms ss of_others ss

@@ -1,3 +1,4 @@
 pub mod Chain
 pub mod Types
 pub mod Kept
+pub mod Numbers

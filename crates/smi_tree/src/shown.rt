@@ -1,14 +1,16 @@
 //! The syntax of objects, in the form for showing values.
 ghost use Rattle.std.specs.{Prelude.◌≡◌, Prelude.option_map, Option.option_copied};
+ghost use Rattle.std.specs.Prelude.{IfSome, unwrap_or, []};
 ghost use Rattle.smi_tree.specs.types.Kept.{facts_of};
 ghost use Rattle.smi_tree.specs.Shown.{syntax_from, value_base, between_quotes, units_of};
-ghost use Rattle.smi_tree.specs.Shown.{shown_syntax};
+ghost use Rattle.smi_tree.specs.{Shown.shown_syntax, types.Numbers.AreNumbersOfAll};
+ghost use Rattle.smi_value.specs.Syntax.{IsIndexOf};
 
 use crate::syntax::TypeSyntax;
 use crate::types::Types;
 use smi_names::{Source, TypeBase};
 use smi_text::{DefKind, Module, Text};
-use smi_value::{ValueBase, ValueSyntax};
+use smi_value::{NumberIndex, ValueBase, ValueSyntax};
 
 /// Returns the type that determines how values of `base` are shown; `Other` if they are shown in
 /// one way, whatever their syntax.
@@ -48,16 +50,46 @@ pub(crate) fn units_of(kind: &DefKind) -> Option<&Text>
     }
 }
 
-/// Returns the syntax for showing values, from a type's syntax and UNITS.
-pub(crate) fn value_syntax<'a>(syntax: TypeSyntax<'a>, units: Option<&'a Text>) -> ValueSyntax<'a>
+/// Returns the syntax for showing values, from a type's syntax and UNITS. `index` is the index of
+/// its names, if they have one.
+fn value_syntax<'a>(
+    syntax: TypeSyntax<'a>,
+    index: Option<&'a NumberIndex>,
+    units: Option<&'a Text>,
+) -> ValueSyntax<'a>
+    requires { IfSome (option_copied index)
+        (IsIndexOf (unwrap_or (option_copied syntax.names) [])) }
     ensures { result ≡ shown_syntax (facts_of syntax.entry) (option_copied units.entry) }
 {
-    ValueSyntax::new(
+    ValueSyntax::with_index(
         value_base(syntax.base),
         syntax.names.unwrap_or(&[]),
+        index,
         syntax.hint.map(between_quotes),
         units.map(between_quotes),
     )
+}
+
+/// Returns the syntax for showing values of the object of a source, which has these UNITS. Returns
+/// `None` if it isn't an object with a syntax.
+pub(crate) fn source_syntax<'a>(
+    types: &'a Types,
+    modules: &'a [Module],
+    source: Source,
+    units: Option<&'a Text>,
+) -> Option<ValueSyntax<'a>>
+    requires { AreNumbersOfAll modules.now types.now.numbers.items }
+    ensures { result ≡ option_map (λ f. shown_syntax f (option_copied units.entry))
+        (syntax_from modules.now types.now source) }
+{
+    let syntax = syntax(types, modules, source)?;
+    let index = match (syntax.names, source) {
+        (Some(names), Source::Definition(index, k)) if NumberIndex::is_useful(names) => {
+            types.stored_index(index, k)
+        }
+        _ => None,
+    };
+    Some(value_syntax(syntax, index, units))
 }
 
 /// Returns the syntax of the object of a source, or `None` if it isn't an object with a syntax.

@@ -23,7 +23,7 @@ use crate::columns::{IndexPart, Indexes};
 use crate::indices::{Indices, Others, find, homes, labels};
 use crate::nearest::{Found, Near, NearestNode, home_name, root_index};
 use crate::node::{Node, definition, home, is_in_module, label};
-use crate::shown::{syntax, units_of, value_syntax};
+use crate::shown::{source_syntax, syntax, units_of};
 use crate::syntax::TypeSyntax;
 use crate::types::Types;
 pub use loaded::Loaded;
@@ -422,8 +422,8 @@ impl Tree {
     fn value_syntax(&self, id: NodeId) -> Option<ValueSyntax<'_>>
         ensures { result ≡ shown_at self.now.nodes self.now.syntaxes id }
     {
-        let syntax = self.syntax_of(id)?;
-        Some(value_syntax(syntax, self.units(id)))
+        let source = *self.sources.get(id)?;
+        source_syntax(&self.types, &self.modules, source, self.units(id))
     }
 
     /// Returns the node of the longest prefix of `oid` that has one, with the length of that

@@ -11,14 +11,19 @@ ghost use Rattle.smi_tree.specs.types.Types.{HasSyntax, HasNoSyntax, name_in, ty
 ghost use Rattle.smi_tree.specs.types.Kept.{AreFollowed, AreKeptOf, AreKeptOfAll, AreTypesOf};
 ghost use Rattle.smi_tree.specs.types.Kept.{IsKept, base_or, def_of, facts_of, kept_syntax};
 ghost use Rattle.smi_tree.specs.types.Kept.{refined_by};
+ghost use Rattle.smi_tree.specs.types.Numbers.{AreNumbersOfAll, kept_index};
+
+mod numbers;
 
 use crate::node::copy_at;
 use crate::syntax::{
     TypeSyntax, base_of, hint_of, name_of, names_in_definition, names_of, object_type_of,
     sizes_in_definition, sizes_of, type_of,
 };
+use numbers::{ListIndexes, number_indexes};
 use smi_names::{Entries, Meaning, Names, References, TypeBase};
 use smi_text::{Def, Module, Name, SimpleType};
+use smi_value::NumberIndex;
 use std::alloc::{AllocError, Global};
 
 /// A syntax as it is stored, with the definitions that have its hint, its named numbers or bits,
@@ -41,6 +46,8 @@ pub(crate) struct KeptSyntax {
 pub struct Types {
     /// For each definition of each module, its syntax, if it is an object that has one.
     objects: Vec<Vec<Option<KeptSyntax>>>,
+    /// For each module, the indexes of its long lists of named numbers or bits.
+    numbers: Vec<ListIndexes>,
 }
 
 impl References for KeptSyntax {
@@ -76,12 +83,15 @@ impl Types {
     ) -> Result<Types, AllocError>
         // `names` must be the names of `modules`.
         requires { names.now.modules ≡ modules.now }
-        ensures { IfOk result (λ types. AreTypesOf modules.now types) }
+        ensures types { IfOk result (λ types. AreTypesOf modules.now types) }
+        ensures numbers { IfOk result
+            (λ types. AreNumbersOfAll modules.now types.numbers.items) }
     {
         let entries = names.entries();
         let types = entries.along::<KeptSyntax>(alloc)?;
         Ok(Types {
             objects: objects(alloc, &entries, &types, modules)?,
+            numbers: number_indexes(alloc, modules)?,
         })
     }
 
@@ -123,6 +133,16 @@ impl Types {
             hint: definition(modules, syntax.hint).and_then(|def| hint_of(&def.kind)),
             sizes: definition(modules, syntax.sizes).and_then(sizes_in_definition),
         })
+    }
+
+    /// Returns the index that is stored of the names in the syntax of an OBJECT-TYPE, if they are
+    /// many.
+    pub(crate) fn stored_index(&self, module_index: usize, def_index: usize) -> Option<&NumberIndex>
+        ensures { option_copied result ≡ kept_index self.now module_index def_index }
+    {
+        let syntax = copy_at(self.objects.get(module_index)?, def_index)?;
+        let (i, k) = syntax.names?;
+        self.numbers.get(i)?.get(&k)
     }
 }
 

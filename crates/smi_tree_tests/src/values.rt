@@ -5,7 +5,7 @@ ghost use Rattle.snmp_wire.specs.ber.Value.{datum};
 ghost use Rattle.smi_value.specs.Value.{IsNoIdentifier};
 
 use smi_text::{Name, NamedNumber, Text};
-use smi_value::{Letters, ValueBase, ValueSyntax, append_value};
+use smi_value::{Letters, NumberIndex, ValueBase, ValueSyntax, append_value};
 use snmp_io::Draft;
 use snmp_wire::ValueRef;
 use std::alloc::{AllocError, Global};
@@ -394,4 +394,99 @@ fn bits_are_shown_by_their_names(rt: HostRuntime) {
     let names = state_names(&rt, rt.alloc());
     let flags = ValueSyntax::new(ValueBase::Bits, &names, Some(b"1x:"), Some(b"m"));
     assert_rows(&rt, rt.alloc(), Some(&flags), FLAGS);
+}
+
+/// Returns one of four words.
+fn word(k: usize) -> &'static [u8]
+    ensures { is_word result.now ≡ true }
+{
+    match k % 4 {
+        0 => b"a",
+        1 => b"b",
+        2 => b"c",
+        _ => b"d",
+    }
+}
+
+/// Returns the number of the name at index `k` of `count`: the least and the greatest value first
+/// and last, and between them each number three times, negative numbers and one out of range.
+fn number_at(alloc: Global, k: usize, count: usize) -> Result<String, AllocError> {
+    let m = k / 5;
+    if k == 0 {
+        return format!(in alloc; "-2147483648");
+    }
+    if k + 1 == count {
+        return format!(in alloc; "2147483647");
+    }
+    match k % 5 {
+        0 => format!(in alloc; "-{m}"),
+        3 => format!(in alloc; "18446744073709551616{m}"),
+        4 => format!(in alloc; "00{m}"),
+        _ => format!(in alloc; "{m}"),
+    }
+}
+
+/// Returns the numbers of [`number_at`] with their names.
+fn many_names(rt: &impl Abort, alloc: Global, count: usize) -> Result<Vec<NamedNumber>, AllocError>
+    requires { count < 1000 }
+{
+    let mut names = Vec::new(alloc);
+    for k in 0..count {
+        let number = number_at(alloc, k, count)?;
+        names.push(named_number(rt, alloc, word(k), number.as_bytes()))?;
+    }
+    Ok(names)
+}
+
+/// Asserts that a value has the same text with the names in both syntaxes.
+fn assert_same(
+    rt: &impl Abort,
+    alloc: Global,
+    plain: &ValueSyntax<'_>,
+    indexed: &ValueSyntax<'_>,
+    value: Value<'_>,
+) -> Result<(), AllocError> {
+    let letters = Letters::parse(b"").expect(rt, "letters");
+    let expected = text_of(alloc, &letters, Some(plain), &value_of(value))?;
+    let shown = text_of(alloc, &letters, Some(indexed), &value_of(value))?;
+    assert!(rt; shown.as_slice() == expected.as_slice());
+    Ok(())
+}
+
+/// Asserts that an index of these names finds the names that a search finds.
+fn assert_index(rt: &impl Abort, alloc: Global, names: &[NamedNumber]) -> Result<(), AllocError> {
+    let index = NumberIndex::new(alloc, names)?;
+    let plain = ValueSyntax::new(ValueBase::Integer, names, None, None);
+    let indexed = ValueSyntax::with_index(ValueBase::Integer, names, Some(&index), None, None);
+    for n in -70..70 {
+        assert_same(rt, alloc, &plain, &indexed, Value::Integer(n))?;
+    }
+    for n in [i32::MIN, i32::MIN + 1, 1000, i32::MAX] {
+        assert_same(rt, alloc, &plain, &indexed, Value::Integer(n))?;
+    }
+    assert_rows(rt, alloc, Some(&indexed), BY_INDEX);
+    let plain = ValueSyntax::new(ValueBase::Bits, names, None, None);
+    let indexed = ValueSyntax::with_index(ValueBase::Bits, names, Some(&index), None, None);
+    assert_same(rt, alloc, &plain, &indexed, Value::Octets(&[255; 10]))
+}
+
+const BY_INDEX: &[Row] = &[
+    (b"", Value::Integer(i32::MIN), b"INTEGER: a(-2147483648)"),
+    (b"", Value::Integer(-1), b"INTEGER: b(-1)"),
+    (b"", Value::Integer(0), b"INTEGER: b(0)"),
+    (b"", Value::Integer(1), b"INTEGER: c(1)"),
+    (b"", Value::Integer(-70), b"INTEGER: -70"),
+    (b"q", Value::Integer(2), b"d"),
+];
+
+#[test]
+fn names_are_found_by_an_index(rt: HostRuntime) -> Result<(), AllocError> {
+    let alloc = rt.alloc();
+    assert!(rt; !NumberIndex::is_useful(&many_names(&rt, alloc, 16)?));
+    for count in [17, 300] {
+        let names = many_names(&rt, alloc, count)?;
+        assert!(rt; NumberIndex::is_useful(&names));
+        assert_index(&rt, alloc, &names)?;
+    }
+    Ok(())
 }

@@ -9,3 +9,4 @@ pub mod ValueUnique
 pub mod SetBits
 pub mod PlainStrings
 pub mod SyntaxDigits
+pub mod NamesByNumber

@@ -1,9 +1,11 @@
 -- The syntax of an object, as far as it affects how values are shown (RFC 2578, section 7; RFC
 -- 2579).
 use Rattle.std.specs.Prelude.{ℕ, ℤ, Bool, true, false, if◌then◌else◌, List, [], Option, Some, None}
-use Rattle.std.specs.{Option.option_map, List.find, Ordering.int_eq}
+use Rattle.std.specs.{Prelude.◌≡◌, Option.option_map, List.find, List.position_from}
+use Rattle.std.specs.{BTreeMap.get, Ordering.int_cmp, Ordering.int_eq}
 use Rattle.smi_text.specs.{declared.trees.tree.NamedNumber.NamedNumber, trees.Number.stated_number}
 use Rattle.smi_value.specs.declared.base.ValueBase.{ValueBase}
+use Rattle.smi_value.specs.declared.names.NumberIndex.{NumberIndex}
 use Rattle.smi_value.specs.declared.base.ValueBase.TheVariants as base
 
 -- a syntax: the type of the values, the names of numbers or bits, the display hint, and the units
@@ -49,3 +51,8 @@ is_number_of n named = is_same (stated_number named.number)
 -- the name of the number `n`, if it has one: the first in `names` if it has several
 abbrev pub name_of_number : List NamedNumber → ℤ → Option (List ℕ)
 name_of_number names n = option_map (λ named. named.name.octets) (find (is_number_of n) names)
+
+-- `index` has the position of the first name of each number, if it has one
+abbrev pub IsIndexOf : List NamedNumber → NumberIndex → Type 0
+IsIndexOf names index =
+    (n : ℤ) → get int_cmp index.positions n ≡ position_from (is_number_of n) 0 names

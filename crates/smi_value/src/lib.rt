@@ -16,6 +16,7 @@
 mod base;
 mod hint;
 mod letters;
+mod names;
 mod pieces;
 mod plain;
 mod syntax;
@@ -24,6 +25,7 @@ mod value;
 pub use base::ValueBase;
 pub use hint::{Hint, HintValue, write_hint};
 pub use letters::{Letters, NameForm, StringForm, TypeForm};
+pub use names::NumberIndex;
 pub use syntax::ValueSyntax;
 pub use value::{append_identifier_word, append_value};
 

@@ -14,10 +14,9 @@ ghost use Rattle.smi_value.specs.Texts.{address_text, two_digits, days_text, clo
 
 use crate::hint::append_marked_decimal;
 use crate::letters::{Letters, StringForm, TypeForm};
+use crate::names::NumberNames;
 use crate::plain::is_shown_plain;
-use crate::syntax::name_of;
 use itoa::Buffer;
-use smi_text::NamedNumber;
 use snmp_io::Draft;
 
 /// Appends `word`, which is a type with its colon and blank. With `q` or `Q` it appends nothing.
@@ -253,7 +252,7 @@ pub(crate) fn append_named(draft: &mut Draft, letters: &Letters, name: &[u8], n:
 pub(crate) fn append_bits(
     draft: &mut Draft,
     letters: &Letters,
-    names: &[NamedNumber],
+    names: &NumberNames<'_>,
     octets: &[u8],
 )
     ensures { (text : List ℕ) × IsBitsText letters.now names.now octets.now text
@@ -265,7 +264,7 @@ pub(crate) fn append_bits(
 }
 
 /// Appends the bits of `octets` that are set, from the first octet to the last.
-fn append_set_bits(draft: &mut Draft, letters: &Letters, names: &[NamedNumber], octets: &[u8])
+fn append_set_bits(draft: &mut Draft, letters: &Letters, names: &NumberNames<'_>, octets: &[u8])
     ensures { let bits = flat_map (octet_bits letters.now names.now) (enumerate_from 0 octets.now)
         in
         Adds draft.old bits draft.new }
@@ -279,7 +278,7 @@ fn append_set_bits(draft: &mut Draft, letters: &Letters, names: &[NamedNumber], 
 fn append_octet_bits(
     draft: &mut Draft,
     letters: &Letters,
-    names: &[NamedNumber],
+    names: &NumberNames<'_>,
     index: u128,
     octet: u8,
 )
@@ -299,7 +298,7 @@ fn append_octet_bits(
 
 /// Appends the bit with the number `bit` if `set` is 1.
 #[tactic(auto, using(crate::proofs::Drafts::adds_none))]
-fn append_if_set(draft: &mut Draft, letters: &Letters, names: &[NamedNumber], bit: u128, set: u8)
+fn append_if_set(draft: &mut Draft, letters: &Letters, names: &NumberNames<'_>, bit: u128, set: u8)
     requires { bit < 2 ^ 68 }
     ensures { Adds draft.old (bit_text letters.now names.now bit set) draft.new }
 {
@@ -309,13 +308,13 @@ fn append_if_set(draft: &mut Draft, letters: &Letters, names: &[NamedNumber], bi
 }
 
 /// Appends the bit with the number `bit` as [`append_bit_name`] does, by its name in `names`.
-fn append_bit(draft: &mut Draft, letters: &Letters, names: &[NamedNumber], bit: u128)
+fn append_bit(draft: &mut Draft, letters: &Letters, names: &NumberNames<'_>, bit: u128)
     requires { bit < 2 ^ 68 }
     ensures { Adds draft.old (set_bit_text letters.now names.now bit) draft.new }
 {
     let mut buffer = Buffer::new();
     let number = buffer.format(bit).as_bytes();
-    append_bit_name(draft, letters, name_of(names, bit as i128), number);
+    append_bit_name(draft, letters, names.name_of(bit as i128), number);
 }
 
 /// Appends the name of a bit, the digits of its number in parentheses, and a blank. If it has no

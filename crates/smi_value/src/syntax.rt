@@ -2,10 +2,11 @@
 ghost use Rattle.std.specs.Prelude.{◌≡◌, None, Some, IsTrue, ◌↔◌, IfSome, pos};
 ghost use Rattle.std.specs.Option.{option_map, option_copied};
 ghost use Rattle.smi_value.specs.Syntax.{ObjectSyntax, syntax_at, name_of_number, is_number_of};
-ghost use Rattle.smi_value.specs.Syntax.{is_of_bits};
+ghost use Rattle.smi_value.specs.Syntax.{IsIndexOf, is_of_bits};
 ghost use Rattle.smi_text.specs.trees.Number.{stated_number};
 
 use crate::base::ValueBase;
+use crate::names::{NumberIndex, NumberNames};
 use smi_text::{NamedNumber, number};
 use std::marker::Model;
 
@@ -14,7 +15,7 @@ use std::marker::Model;
 #[derive(Drop)]
 pub struct ValueSyntax<'a> {
     base: ValueBase,
-    names: &'a [NamedNumber],
+    names: NumberNames<'a>,
     hint: Option<&'a [u8]>,
     units: Option<&'a [u8]>,
 }
@@ -24,7 +25,7 @@ impl<'a> Model for ValueSyntax<'a> {
 
     ghost view = { λ s. record {
       base = s.base;
-      names = s.names.now;
+      names = s.names;
       hint = option_copied s.hint;
       units = option_copied s.units;
     } };
@@ -46,9 +47,29 @@ impl<'a> ValueSyntax<'a> {
           units = option_copied units.entry;
         } }
     {
+        ValueSyntax::with_index(base, names, None, hint, units)
+    }
+
+    /// Returns what [`ValueSyntax::new`] returns. `index` is the index of `names`, if they have
+    /// one: it makes it faster to find one of many names.
+    pub fn with_index(
+        base: ValueBase,
+        names: &'a [NamedNumber],
+        index: Option<&'a NumberIndex>,
+        hint: Option<&'a [u8]>,
+        units: Option<&'a [u8]>,
+    ) -> ValueSyntax<'a>
+        requires { IfSome (option_copied index) (IsIndexOf names.now) }
+        ensures { result ≡ record {
+          base = base;
+          names = names.now;
+          hint = option_copied hint.entry;
+          units = option_copied units.entry;
+        } }
+    {
         ValueSyntax {
             base,
-            names,
+            names: NumberNames::new(names, index),
             hint,
             units,
         }
@@ -65,15 +86,12 @@ impl<'a> ValueSyntax<'a> {
     }
 
     /// Returns the names in `syntax` if it applies to values of type `base`, otherwise none.
-    pub(crate) fn names_at(
-        syntax: Option<&'a ValueSyntax<'a>>,
-        base: ValueBase,
-    ) -> &'a [NamedNumber]
-        ensures { result.now ≡ (syntax_at base (option_copied syntax.entry)).names }
+    pub(crate) fn names_at(syntax: Option<&'a ValueSyntax<'a>>, base: ValueBase) -> NumberNames<'a>
+        ensures { result ≡ (syntax_at base (option_copied syntax.entry)).names }
     {
         match syntax {
-            Some(syntax) if syntax.base.is_same(base) => syntax.names,
-            _ => &[],
+            Some(syntax) if syntax.base.is_same(base) => syntax.names.copy(),
+            _ => NumberNames::none(),
         }
     }
 
@@ -98,20 +116,9 @@ impl<'a> ValueSyntax<'a> {
     }
 }
 
-/// Returns the name of the number `n`, if it has one: the first in `names` if it has several.
-#[inline]
-pub(crate) fn name_of(names: &[NamedNumber], n: i128) -> Option<&[u8]>
-    ensures { option_copied result ≡ name_of_number names.now n }
-{
-    match names {
-        // Most objects have no named numbers.
-        [] => None,
-        _ => first_name(names, n),
-    }
-}
-
-/// Does what [`name_of`] does, by a search.
-fn first_name(names: &[NamedNumber], n: i128) -> Option<&[u8]>
+/// Returns the name of the number `n`, if it has one: the first in `names` if it has several. It
+/// reads their numbers one after the other.
+pub(crate) fn first_name(names: &[NamedNumber], n: i128) -> Option<&[u8]>
     ensures { option_copied result ≡ name_of_number names.now n }
 {
     match names.iter().find(|named| is_number_of(named, n)) {

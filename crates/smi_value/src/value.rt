@@ -16,7 +16,7 @@ use crate::pieces::{
     append_address, append_bits, append_hexadecimal, append_named, append_string, append_ticks,
     append_units, append_word,
 };
-use crate::syntax::{ValueSyntax, name_of};
+use crate::syntax::ValueSyntax;
 use snmp_io::Draft;
 use snmp_wire::ValueRef;
 
@@ -122,7 +122,7 @@ fn append_integer(draft: &mut Draft, letters: &Letters, syntax: Option<&ValueSyn
         × Adds draft.old text draft.new }
 {
     let names = ValueSyntax::names_at(syntax, ValueBase::Integer);
-    match name_of(names, i128::from(n)) {
+    match names.name_of(i128::from(n)) {
         Some(name) => {
             append_word(draft, letters, b"INTEGER: ");
             append_named(draft, letters, name, n);
@@ -190,7 +190,7 @@ fn append_octets(
 {
     if ValueSyntax::is_of_bits(syntax) {
         let names = ValueSyntax::names_at(syntax, ValueBase::Bits);
-        append_bits(draft, letters, names, octets);
+        append_bits(draft, letters, &names, octets);
         return;
     }
     match ValueSyntax::hint_at(syntax, ValueBase::OctetString) {

@@ -12,6 +12,7 @@ invariant_of-result c =
         long = found.long;
         warnings = c.in_ok-resolved.resolved.warnings.items;
         tree = found.tree;
+        numbers = found.numbers;
         homes = homes;
         labels = indices.labels;
         others = indices.others;

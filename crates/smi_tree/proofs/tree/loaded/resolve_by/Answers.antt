@@ -15,5 +15,6 @@ returns-clause-resolved c =
     let long = found.long ∙ sym (ap (λ l. length l) same) in
     record {
       long = long;
-      tree = is_tree ms g t os c.in_ok-indexes.indexes found same (syntaxes_right ms t c.in_ok-types.ensures g.sources.items os long) indexed;
+      tree = is_tree ms g t os c.in_ok-indexes.indexes found same (syntaxes_right ms t c.in_ok-types.ensures.types g.sources.items os long) indexed;
+      numbers = c.in_ok-types.ensures.numbers;
     }

@@ -1,0 +1,31 @@
+-- The indexes that are stored of the long lists of named numbers or bits in modules.
+use Rattle.std.specs.Prelude.{◌≡◌, ℕ, List, IfSome, Option, Some, None}
+use Rattle.std.specs.{List.slice_get, Option.option_and_then, Ordering.nat_cmp}
+use Rattle.std.specs.BTreeMap.{BTreeMap, get}
+use Rattle.smi_text.specs.{declared.trees.tree.Module.Module, declared.trees.tree.Def.Def}
+use Rattle.smi_names.specs.chains.Order.{option_at}
+use Rattle.smi_value.specs.{Syntax.IsIndexOf, declared.names.NumberIndex.NumberIndex}
+use Rattle.smi_tree.specs.{Pairwise.ArePairwise, types.Kept.names_of, declared.types.Types.Types}
+
+-- `index` is the index of the named numbers or bits in `d`, if it has them
+abbrev pub IsIndexIn : Def → NumberIndex → Type 0
+IsIndexIn d index = IfSome (names_of d) (λ names. IsIndexOf names index)
+
+-- each index in `numbers` is that of the definition in `defs` that has it as its key
+abbrev pub AreNumbersOf : List Def → BTreeMap ℕ NumberIndex → Type 0
+AreNumbersOf defs numbers = (k : ℕ) (d : Def) → slice_get defs k ≡ Some d
+    → IfSome (get nat_cmp numbers k) (IsIndexIn d)
+
+-- `all` has such indexes for each module
+abbrev pub AreNumbersOfAll : List Module → List (BTreeMap ℕ NumberIndex) → Type 0
+AreNumbersOfAll ms all = ArePairwise (λ i m numbers. AreNumbersOf m.defs numbers) ms all
+
+-- the stored index of the definition at `at`, if there is one
+abbrev pub index_at : List (BTreeMap ℕ NumberIndex) → Option (ℕ × ℕ) → Option NumberIndex
+index_at all at = option_and_then
+    (λ p. option_and_then (λ numbers. get nat_cmp numbers p.1) (slice_get all p.0)) at
+
+-- the stored index of the names in the syntax of definition `k` of module `i`, if there is one
+abbrev pub kept_index : Types → ℕ → ℕ → Option NumberIndex
+kept_index t i k = option_and_then (λ s. index_at t.numbers.items s.names)
+    (option_and_then (λ kept. option_at kept.items k) (slice_get t.objects.items i))
