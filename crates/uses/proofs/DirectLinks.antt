@@ -1,5 +1,6 @@
--- Over a link to an agent that is called at each receive, all that arrives in a poll are the agent's replies.
-use Rattle.std.proofs.Common.{◌≡◌, ◌∙◌, ◌⊎◌, inl, inr, ℕ, List, [], ◌∷◌, ◌++◌, Some, None, refl, sym, ap, subst}
+-- If the events over a `Direct`, a link to an agent that is called at each receive, begin with a send,
+-- then all that arrives are the agent's replies to what was sent in these events.
+use Rattle.std.proofs.Common.{◌≡◌, ◌∙◌, ◌⊎◌, inl, inr, ⊎_elim, ℕ, List, [], ◌∷◌, ◌++◌, Some, None, refl, sym, ap, subst}
 use Rattle.snmp_agent.specs.{Event.Event, Event.InTurn, Event.came, Event.silence, Event.receive_failed, Event.sent, Event.send_failed}
 use Rattle.snmp_agent.specs.Reply.{Agent, IsReply}
 use Rattle.snmp_walk.specs.{Link.OneOf, Memory.agents_over, Network.AreReplies, Network.BeginWithSend, Network.tried, Tries.Happens}
@@ -27,43 +28,28 @@ same_agent : (events : List (Event (Unit {0}))) (old new : Direct) → Takes old
 same_agent [] old new h = ap agent_at h
 same_agent (e ∷ more) old new h = same_agent more h.0 new h.2 ∙ same_step e old h.0 h.1
 
--- if `events` took the link from `old` to `new`, and `q` is the pending datagram of `new`, then `q` was sent in `events`, or was pending in `old`
+-- if `events` took the link from `old` to `new`, and `q` is the pending datagram of `new`, then a send of `q`, which may have failed,
+-- is in `events`, or `q` was pending in `old`
 waited : (events : List (Event (Unit {0}))) (old new : Direct) (q : List ℕ) → Takes old events new → pending new ≡ Some q
     → OneOf (tried events) q ⊎ (pending old ≡ Some q)
 waited [] old new q h waits = inr (ap pending (sym h) ∙ waits)
-waited (sent peer d ∷ more) old new q h waits = elim (waited more h.0 new q h.2 waits) [
-  | inl later ↦ inl (inr later)
-  | inr now ↦ let was : pending h.0 ≡ Some d = h.1.now in let e : q ≡ d = cc in inl (inl e)
-]
-waited (send_failed peer d ∷ more) old new q h waits = elim (waited more h.0 new q h.2 waits) [
-  | inl later ↦ inl (inr later)
-  | inr now ↦ let was : pending h.0 ≡ None = h.1.now in let never : ⊥ = cc in absurd never
-]
-waited (came peer d ∷ more) old new q h waits = elim (waited more h.0 new q h.2 waits) [
-  | inl later ↦ inl later
-  | inr now ↦ inr (sym h.1.now ∙ now)
-]
-waited (silence ∷ more) old new q h waits = elim (waited more h.0 new q h.2 waits) [
-  | inl later ↦ inl later
-  | inr now ↦ inr (sym h.1.now ∙ now)
-]
-waited (receive_failed ∷ more) old new q h waits = elim (waited more h.0 new q h.2 waits) [
-  | inl later ↦ inl later
-  | inr now ↦ inr (sym h.1.now ∙ now)
-]
+waited (sent peer d ∷ more) old new q h waits = ⊎_elim (λ later. inl (inr later))
+    (λ (now : pending h.0 ≡ Some q). let was : pending h.0 ≡ Some d = h.1.now in let e : q ≡ d = cc in inl (inl e)) (waited more h.0 new q h.2 waits)
+waited (send_failed peer d ∷ more) old new q h waits = ⊎_elim (λ later. inl (inr later))
+    (λ (now : pending h.0 ≡ Some q). let was : pending h.0 ≡ None = h.1.now in let never : ⊥ = cc in absurd never) (waited more h.0 new q h.2 waits)
+waited (came peer d ∷ more) old new q h waits = ⊎_elim (λ later. inl later) (λ now. inr (sym h.1.now ∙ now)) (waited more h.0 new q h.2 waits)
+waited (silence ∷ more) old new q h waits = ⊎_elim (λ later. inl later) (λ now. inr (sym h.1.now ∙ now)) (waited more h.0 new q h.2 waits)
+waited (receive_failed ∷ more) old new q h waits = ⊎_elim (λ later. inl later) (λ now. inr (sym h.1.now ∙ now)) (waited more h.0 new q h.2 waits)
 
--- if all the events begin with a send, `before` took the link from `old` to `at`, and `q` is pending in `at`, then `q` was sent in `before`
+-- if `before`, then the arrival of `r`, then `after` begin with a send, `before` took the link from `old` to `at`, and `q` is pending in `at`,
+-- then a send of `q`, which may have failed, is in `before`
 sent_before : (before after : List (Event (Unit {0}))) (r : List ℕ) (old at : Direct) (q : List ℕ)
     → BeginWithSend (before ++ came tt r ∷ after) → Takes old before at → pending at ≡ Some q → OneOf (tried before) q
 sent_before [] after r old at q begins h waits = absurd begins
-sent_before (sent peer d ∷ more) after r old at q begins h waits = elim (waited more h.0 at q h.2 waits) [
-  | inl later ↦ inr later
-  | inr now ↦ let was : pending h.0 ≡ Some d = h.1.now in let e : q ≡ d = cc in inl e
-]
-sent_before (send_failed peer d ∷ more) after r old at q begins h waits = elim (waited more h.0 at q h.2 waits) [
-  | inl later ↦ inr later
-  | inr now ↦ let was : pending h.0 ≡ None = h.1.now in let never : ⊥ = cc in absurd never
-]
+sent_before (sent peer d ∷ more) after r old at q begins h waits = ⊎_elim (λ later. inr later)
+    (λ (now : pending h.0 ≡ Some q). let was : pending h.0 ≡ Some d = h.1.now in let e : q ≡ d = cc in inl e) (waited more h.0 at q h.2 waits)
+sent_before (send_failed peer d ∷ more) after r old at q begins h waits = ⊎_elim (λ later. inr later)
+    (λ (now : pending h.0 ≡ Some q). let was : pending h.0 ≡ None = h.1.now in let never : ⊥ = cc in absurd never) (waited more h.0 at q h.2 waits)
 sent_before (came peer d ∷ more) after r old at q begins h waits = absurd begins
 sent_before (silence ∷ more) after r old at q begins h waits = absurd begins
 sent_before (receive_failed ∷ more) after r old at q begins h waits = absurd begins

@@ -1,2 +1,3 @@
+mod CountedRows
 mod DirectLinks
 mod PolledRows

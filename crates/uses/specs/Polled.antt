@@ -10,8 +10,8 @@ use Rattle.snmp_walk.specs.{Facts.IsDone, Link.OneOf, Ordered.AreOrdered, RunRes
 use Rattle.snmp_walk.specs.Walk.{rows_below}
 use Rattle.uses.specs.declared.subtrees.Subtree.{Subtree}
 
--- `rows` are the instances of `view` below `root`, each once and in order: all of them if `end`
--- says that the poll is done, and otherwise the first of them.
+-- `rows` are instances of `view` below `root`, each once and in order: all of them if `end` says
+-- that the poll is done, and otherwise those up to some place (perhaps none, perhaps all).
 pub record IsPolled (view : MibView) (root : List ℕ) (end : WalkEnd) (rows : List VarBind)
     : Type 0 where
   -- each row is an instance of the table below the root,
@@ -24,12 +24,17 @@ pub record IsPolled (view : MibView) (root : List ℕ) (end : WalkEnd) (rows : L
   -- and if the poll is done, no instance below the root is left out
   pub all : IsDone end → (p : VarBind) → IsRow view p → IsBelow p.name root → OneOf rows p
 
--- a prefix `rows` of the rows of `view` below `root` is what a poll collects, if it is all of them
--- when `end` says that the poll is done
+-- `rows` are a prefix of the rows of `view` below `root`, and all of these if `end` says that the
+-- poll is done
+abbrev pub IsBeginning : MibView → (root : List ℕ) → WalkEnd → (rows : List VarBind) → Type 0
+IsBeginning view root end rows = (more : List VarBind)
+    × (rows_below root (variables view) ≡ rows ++ more)
+    × (IsDone end → rows ≡ rows_below root (variables view))
+
+-- such a prefix is what a poll collects (`IsPolled`)
 abbrev pub AreBeginningsPolled : Type 0
-AreBeginningsPolled = (view : MibView) (root : List ℕ) (end : WalkEnd) (rows more : List VarBind)
-    → IsMibView view → rows_below root (variables view) ≡ rows ++ more
-    → (IsDone end → rows ≡ rows_below root (variables view)) → IsPolled view root end rows
+AreBeginningsPolled = (view : MibView) (root : List ℕ) (end : WalkEnd) (rows : List VarBind)
+    → IsMibView view → IsBeginning view root end rows → IsPolled view root end rows
 
 -- A poll of `root`, which collected `subtree`, took the link from state `old` to `new`. The names
 -- of the rows increase. If the poll began, and all that arrived at the link are replies of a lawful
@@ -44,6 +49,7 @@ pub record IsPolledOver {W : Type 0} (facts : LinkFacts W) (old : W) (root : Lis
 
 -- `subtrees` were polled in turn, one for each of `roots`. The first poll began in state `old`,
 -- each later one in the state after the poll before it, and the last one ended in state `new`.
+-- Without roots, there are no subtrees, and `new` is `old`.
 abbrev pub ArePolledInTurn : {W : Type 0} → LinkFacts W → W → List (List ℕ) → List Subtree → W
     → Type 0
 ArePolledInTurn {W} facts old [] [] new = new ≡ old

@@ -67,7 +67,7 @@ fn write_get(community: &[u8], name: &Oid, id: i32, out: &mut [u8; 1000]) -> usi
 
 /// Puts a row into a table and removes it again, and sends a Get of its name to the agent after
 /// each. Writes the replies to the start of `first` and `second`, and returns their lengths in
-/// octets.
+/// octets, `None` for no reply. Fails if the table refuses the row: then no Get is sent.
 pub fn put_and_remove(
     table: &mut Table,
     config: &Config<'_>,
@@ -76,11 +76,11 @@ pub fn put_and_remove(
     first: &mut [u8; MAX_DATAGRAM],
     second: &mut [u8; MAX_DATAGRAM],
 ) -> Result<(Option<usize>, Option<usize>), PutError>
-    // The first reply has the value.
+    // The first reply has the value, if it is no longer than the agent's messages may be.
     ensures there { IfOk result (λ sizes. IsSent config.now.max_size
         (reply_with config.now.community.now (pos 1)
         (record { name = name.now; value = datum value.entry })) sizes.0 first.new) }
-    // The second has what a Get returns if no row has the name.
+    // The second, if it is no longer either, has what a Get returns if no row has the name.
     ensures gone { IfOk result (λ sizes. (binding : VarBind)
         → IsGet (without_row table.old name.now) name.now binding
         → IsSent config.now.max_size (reply_with config.now.community.now (pos 1) binding)

@@ -10,13 +10,14 @@ use snmp_walk::{Link, LinkFault, Method, StartError, WalkEnd};
 use snmp_wire::{MAX_DATAGRAM, Oid};
 use std::alloc::Global;
 
-/// A link to the agent of a table. Each receive returns the agent's reply to the datagram that was
-/// sent last, if there is a reply. No other datagram is stored.
+/// A link to the agent of a table. A receive returns the agent's reply to the datagram that was
+/// sent last, if there is a reply; no other datagram is stored. After a send that failed, it
+/// returns nothing. A receive into a buffer of fewer than 65507 octets fails.
 #[derive(Drop)]
 pub struct Direct<'a> {
     table: &'a Table,
     config: Config<'a>,
-    /// The datagram that was sent last.
+    /// The datagram that was sent last, if `is_sent`.
     last: Vec<u8>,
     /// Whether `last` is a datagram that was sent.
     is_sent: bool,
@@ -41,8 +42,8 @@ impl<'a> Direct<'a> {
         }
     }
 
-    /// Writes the reply to the datagram sent last to the start of `out`, and returns its length, or
-    /// None if the agent doesn't reply.
+    /// Writes the agent's reply to `last` to the start of `out`, and returns its length. Returns
+    /// `None` if the agent doesn't reply.
     fn reply_into(&self, out: &mut [u8; MAX_DATAGRAM]) -> Option<usize>
         ensures length { IfSome result (λ n. n ≤ 65507) }
         ensures room { length out.new ≡ 65507 }
@@ -123,7 +124,8 @@ impl<'a> Link for Direct<'a> {
     }
 }
 
-/// Collects the instances below `root` of the table at the other end of a `Direct`.
+/// Collects the instances below `root` of the table at the other end of a `Direct`. The result says
+/// how the poll ended; it is the error `NotWire` if the root can't be sent.
 ///
 /// It may be called again and again over one link, always with ids from 1 on: a poll begins with a
 /// send, and then the agent replies only to what the poll sent. So `table` is promised whatever was

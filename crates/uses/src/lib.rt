@@ -7,7 +7,11 @@
 
 mod changes;
 mod collect;
+#[cfg(test)]
+mod column_tests;
+mod columns;
 mod direct;
+mod listing;
 mod polling;
 #[cfg(test)]
 mod polling_tests;
@@ -18,7 +22,9 @@ mod traps;
 
 pub use changes::{ask, put_and_remove};
 pub use collect::{Collected, Row};
+pub use columns::{ColumnCounts, count_columns};
 pub use direct::{Direct, poll_again};
+pub use listing::{Column, columns_of};
 pub use polling::{next_id, poll, poll_twice};
 pub use subtrees::{Subtree, poll_each};
 pub use traps::trap_oid;

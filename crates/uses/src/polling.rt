@@ -20,15 +20,16 @@ use snmp_wire::Oid;
 ///
 /// Each request has one name, the community, and an id: `first_id`, and then one more for each. It
 /// is sent up to `retries + 1` times. The result says how the poll ended: `Done` if the subtree was
-/// read to its end. `NotWire` if the root can't be sent; then nothing was sent.
+/// read to its end. It is the error `NotWire` if the root can't be sent; then nothing was sent.
 ///
 /// What the rows are depends on the link:
 ///
 /// - `table`: over an honest link, which delivers only its agent's replies to what was sent, they
-///   are the instances below the root (`IsPolled`), if earlier requests over it had lower ids. A
-///   new `MemoryLink` is honest.
-/// - `happened`: over any link they are these instances if all that arrived are replies of an
-///   agent, as over a network that alters nothing.
+///   are the instances below the root, or the first of them if the poll isn't done (`IsPolled`).
+///   This holds if the agent has one table, and earlier requests over the link had lower ids. A new
+///   `MemoryLink` is honest.
+/// - `happened`: over any link the same holds if all that arrived are replies of an agent with one
+///   table to what was sent, as over a network that alters nothing.
 /// - `rising`: whatever arrives, the names increase, so that no instance is collected twice.
 pub fn poll<L: Link>(
     link: &mut L,
@@ -88,7 +89,8 @@ pub fn next_id(first_id: u32, rows: &Collected) -> Option<u32>
 ///
 /// The ids of the second poll are greater than the ids of the first, so that a late reply to the
 /// first poll isn't taken for a reply to the second. If there is no greater id, the second poll
-/// isn't begun, and its end is `TooManyRequests`.
+/// isn't begun, and its end is `TooManyRequests`. The only error is `NotWire`: a root can't be
+/// sent. If it is the first root, the second poll isn't begun.
 pub fn poll_twice<L: Link>(
     link: &mut L,
     roots: (Oid, Oid),
@@ -121,8 +123,9 @@ pub fn poll_twice<L: Link>(
     }
 }
 
-/// A law, as a call that does nothing: a prefix of the rows of a table below a root is what a poll
-/// collects (`IsPolled`), if it is all of them when the poll is done.
+/// A law, as a call that does nothing. If some rows are the first of a table's rows below a root
+/// (none, some or all), and are all of them if a poll is done, then they are what that poll
+/// collects (`IsPolled`).
 fn beginnings_are_polled()
     ensures { AreBeginningsPolled }
 {

@@ -12,7 +12,7 @@ use std::process::Abort;
 const THREE: &[u8] =
     b"1.3.6.1.4.1.32473.1.1.0|2|1\n1.3.6.1.4.1.32473.1.2.0|2|2\n1.3.6.1.4.1.32473.2.10.0|4|wes\n";
 
-fn public() -> Config<'static> {
+pub(crate) fn public() -> Config<'static> {
     Config {
         community: b"public",
         max_size: 1472,
@@ -23,7 +23,7 @@ fn three(rt: &impl Abort, alloc: Global) -> Table {
     Table::read(alloc, THREE).expect(rt, "a table")
 }
 
-fn name(rt: &impl Abort, text: &[u8]) -> Oid {
+pub(crate) fn name(rt: &impl Abort, text: &[u8]) -> Oid {
     parse_numeric(text).expect(rt, "a name")
 }
 

@@ -20,12 +20,13 @@ pub struct Subtree {
 
 /// Collects the instances below each of the roots, one subtree after the other over one link.
 ///
-/// A poll that fails doesn't stop those after it: each subtree says how its poll ended. Ids
-/// continue from poll to poll; after the greatest id they begin with 1 again.
+/// A poll that fails doesn't stop those after it: each subtree says how its poll ended. The call
+/// fails if memory for the list of subtrees runs out; then no further poll is begun. Ids continue
+/// from poll to poll; if none is left, the next poll begins with 1 again.
 ///
 /// The link may be a socket: then nothing is promised about what arrives. If all that arrived in a
-/// poll are an agent's replies to what was sent, the rows are instances of the agent's table below
-/// the root (`ArePolledInTurn`). A caller opens a socket through the network of `rt`:
+/// poll are replies of an agent with one table to what was sent, the rows are instances of that
+/// table below the root (`ArePolledInTurn`). A caller opens a socket through the network of `rt`:
 ///
 /// ```
 /// let mut link = UdpLink::open(&rt, "192.0.2.1", 161, 1)?;

@@ -9,7 +9,8 @@ use Rattle.snmp_agent.specs.table.Table.{IsGet}
 use Rattle.uses.specs.Changes.{get_of, reply_with}
 use Rattle.uses.proofs.changes.ask.Goals as goal
 
--- if `octets` encode the Get of `name`, which returns `binding`, and the Response with `binding` fits, then the agent's reply is its shortest encoding
+-- if `octets` encode the Get of `name`, which returns `binding`, and the Response with `binding` fits, then its shortest encoding is
+-- the agent's reply to `octets`
 is_reply : (agent : Agent) (id : ℤ) (name octets : List ℕ) (binding : VarBind) → Spells (get_of agent.community id name) octets
     → IsGet agent.view name binding → Fits agent.max_size (reply_with agent.community id binding)
     → IsReply agent octets (canon (reply_with agent.community id binding))

@@ -4,7 +4,9 @@ use Rattle.snmp_walk.specs.{Link.OneOf, Ordered.AreOrdered}
 use Rattle.uses.proofs.polling.beginnings_are_polled.Goals as goal
 
 pub returns : goal.returns
-returns c = λ view root end rows more good parts whole.
+returns c = λ view root end rows good begins.
+    let more = begins.0 in
+    let parts = begins.1 in
     let below = λ (p : VarBind). c.instances_below.ensures.below view root p good in
     let lists = c.parts_of_lists.ensures in
     let in_turn : AreOrdered (rows ++ more) =
@@ -18,5 +20,5 @@ returns c = λ view root end rows more good parts whole.
             | inr later ↦ absurd (c.strict_order.ensures.asymmetric p.name q.name before (lists.across rows more q p in_turn one later))
           ];
       all = λ done p row is_below.
-          subst (λ (l : List VarBind). OneOf l p) (sym (whole done)) ((below p).1 (row, is_below));
+          subst (λ (l : List VarBind). OneOf l p) (sym (begins.2 done)) ((below p).1 (row, is_below));
     }

@@ -1,0 +1,151 @@
+-- A sink that counts each row that it takes counts the rows of a poll by column.
+use Rattle.std.proofs.Common.{arith, ◌≡◌, ◌≢◌, ◌∙◌, ◌+◌, ◌<◌, ◌≤◌, ◌++◌, ◌⊎◌, inl, inr, ℕ, List, [], ◌∷◌, Bool, true, false, cond, Option, Some}
+use Rattle.std.proofs.Common.{length, drop, refl, sym, ap, subst, append_assoc, append-nil, length-append, length-drop}
+use Rattle.std.proofs.lemmas.{List.append_cancel_left, List.Prefix.front_rest, List.Elements.filter-append, Slice.Eq.starts_is, Grind.common_steps}
+use Rattle.std.proofs.lemmas.{Bool.and_parts, Bool.and_from, Bool.cases_eq, Bool.false_from_ne_true, Bool.lt-ltb, Bool.ltb-true, Bool.Decides.Decides-eqb}
+use Rattle.std.specs.{BTreeMap.get, BTreeMap.is_at, List.filter, Option.unwrap_or, Prelude.slice_index_or, Ordering.is_eq, Ordering.nat_cmp}
+use Rattle.std.specs.declared.cmp.Ordering.TheVariants.{Less, Equal, Greater}
+use Rattle.snmp_oid.specs.Identifier.{IsBelow}
+use Rattle.snmp_wire.specs.Message.{VarBind}
+use Rattle.snmp_agent.specs.{table.Table.MibView, table.Listing.variables}
+use Rattle.snmp_walk.specs.{Names.is_below, Sink.TakesAll, Sink.Took, Walk.rows_below, declared.end.WalkEnd.WalkEnd}
+use Rattle.snmp_walk.specs.declared.end.WalkEnd.TheVariants as ending
+use Rattle.uses.specs.Columns.{AreCounted, AreCountsOf, CountsRow, HasCounted, count_of, entry_of, rows_of_column}
+use Rattle.uses.specs.{Polled.IsBeginning, declared.columns.ColumnCounts.ColumnCounts}
+
+-- ---- `is_below` is true if and only if a name is below a root
+
+not_empty : (xs : List ℕ) → xs ≢ [] → 0 < length xs
+not_empty [] some = absurd (some refl)
+not_empty (x ∷ xs) some = omega arith
+
+passes : (root name : List ℕ) → IsBelow name root → is_below name root ≡ true
+passes root name h =
+    let size : length name ≡ length root + length h.0 = ap length h.2 ∙ length-append root h.0 in
+    let some = not_empty h.0 h.1 in
+    let longer : length root < length name = omega (arith, size, some) in
+    and_from _ _ ((starts_is Decides-eqb name root _ refl).1 h.0 h.2) (lt-ltb _ _ longer)
+
+below : (root name : List ℕ) → is_below name root ≡ true → IsBelow name root
+below root name passed =
+    let parts = and_parts _ _ passed in
+    let longer : length root < length name = ltb-true _ _ parts.1 in
+    let size = length-drop (length root) name in (
+      drop (length root) name,
+      (λ none. let short : length (drop (length root) name) ≡ 0 = ap length none in absurd (omega (arith, longer, size, short))),
+      (starts_is Decides-eqb name root _ refl).0 parts.0,
+    )
+
+-- ---- the rows below a column
+
+-- a name is below at most one column
+one_column : (entry name : List ℕ) (a b : ℕ) → IsBelow name (entry ++ a ∷ []) → IsBelow name (entry ++ b ∷ []) → a ≡ b
+one_column entry name a b h k =
+    let same : entry ++ (a ∷ h.0) ≡ entry ++ (b ∷ k.0) =
+    sym (append_assoc entry (a ∷ []) h.0) ∙ (sym h.2 ∙ (k.2 ∙ append_assoc entry (b ∷ []) k.0)) in
+    let rest : a ∷ h.0 ≡ b ∷ k.0 = append_cancel_left entry _ _ same in let first : a ≡ b = cc in first
+
+-- a name below a column is below the entry
+below_entry : (entry name : List ℕ) (number : ℕ) → IsBelow name (entry ++ number ∷ []) → IsBelow name entry
+below_entry entry name number h = (number ∷ h.0, (λ none. let no : ⊥ = cc in no), h.2 ∙ append_assoc entry (number ∷ []) h.0)
+
+-- if each binding that passes `p` passes `q`, then a filter by `q` before one by `p` changes nothing
+filtered_twice : (p q : VarBind → Bool) → ((x : VarBind) → p x ≡ true → q x ≡ true) → (xs : List VarBind) → filter p (filter q xs) ≡ filter p xs
+filtered_twice p q within [] = refl
+filtered_twice p q within (x ∷ xs) = grind (arith, common_steps, filtered_twice p q within xs, within x)
+
+-- of the rows below the entry, those of a column are those of all rows
+of_column : (entry : List ℕ) (number : ℕ) (rows : List VarBind) → rows_of_column entry number (rows_below entry rows) ≡ rows_of_column entry number rows
+of_column entry number rows = filtered_twice (λ (row : VarBind). is_below row.name (entry ++ number ∷ [])) (λ (row : VarBind). is_below row.name entry)
+    (λ row passed. passes entry row.name (below_entry entry row.name number (below (entry ++ number ∷ []) row.name passed))) rows
+
+-- a name with two numbers or more after the entry is below the column of the first of these
+pub column : (entry name after : List ℕ) → IsBelow name entry → after ≡ drop (length entry) name → 2 ≤ length after
+    → IsBelow name (entry ++ slice_index_or after 0 0 ∷ [])
+column entry name [] h cut long = absurd (omega (arith, long))
+column entry name (number ∷ []) h cut long = absurd (omega (arith, long))
+column entry name (number ∷ next ∷ more) h cut long =
+    let rest : h.0 ≡ number ∷ (next ∷ more) = sym (front_rest name entry h.0 h.2) ∙ sym cut in
+    (next ∷ more, (λ none. let no : ⊥ = cc in no), h.2 ∙ (ap (λ (r : List ℕ). entry ++ r) rest ∙ sym (append_assoc entry (number ∷ []) (next ∷ more))))
+
+-- ---- what one row changes
+
+other_key : (less same : Bool) → same ≡ false → is_eq (cond less Less (cond same Equal Greater)) ≡ false
+other_key true same h = refl
+other_key false same h = ap (λ (b : Bool). is_eq (cond b Equal Greater)) h
+
+-- a row of a column is counted if the count of this column increases by 1, and no other changes
+pub counted_row : (old new : ColumnCounts) (row : VarBind) (number count : ℕ) → entry_of new ≡ entry_of old
+    → IsBelow row.name (entry_of old ++ number ∷ []) → count ≡ count_of old number + 1 → get nat_cmp new.counts number ≡ Some count
+    → ((q : ℕ) → is_at (nat_cmp number) q ≡ false → get nat_cmp new.counts q ≡ get nat_cmp old.counts q) → HasCounted old (row ∷ []) new
+counted_row old new row number count entry is_below more here others = record {
+  entry = entry;
+  counts = λ q. elim (cases_eq number q) [
+    | inl e ↦
+        let one : length (rows_of_column (entry_of old) number (row ∷ [])) ≡ 1 =
+        ap (λ (t : Bool). length (cond t (row ∷ []) [])) (passes (entry_of old ++ number ∷ []) row.name is_below) in
+        let now : count_of new number ≡ count = ap (λ (o : Option ℕ). unwrap_or o 0) here in
+        subst (λ (n : ℕ). count_of new n ≡ count_of old n + length (rows_of_column (entry_of old) n (row ∷ []))) e (omega (arith, one, now, more))
+    | inr apart ↦
+        let none : length (rows_of_column (entry_of old) q (row ∷ [])) ≡ 0 = ap (λ (t : Bool). length (cond t (row ∷ []) [])) (false_from_ne_true _
+        (λ t. apart (one_column (entry_of old) row.name number q is_below (below (entry_of old ++ q ∷ []) row.name t)))) in
+        let key : is_at (nat_cmp number) q ≡ false = other_key _ _ (false_from_ne_true _ (λ t. apart ((Decides-eqb number q).0 t))) in
+        let same : count_of new q ≡ count_of old q = ap (λ (o : Option ℕ). unwrap_or o 0) (others q key) in
+        omega (arith, none, same)
+  ];
+}
+
+-- a row of no column is counted if nothing changes
+pub other_row : (counts : ColumnCounts) (row : VarBind) → ((number : ℕ) → IsBelow row.name (entry_of counts ++ number ∷ []) → ⊥)
+    → HasCounted counts (row ∷ []) counts
+other_row counts row outside = record {
+  entry = refl;
+  counts = λ q.
+      let none : length (rows_of_column (entry_of counts) q (row ∷ [])) ≡ 0 = ap (λ (t : Bool). length (cond t (row ∷ []) []))
+      (false_from_ne_true _ (λ t. outside q (below (entry_of counts ++ q ∷ []) row.name t))) in
+      omega (arith, none);
+}
+
+-- ---- what the rows of a poll change
+
+-- if the rows `xs` were counted and then the rows `ys`, then `xs ++ ys` were counted
+counted_both : (old between new : ColumnCounts) (xs ys : List VarBind) → HasCounted old xs between → HasCounted between ys new → HasCounted old (xs ++ ys) new
+counted_both old between new xs ys a b = record {
+  entry = b.entry ∙ a.entry;
+  counts = λ q.
+      let root : List ℕ = entry_of old ++ q ∷ [] in
+      let first = a.counts q in
+      let second : count_of new q ≡ count_of between q + length (rows_below root ys) =
+      subst (λ (o : List ℕ). count_of new q ≡ count_of between q + length (rows_of_column o q ys)) a.entry (b.counts q) in
+      let parts : length (rows_below root (xs ++ ys)) ≡ length (rows_below root xs) + length (rows_below root ys) =
+      ap length (filter-append (λ (row : VarBind). is_below row.name root) xs ys) ∙ length-append (rows_below root xs) (rows_below root ys) in
+      omega (arith, first, second, parts);
+}
+
+-- the sink counted the rows that it took, also in a walk that it ended by refusing one
+counted_all : (old new : ColumnCounts) (rows : List VarBind) → TakesAll CountsRow old rows new → HasCounted old rows new
+counted_all old new [] h = subst (λ (c : ColumnCounts). HasCounted old [] c) (sym h) (record { entry = refl; counts = λ q. omega arith })
+counted_all old new (row ∷ rows) h = counted_both old h.0 new (row ∷ []) rows h.1 (counted_all h.0 new rows h.2)
+
+counted_took : (old new : ColumnCounts) (rows refused : List VarBind) (end : WalkEnd) → Took CountsRow old rows refused end new → HasCounted old rows new
+counted_took old new rows refused (ending.Sink fault) h = subst (λ (all : List VarBind). HasCounted old all new) (append-nil rows)
+    (counted_both old h.0 new rows [] (counted_all old h.0 rows h.1) h.2.2)
+counted_took old new rows refused end h = counted_all old new rows h.0
+
+-- if all counts were 0 before a walk, they are those of the rows that the sink took in it
+pub counts_of_walk : (entry : List ℕ) (old new : ColumnCounts) (rows refused : List VarBind) (end : WalkEnd) → entry_of old ≡ entry
+    → ((number : ℕ) → count_of old number ≡ 0) → Took CountsRow old rows refused end new → AreCountsOf entry rows new
+counts_of_walk entry old new rows refused end is none took =
+    let h = counted_took old new rows refused end took in
+    subst (λ (o : List ℕ). AreCountsOf o rows new) is (λ q. let before = none q in let after = h.counts q in omega (arith, before, after))
+
+-- counts of rows with which a table's rows begin are those of the table, if these are all its rows below the entry
+pub counted : (view : MibView) (entry : List ℕ) (end : WalkEnd) (rows : List VarBind) (counts : ColumnCounts) → AreCountsOf entry rows counts
+    → IsBeginning view entry end rows → AreCounted view entry end counts
+counted view entry end rows counts are begins = record {
+  rows = rows;
+  begins = begins;
+  counted = are;
+  all = λ done q. are q ∙ (ap (λ (all : List VarBind). length (rows_of_column entry q all)) (begins.2 done)
+      ∙ ap length (of_column entry q (variables view)));
+}
