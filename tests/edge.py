@@ -908,7 +908,7 @@ def little_memory():
     return wrongs(*wrong)
 
 
-# tests/program.sh runs walks and Gets of table files with this stack. Catches: a program that takes more of the stack
+# tests/program.py runs walks and Gets of table files with this stack. Catches: a program that takes more of the stack
 # when datagrams arrive over a socket.
 @test("a stack of 256 KiB is enough for snmpd and for the commands that ask it", lacks_limits())
 def small_stack():

@@ -31,7 +31,7 @@ tree() {
     printf '%s\n' '# A page' 'Proved with: `kit-1`. It' >"$tree/README.md"
     cp -r "$top/snmp" "$top/tools" "$tree"
     cp "$top/tests/is-current" "$tree/tests"
-    local part parts='gate.sh program.sh install.sh operator.sh sessions.py random_walks.py network.py attack.py heap.py
+    local part parts='gate.sh program.py install.sh operator.sh sessions.py random_walks.py network.py attack.py heap.py
         modules.py edge.py users.py fleet.py'
     # The gate, but of the scripts of tests/ only these. All are mocks, gate.sh itself too.
     awk -v parts=" $(echo $parts) " '

@@ -35,6 +35,7 @@ import edge
 import fleet
 import heap
 import network
+import program
 
 TESTS, TOP = programs.TESTS, programs.TOP
 RECORD = os.path.join(TESTS, "wrong.txt")
@@ -46,6 +47,8 @@ TOGETHER = 4
 FOLDER = tempfile.TemporaryDirectory(dir="/tmp")
 own = FOLDER.name
 
+# Words from the titles of the tests of edge.py that no way can fail: the C library has no part in what they count.
+BY_NO_WAY = ["twice as many rows", "twice as many names"]
 # For each way, words from the titles of the tests of edge.py that catch it.
 AT_THE_EDGE = {
     "BOUND_TO_LOOPBACK": ["from one socket, bound", "another of this machine's addresses"],
@@ -114,8 +117,8 @@ UNDER_ATTACK = {
     attack.attack_walkers: ["ANY_ID", "ANY_SENDER", "HALF_A_LINE", "LINES_COME_TWICE", "OUTSIDE_OF_THE_ROOT",
                             "ANOTHER_VALUE", "NOTHING_IS_SAID", "ANOTHER_MESSAGE", "STATUS_0", "NEVER_ENDS"],
 }
-# The ways that fleet.py catches; the same for network.py, with words from titles; and for scripts in shell, with the
-# script and a word from the titles of the tests to run.
+# The ways that fleet.py catches; the same for network.py and program.py, with words from titles; and for scripts in
+# shell, with the script and a word from the titles of the tests to run.
 IN_A_FLEET = ["NOTHING_IS_SAID", "STATUS_0", "HALF_A_LINE", "LINES_ARE_LEFT_OUT", "LINK_IS_MEMORY"]
 IN_A_NETWORK = {
     "RECEIVES_484_OCTETS": ["requests of 2,000", "of 2000 octets", "of 5000 octets"],
@@ -129,10 +132,10 @@ IN_A_NETWORK = {
     "HALF_A_LINE": ["replies with random faults end a get"],
     "LAST_OCTET_WRONG": ["after 300 requests with random faults"],
 }
+BY_COMMAND_LINES = {"SOCKET_FIRST": ["after a wait"], "ANOTHER_MESSAGE": ["listen udp:"]}
 IN_SHELL = {
-    "SOCKET_FIRST": [("program.sh", "after a wait")],
     "REFUSES_ITS_MOST": [("operator.sh", "with the range")],
-    "ANOTHER_MESSAGE": [("program.sh", "listen udp:"), ("operator.sh", "with the range")],
+    "ANOTHER_MESSAGE": [("operator.sh", "with the range")],
 }
 
 
@@ -208,7 +211,8 @@ def split_by_title(tests, word):
 def tests_of(name, counts):
     """Yields each test that is listed for a way: the function that makes the program wrong, the title, and the test."""
     for how, tests, words in [(use, edge.tests, AT_THE_EDGE), (use, network.tests, IN_A_NETWORK),
-                              (use, heap.tests, AS_IT_SERVES), (use_heap, heap.tests, WITHOUT_MEMORY)]:
+                              (use, program.tests, BY_COMMAND_LINES), (use, heap.tests, AS_IT_SERVES),
+                              (use_heap, heap.tests, WITHOUT_MEMORY)]:
         for word in words.get(name, []):
             chosen, untried = split_by_title(tests, word)
             if not chosen and not untried:
@@ -253,20 +257,21 @@ def run_task(number):
 def all_ways():
     """Returns the names of all ways, each once."""
     return list(dict.fromkeys([*AT_THE_EDGE, *WITHOUT_MEMORY, *AS_IT_SERVES, *sum(UNDER_ATTACK.values(), []),
-                               *IN_A_FLEET, *IN_A_NETWORK, *IN_SHELL]))
+                               *IN_A_FLEET, *IN_A_NETWORK, *BY_COMMAND_LINES, *IN_SHELL]))
 
 
 def without_a_way():
     """Returns the titles of the tests of edge.py that are listed for no way."""
-    words = sum(AT_THE_EDGE.values(), [])
+    words = sum(AT_THE_EDGE.values(), BY_NO_WAY)
     return [title for title, _ in [*edge.tests, *edge.tests.untried] if not any(word in title for word in words)]
 
 
 def hash_of_tests():
     """Returns the hash of the files that contain the tests and the ways."""
-    names = ["wrong.py", "wrong.c", "heap.c", "edge.py", "heap.py", "attack.py", "fleet.py", "network.py", "program.sh",
+    names = ["wrong.py", "wrong.c", "heap.c", "edge.py", "heap.py", "attack.py", "fleet.py", "network.py", "program.py",
              "operator.sh", "lib/tests.sh"]
-    paths = [f"{TESTS}/{name}" for name in names] + sorted(glob.glob(f"{glob.escape(TESTS)}/lib/*.py"))
+    paths = [f"{TESTS}/{name}" for name in names] + sorted(glob.glob(f"{glob.escape(TESTS)}/lib/*.py")
+                                                           + glob.glob(f"{glob.escape(program.TABLES)}/*.rt"))
     hashed = hashlib.sha256()
     for path in paths:
         with open(path, "rb") as file:

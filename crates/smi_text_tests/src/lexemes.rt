@@ -178,7 +178,8 @@ fn a_string_has_any_octet_but_a_quote(rt: HostRuntime) -> Result<(), Fail> {
     Ok(())
 }
 
-/// Definitions with a part that isn't parsed, only stored as tokens. Every sign is accepted there.
+/// Definitions with a part that isn't parsed, only stored as tokens. Tokens of almost every kind
+/// are accepted there.
 const RAW: &[&str] = &[
     "x MODULE-COMPLIANCE { } } ( [ ] < > , ; : | . = .. -5 'a'H '1'B \"\" a B END \
         ::= { iso 1 }",
@@ -186,7 +187,7 @@ const RAW: &[&str] = &[
     "OBJECT-TYPE MACRO ::= BEGIN } ( [ < > , ; : | . = .. ::= -5 'a'H '1'B \"\" a BEGIN END",
 ];
 
-/// Signs that no definition begins with.
+/// Tokens that no definition begins with.
 const SIGNS: &[&str] = &["<", ">", ":", ".", "=", "|", ")", "]", "-1", "\"\"", "''H"];
 
 #[test]

@@ -24,7 +24,7 @@ pub(crate) fn open_string(line: usize) -> Option<ParseError> {
     Some(ParseError::Lex(LexError::OpenString { line }))
 }
 
-/// Asserts that each text has its fault.
+/// Asserts that each text has the fault of its row, or none if the row has none.
 pub(crate) fn assert_faults(rt: &impl Abort, alloc: Global, rows: &[(&[u8], Option<ParseError>)]) {
     for (text, expected) in rows {
         assert_eq!(rt; fault(alloc, text), *expected);
@@ -40,7 +40,7 @@ pub(crate) fn join_pieces(alloc: Global, pieces: &[&[u8]]) -> Result<Vec<u8>, Al
     Ok(octets)
 }
 
-/// Returns the fault of the text that consists of `pieces`.
+/// Returns the fault of the text that consists of `pieces`, if it has one.
 pub(crate) fn fault_of_pieces(
     alloc: Global,
     pieces: &[&[u8]],
@@ -49,7 +49,8 @@ pub(crate) fn fault_of_pieces(
     Ok(fault(alloc, &text))
 }
 
-/// Returns the fault of a text of three pieces. The second, `piece`, is its second line.
+/// Returns the fault of a text of three pieces, if it has one. There is a line feed before `piece`
+/// and after it.
 pub(crate) fn fault_in_line(
     alloc: Global,
     before: &[u8],
@@ -62,12 +63,13 @@ pub(crate) fn fault_in_line(
     )
 }
 
-/// Returns the fault of a module whose second line is `definition`, and which has nothing else.
+/// Returns the fault of a module whose second line is `definition`, and which has nothing else, if
+/// it has a fault.
 pub(crate) fn fault_of(alloc: Global, definition: &str) -> Result<Option<ParseError>, AllocError> {
     fault_in_line(alloc, b"A DEFINITIONS ::= BEGIN", definition, "END\n")
 }
 
-/// Asserts that each of these definitions has the fault `expected`.
+/// Asserts that each of these definitions has the fault `expected`, or none if that is `None`.
 pub(crate) fn assert_fault_of_each(
     rt: &impl Abort,
     alloc: Global,
@@ -143,7 +145,7 @@ pub(crate) fn are_tokens(tokens: &[TokenText], words: &str) -> bool {
     rest.next().is_none()
 }
 
-/// Returns the definition of `name` in a list of modules.
+/// Returns the first definition of `name` in a list of modules.
 pub(crate) fn definition<'a>(modules: &'a [Module], name: &str) -> Option<&'a Def> {
     for module in modules {
         if let Some(def) = module.define(name.as_bytes()) {
@@ -153,7 +155,7 @@ pub(crate) fn definition<'a>(modules: &'a [Module], name: &str) -> Option<&'a De
     None
 }
 
-/// Returns the parts of a definition's identifier value; none for a type.
+/// Returns the parts of a definition's identifier value, or none if it has no such value.
 pub(crate) fn parts_of(def: &Def) -> &[Part] {
     match def.identifier() {
         Some(parts) => parts.as_slice(),

@@ -62,7 +62,7 @@ fn assert_right(rt: &impl Abort, right: Option<bool>, what: &str) {
 }
 
 /// The name, the line, the words of the kind and the identifier value of each definition, with `@`
-/// between them. An assigned type has no words.
+/// between them. An assigned type other than SEQUENCE, CHOICE and TEXTUAL-CONVENTION has no words.
 const SHAPES: &[&str] = &[
     "m@5@MODULE-IDENTITY@iso 1",
     "o@7@OBJECT IDENTIFIER@iso org(3) dod(6) 1",
@@ -284,7 +284,7 @@ fn as_simple(syntax: &Syntax) -> Option<&SimpleType> {
     }
 }
 
-/// Returns whether a type is `INTEGER { a(1), b(-2) }`.
+/// Returns `Some(true)` if a type is `INTEGER { a(1), b(-2) }`, and another result if it isn't.
 fn has_numbers(syntax: &Syntax) -> Option<bool> {
     let simple = as_simple(syntax)?;
     let Some(Refinement::Numbers(numbers)) = &simple.refinement else {
@@ -308,8 +308,8 @@ fn is_table_of(syntax: &Syntax, name: &str) -> bool {
     }
 }
 
-/// Returns whether the row `name` has the objects `names` as its INDEX, the last one after IMPLIED
-/// if `implied` is true, and only then.
+/// Returns `Some(true)` if the row `name` has the objects `names` as its INDEX, and IMPLIED before
+/// the last one just if `implied` is true. Returns another result if it hasn't.
 fn has_index(modules: &[Module], name: &str, names: &str, implied: bool) -> Option<bool> {
     match object(modules, name)?.index.as_ref()? {
         Index::Own(parts) => Some(are(parts.names.as_slice(), names) && parts.implied == implied),
@@ -337,7 +337,8 @@ fn convention<'a>(modules: &'a [Module], name: &str) -> Option<&'a TextualConven
     }
 }
 
-/// Returns whether a type is `OCTET STRING (SIZE (0..8 | '10'H..'11111'B | 99))`.
+/// Returns `Some(true)` if a type is `OCTET STRING (SIZE (0..8 | '10'H..'11111'B | 99))`, and
+/// another result if it isn't.
 fn has_sizes(syntax: &Syntax) -> Option<bool> {
     let simple = as_simple(syntax)?;
     let Some(Refinement::Size(sizes)) = &simple.refinement else {
@@ -349,7 +350,7 @@ fn has_sizes(syntax: &Syntax) -> Option<bool> {
     )
 }
 
-/// Returns whether a type is `Tc (1 | 2..3)`.
+/// Returns `Some(true)` if a type is `Tc (1 | 2..3)`, and another result if it isn't.
 fn has_values(syntax: &Syntax) -> Option<bool> {
     let simple = as_simple(syntax)?;
     let (Base::Named(name), Some(Refinement::Values(values))) = (&simple.base, &simple.refinement)

@@ -75,7 +75,8 @@ fn parts_of_an_identifier_have_numbers(rt: HostRuntime) -> Result<(), Fail> {
     assert_numbers(&rt, module)
 }
 
-/// Asserts that the parts of `x` have these numbers, and that `Y` has no parts.
+/// Asserts that the first part of `x` has no number, that the others have the numbers 0 and 7, and
+/// that `Y` has no identifier value.
 fn assert_numbers(rt: &impl Abort, module: &Module) -> Result<(), Fail> {
     let x = module.define(b"x").ok_or("no x")?;
     let [first, second, third] = parts_of(x) else {

@@ -1,4 +1,4 @@
-//! Each reserved word at each position in the grammar: it is accepted only where the grammar has
+//! Each reserved word at many positions in the grammar: it is accepted only where the grammar has
 //! it.
 
 use crate::reading::{fault_in_line, join_pieces, syntax};
@@ -21,8 +21,8 @@ const MACROS: &str =
 
 /// Positions outside of a module. Each has four pieces with `@` between them: the text before the
 /// position, the text after it, the words with which the whole is a module, and the words that are
-/// accepted there although the whole isn't a module, so that the fault is after the word. MACROS
-/// stands for all names of macros, ANY for all words.
+/// accepted there although the whole isn't a module, so that the fault is after the word. A word in
+/// both lists counts only in the second. MACROS stands for all names of macros, ANY for all words.
 const OUTSIDE: &[&str] = &[
     "@DEFINITIONS ::= BEGIN END@@",
     "A {@} DEFINITIONS ::= BEGIN END@@",
@@ -149,7 +149,7 @@ fn is_among_macros(word: &str) -> bool {
     false
 }
 
-/// Returns what is before the first `@`, and what is after it.
+/// Returns what is before the first `@`, and what is after it. Without an `@` both are empty.
 fn cut(position: &str) -> (&str, &str) {
     position.split_once('@').unwrap_or(("", ""))
 }

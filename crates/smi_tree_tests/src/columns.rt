@@ -1,5 +1,5 @@
-//! The indexes of columns, by INDEX and AUGMENTS of their rows. `tests/program.sh` tests indexes of
-//! each base type.
+//! The indexes of columns, by INDEX and AUGMENTS of their rows. The rows `indexes` of
+//! `snmp_tools_tests` test indexes of each base type.
 
 ghost use Rattle.std.specs.Prelude.{◌≡◌};
 
@@ -17,7 +17,7 @@ const TEXT: IndexPart = IndexPart::Text(Extent::Counted);
 
 const IMPLIED_TEXT: IndexPart = IndexPart::Text(Extent::Implied);
 
-/// Returns the index in `sources` of the first node with this label.
+/// Returns the index in `sources` of the first node whose definition has this label.
 fn node_of(modules: &[Module], sources: &[Source], label: &str) -> Option<usize> {
     for (node, source) in sources.iter().enumerate() {
         if has_label(modules, *source, label) {

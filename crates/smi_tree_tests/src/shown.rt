@@ -1,5 +1,5 @@
-//! Names read and shown with the tree of the tiny modules. `tests/program.sh` tests what else a
-//! tree shows.
+//! Names read and shown with the tree of the tiny modules. The rows `shown` of `snmp_tools_tests`
+//! test what else a tree shows.
 
 use crate::names::random_oid;
 use crate::reading::{TINY, modules_of, oid};
@@ -57,7 +57,7 @@ fn letters_of(letters: &str) -> Result<Letters, Fail> {
     Ok(Letters::parse(letters.as_bytes()).ok().ok_or("letters")?)
 }
 
-/// Prefixes of the identifiers that are shown and read back.
+/// Prefixes of most of the identifiers that are shown.
 static PREFIXES: [&str; 3] = [
     "1.3.6.1.4.1.32473",
     "1.3.6.1.4.1.32473.2.1.2",

@@ -14,7 +14,7 @@ fn has_lines(text: &str, lines: &[&str]) -> bool {
     all && text.ends_with('\n')
 }
 
-/// Returns whether `words` ask for help, and the help has these lines.
+/// Returns whether `words` ask for help or for the version, and what is then said has these lines.
 fn helps(alloc: Global, words: &[&str], lines: &[&str]) -> bool {
     let read = read_words(alloc, words);
     let helped = match &read {
@@ -44,7 +44,7 @@ const LETTERS_OF_VALUES: &[&str] = &[
     "a: strings without a display hint as text",
 ];
 
-/// Each command with lines of its help: the usage, the example and the statuses.
+/// Each command with lines of its help, among them the usage, the example and the statuses.
 const COMMANDS: &[(&str, &[&str])] = &[
     (
         "snmptranslate",

@@ -37,8 +37,10 @@ fn three(rt: &impl Abort, alloc: Global) -> Table {
     Table::read(alloc, THREE).expect(rt, "a table")
 }
 
-/// A sink that counts the rows. It also appends the last number but one of each name, and each
-/// integer, to `number`, as two decimal digits each.
+/// A sink that counts the rows. It also appends to `number`, of each row, the ninth number of the
+/// name if there is one (in the three rows it is the last but one), and then the absolute value of
+/// the value if that is an integer, or 50 if it is the string `wes`. To append a number is to add it
+/// to a hundred times `number`, modulo 2^64.
 #[derive(Drop)]
 struct Columns {
     number: u64,
@@ -59,8 +61,10 @@ impl Sink for Columns {
         if let Some(column) = binding.name.as_slice().get(8) {
             self.add(u64::from(*column));
         }
-        if let ValueRef::Integer(number) = binding.value {
-            self.add(u64::from(number.unsigned_abs()));
+        match binding.value {
+            ValueRef::Integer(number) => self.add(u64::from(number.unsigned_abs())),
+            ValueRef::Octets(b"wes") => self.add(50),
+            _ => {}
         }
         Ok(())
     }
@@ -132,8 +136,8 @@ fn wire_to<N: Net>(rt: &impl Abort, links: &mut MachineLinks<N>, door: &UdpSocke
         .expect(rt, "a link")
 }
 
-/// Runs a walk over `link`, and returns whether it ends with `end`, has `rows` rows, and their
-/// columns are collected as `number`.
+/// Runs a walk over `link`, and returns whether it ends with `end`, has `rows` rows, and `Columns`
+/// makes `number` of them.
 fn walk_returns<L: Link>(
     link: &mut L,
     core: WalkCore,
@@ -151,7 +155,7 @@ fn walk_returns<L: Link>(
 }
 
 /// Returns whether a walk returns the three rows, and took four turns of the agent with a reply
-/// each.
+/// each, without a fault.
 fn returns_each_row<N: Net>(looped: &mut Looped<'_, N>, core: WalkCore) -> bool
     requires { IsFresh core }
 {
@@ -161,7 +165,7 @@ fn returns_each_row<N: Net>(looped: &mut Looped<'_, N>, core: WalkCore) -> bool
         idle: 0,
         faults: 0,
     };
-    walk_returns(looped, core, 0, &WalkEnd::Done(3), 3, 101021003)
+    walk_returns(looped, core, 0, &WalkEnd::Done(3), 3, 10102501003)
         && looped.served == served
         && looped.faults() == 0
         && looped.links.faults() == 0
@@ -278,7 +282,7 @@ fn is_open_refused<N: Net>(links: &mut MachineLinks<N>, host: &str, number: u64)
     links.open(host, 161, 1).is_err() && links.faults() == number
 }
 
-/// Returns whether no door at this port is opened, and this is fault number `number`.
+/// Returns whether no door at this port of `host` is opened, and this is fault number `number`.
 fn is_bind_refused<N: Net>(
     links: &mut MachineLinks<N>,
     host: &str,
@@ -310,12 +314,13 @@ fn each_failed_call_is_counted(rt: HostRuntime) {
     assert!(rt; is_send_refused(&rt, &mut links));
 }
 
-/// Returns whether a receive at `door` waits for a second.
+/// Returns whether a receive at `door` waits for a datagram for a second at most.
 fn waits_a_second(door: &UdpSocket) -> bool {
     matches!(door.read_timeout(), Ok(Some(time)) if time == Duration::from_secs(1))
 }
 
-/// Returns whether a turn at a door where nothing arrives waits for a second, and is idle.
+/// Returns whether a receive at a new door waits for a second at most, and a turn at this door,
+/// where nothing arrives, is idle.
 fn is_idle_turn<N: Net>(rt: &impl Abort, links: &mut MachineLinks<N>, table: &Table) -> bool {
     let mut door = links.bind("localhost", 0).expect(rt, "a door");
     waits_a_second(&door) && links.serve(&mut door, table, &public(), 1).idle == 1

@@ -72,7 +72,7 @@ const BAD_WALK_NUMBERS: &[(&str, &str)] = &[
 
 const NOT_NUMBERS: &[&str] = &["", "x", "1.5", "0x10", "-1", " 1"];
 
-/// Asserts that a walk refuses `option` with each text that isn't a whole number.
+/// Asserts that a walk refuses `option` with each text of `NOT_NUMBERS`.
 fn assert_only_numbers(rt: &impl Abort, alloc: Global, option: &str) {
     for text in NOT_NUMBERS {
         assert!(rt; is_refused(alloc, option, text), "{option} {text:?}");

@@ -44,7 +44,7 @@ module _ (words : AskWords) (mib : Contents) (plan : Plan) (before after : Seen 
   unchanged : (events : Events) → events ≡ [] → after.links.network ≡ before.links.network → all_recorded events ≡ of_walk after.links.network.run
   unchanged events none same = ap all_recorded none ∙ sym (ap (λ (n : Recording). of_walk n.run) same ∙ ap of_walk new)
 
-  -- what happened at the end that asks is what is recorded of the walk's end
+  -- what is recorded of the events at the end that asks is the record of the walk's end
   pub asked_is : (events : Events) → IsAtAsker walk_links link words mib plan before after status events
       → all_recorded events ≡ of_walk after.links.network.run
   asked_is events (ends.not_linked none left out not_0) = elim left [

@@ -9,7 +9,7 @@ use Rattle.snmp_tools.specs.Headline.{IsPrefixWritten, IsWholeWritten}
 use Rattle.snmp_tools.specs.{RowText.row_line, TableWalk.AreWalked}
 use Rattle.snmp_tools.specs.Question.{AskWords, Plan, of_get, of_walk}
 
--- the job asks an agent, and its arguments say this
+-- the job asks an agent, and `ask` is what its arguments say
 abbrev pub Asks : Stated → AskWords → Type 0
 Asks (snmpget words) ask = ask ≡ of_get words
 Asks (snmpwalk words) ask = ask ≡ of_walk false words

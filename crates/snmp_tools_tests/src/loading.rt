@@ -1,6 +1,7 @@
 //! Trees that are loaded from module files.
 
-use crate::tiny::{ACROSS, TINY, WELL};
+use crate::rows::{file_pairs, shared_files};
+use crate::run::Held;
 use smi_tree::Tree;
 use snmp_io::memory::{MemoryFiles, MemoryOutput};
 use snmp_io::{KeyedFiles, Output};
@@ -10,20 +11,14 @@ use std::hash::RandomState;
 use std::process::Abort;
 use std::test::Fail;
 
-// The files of the tests.
-const FILES: &[(&str, &[u8])] = &[
-    ("tiny.txt", TINY),
-    ("across.txt", ACROSS),
-    ("well.txt", WELL),
-];
-
 // Returns the tree of these files, or why they are refused.
 fn load<'a>(
     alloc: Global,
+    files: Held<'_>,
     paths: &[&'a str],
     err: &mut MemoryOutput,
 ) -> Result<Tree, FilesError<'a>> {
-    let files = MemoryFiles { files: FILES };
+    let files = MemoryFiles { files };
     load_tree(alloc, &files, paths, err)
 }
 
@@ -38,9 +33,16 @@ fn assert_across(rt: &impl Abort, tree: &Tree) {
 
 #[test]
 fn names_are_found_across_files(rt: HostRuntime) -> Result<(), Fail> {
+    let files = shared_files(&rt, rt.alloc())?;
+    let files = file_pairs(rt.alloc(), files.as_slice())?;
     let mut err = MemoryOutput::new(rt.alloc());
-    let tree = load(rt.alloc(), &["across.txt", "well.txt"], &mut err)?;
-    let roots = load(rt.alloc(), &[], &mut err)?;
+    let tree = load(
+        rt.alloc(),
+        files.as_slice(),
+        &["across.txt", "well.txt"],
+        &mut err,
+    )?;
+    let roots = load(rt.alloc(), files.as_slice(), &[], &mut err)?;
     assert_across(&rt, &tree);
     assert!(rt; roots.len() == 3);
     Ok(())
@@ -55,17 +57,23 @@ fn assert_cut_off(rt: &impl Abort, tree: &Tree, err: &MemoryOutput) {
 
 #[test]
 fn a_tree_is_loaded_though_the_output_fails(rt: HostRuntime) -> Result<(), Fail> {
+    let files = shared_files(&rt, rt.alloc())?;
+    let files = file_pairs(rt.alloc(), files.as_slice())?;
     let mut err = MemoryOutput::with_limit(rt.alloc(), 20);
-    let tree = load(rt.alloc(), &["tiny.txt"], &mut err)?;
+    let tree = load(rt.alloc(), files.as_slice(), &["tiny.txt"], &mut err)?;
     assert_cut_off(&rt, &tree, &err);
     Ok(())
 }
 
 #[test]
 fn a_tree_is_the_same_with_any_hash_key(rt: HostRuntime) -> Result<(), Fail> {
+    let files = shared_files(&rt, rt.alloc())?;
+    let files = file_pairs(rt.alloc(), files.as_slice())?;
     let mut err = MemoryOutput::new(rt.alloc());
     let files = KeyedFiles {
-        files: MemoryFiles { files: FILES },
+        files: MemoryFiles {
+            files: files.as_slice(),
+        },
         key: RandomState::new(&rt).ok(),
     };
     let tree = load_tree(rt.alloc(), &files, &["across.txt", "well.txt"], &mut err)?;

@@ -76,7 +76,7 @@ impl<'a> Link for Expecting<'a> {
 
 /// A door, the socket of a server. It is never opened.
 #[derive(Drop)]
-struct NoDoor;
+pub struct NoDoor;
 
 /// Links to an agent in memory, which together accept these datagrams. `asked` counts the calls to
 /// open a link or a door.

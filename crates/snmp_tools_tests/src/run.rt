@@ -1,6 +1,7 @@
 //! How a test runs the tools.
 
 use snmp_io::memory::{MemoryFiles, MemoryOutput};
+use snmp_net::Links;
 use snmp_net::memory::MemoryLinks;
 use snmp_tools::tool;
 use std::alloc::{AllocError, Global};
@@ -34,11 +35,11 @@ pub type Room = (usize, usize);
 pub const NO_LIMITS: Room = (usize::MAX, usize::MAX);
 
 /// Runs a command line over files, links and outputs, and returns its status.
-pub fn status_of(
+pub fn status_of<L: Links>(
     alloc: Global,
     line: &str,
     files: Held<'_>,
-    links: &mut MemoryLinks<'_>,
+    links: &mut L,
     out: &mut MemoryOutput,
     err: &mut MemoryOutput,
 ) -> Result<u8, AllocError> {
@@ -111,17 +112,6 @@ pub fn assert_runs_within(
             matches!(prints(alloc, files, room, *run), Ok(true)),
             "{}",
             run.0
-        );
-    }
-}
-
-/// Asserts that each of the command lines prints these lines and nothing else, and has status 0.
-pub fn assert_prints(rt: &impl Abort, alloc: Global, files: Held<'_>, lines: &[(&str, &str)]) {
-    for (line, printed) in lines {
-        let run = (*line, *printed, "", 0);
-        assert!(rt;
-            matches!(prints(alloc, files, NO_LIMITS, run), Ok(true)),
-            "{line}"
         );
     }
 }

@@ -59,32 +59,6 @@ fn replies_and_dropped_datagrams_are_counted(rt: HostRuntime) {
 }
 
 #[test]
-fn an_address_to_listen_at_has_no_prefix(rt: HostRuntime) {
-    let mut links = MemoryLinks::new(rt.alloc(), &[], &[]);
-    assert_runs_over(
-        &rt,
-        rt.alloc(),
-        OF_THREE,
-        &mut links,
-        NO_LIMITS,
-        &[
-            (
-                "snmp snmpd --table=t.tab --listen=udp:161",
-                "",
-                "Bad agent address: udp:161\n",
-                1,
-            ),
-            (
-                "snmp snmpd --table=t.tab --listen=table:161",
-                "",
-                "Bad agent address: table:161\n",
-                1,
-            ),
-        ],
-    );
-}
-
-#[test]
 fn an_output_that_fails_ends_the_service(rt: HostRuntime) {
     const LINE: &str = "snmp snmpd --table=t.tab --turns=1 --listen=h:1";
     let requests = [GET];

@@ -64,7 +64,8 @@ impl<'a> Endpoint for ReplayDoor<'a> {
                 buffer[..size].copy_from_slice(entry.octets.as_slice());
                 Ok(Some((size, ())))
             }
-            // The agent sent a reply here that hasn't been sent again: the receive waits for it.
+            // The next entry of the record is a reply of the agent. Until it is sent again, receives
+            // return nothing.
             Passing::ReplySent => Ok(None),
             Passing::RequestSent | Passing::ReplyArrived => {
                 self.used += 1;
