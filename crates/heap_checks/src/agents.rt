@@ -13,7 +13,8 @@ pub(crate) const CONFIG: Config<'static> = Config {
     max_size: 1472,
 };
 
-/// Checks `Value::from_ref`, for each value of a message. Appends the names of its bindings.
+/// Checks `Value::from_ref`, for each value of a message up to the first that fails. Appends the
+/// names of the bindings before that.
 pub fn values(alloc: Global, datagram: &[u8], room: &mut Room<'_>) -> Result<(), Fault> {
     let Ok(message) = decode(datagram) else {
         return Err(Fault::Wrong);
@@ -77,7 +78,7 @@ pub fn table_with(
     Ok(())
 }
 
-/// Appends the reply to `request`.
+/// Appends the reply to `request`, if it isn't dropped.
 pub(crate) fn reply(table: &Table, request: &[u8], room: &mut Room<'_>) {
     let mut octets = [0; 65507];
     if let Outcome::Reply(size) = answer(table, &CONFIG, request, &mut octets) {

@@ -12,9 +12,10 @@ use snmp_wire::{
 };
 use std::alloc::Global;
 
-/// Checks the calls that read and write messages. Reads a message of one binding, and appends it
-/// twice: written whole by `encode`, and in pieces by `encode_binding` and `seal`. The lengths of
-/// the message and of its head must be those that `size` and `head_size` return.
+/// Checks the calls that read and write messages. Reads a message, and appends it with its first
+/// binding only, twice: written whole by `encode`, and in pieces by `encode_binding` and `seal`.
+/// The lengths of the message by `encode` and of its head by `encode_head` must be those that
+/// `size` and `head_size` return.
 pub fn check_codec(alloc: Global, datagram: &[u8], room: &mut Room<'_>) -> Result<(), Fault> {
     let _begun = mark(alloc)?;
     let Ok(message) = decode(datagram) else {
@@ -51,7 +52,7 @@ fn size_of_one(binding: &Binding<'_>) -> u64
     binding_size(binding)
 }
 
-/// Writes a message of this one binding whole, and in pieces, and appends both.
+/// Writes `message` with this binding only, whole and in pieces, and appends both.
 fn write_again(
     message: &MessageRef<'_>,
     binding: Binding<'_>,

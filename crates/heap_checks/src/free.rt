@@ -125,7 +125,8 @@ fn is_done(end: &WalkEnd) -> Result<(), Fault> {
     }
 }
 
-/// Checks `Lexer`. Appends the tokens of a text, a line each, and its fault if it has one.
+/// Checks `Lexer`. Appends the tokens of a text, and its fault if it has one, with a newline after
+/// each.
 pub fn check_lexer(alloc: Global, text: &[u8], room: &mut Room<'_>) -> Result<(), Fault> {
     let _begun = mark(alloc)?;
     'tokens: for token in Lexer::new(text) {
@@ -140,7 +141,8 @@ pub fn check_lexer(alloc: Global, text: &[u8], room: &mut Room<'_>) -> Result<()
 }
 
 /// Checks `Module::define` and `Module::import` of a name, in each module of a text. Appends the
-/// label of the definition, and the module that the name is imported from.
+/// label of the definition if the module has one, and the module that the name is imported from if
+/// it is imported.
 pub fn check_find(
     alloc: Global,
     text: &[u8],
@@ -162,8 +164,9 @@ pub fn check_find(
 }
 
 /// Checks the look-ups in a loaded tree. Appends for each node the identifiers of the nodes that
-/// are found by its label in its module, by its label in all modules, by its identifier, and as its
-/// first child. Also appends whether the node has a syntax and an INDEX.
+/// are found by its label in its module, by its label in all modules, by its identifier, as its
+/// first child, and by this child's label. Appends a line if the tree has the node's module, one if
+/// the node has a syntax, and one if it has an INDEX.
 pub fn check_look_ups(alloc: Global, text: &[u8], room: &mut Room<'_>) -> Result<(), Fault> {
     let tree = tree_of(alloc, text)?;
     let _begun = mark(alloc)?;
@@ -202,7 +205,7 @@ fn append_look_ups(tree: &Tree, id: NodeId, room: &mut Room<'_>) {
     }
 }
 
-/// Appends the identifier of a node that was found.
+/// Appends the identifier of the node that was found, if there is one.
 fn append_node(tree: &Tree, found: Option<NodeId>, room: &mut Room<'_>) {
     if let Some(id) = found {
         if id < tree.len() {
@@ -219,7 +222,7 @@ fn append_child(tree: &Tree, parent: &Oid, child: NodeId, room: &mut Room<'_>) {
     }
 }
 
-/// Checks `resolve` of a name, with a loaded tree.
+/// Checks `resolve` of a name, with a loaded tree. Appends the identifier, or a line for a fault.
 pub fn check_resolve(
     alloc: Global,
     text: &[u8],
@@ -237,8 +240,8 @@ pub fn check_resolve(
     Ok(())
 }
 
-/// Checks `resolve_front` of a text up to its first `|`, with a loaded tree. Appends the
-/// identifier, and what follows it.
+/// Checks `resolve_front` of a text whose name a `|` may end, with a loaded tree. Appends the
+/// identifier and the text after the name, or a line for a fault.
 pub fn check_resolve_front(
     alloc: Global,
     modules: &[u8],
@@ -259,8 +262,8 @@ pub fn check_resolve_front(
     Ok(())
 }
 
-/// Checks `Letters::parse`. Appends whether all octets of a text are letters, or the first that
-/// isn't one.
+/// Checks `Letters::parse`. Appends a line if all octets of a text are letters of `-O`, or else the
+/// first that isn't one.
 pub fn check_letters(alloc: Global, text: &[u8], room: &mut Room<'_>) -> Result<(), Fault> {
     let _begun = mark(alloc)?;
     let letters = Letters::parse(text);

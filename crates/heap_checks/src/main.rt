@@ -1,10 +1,12 @@
 //! The program `heap_checks CHECK FILE FILE`, which `tests/heap.py` runs over a heap that refuses
 //! memory.
 //!
-//! A check makes a call, on the octets of the two files. Status 0: the call succeeded, and its
-//! whole result is printed, without allocating for that. Status 1: memory was refused, and what was
-//! to be changed is unchanged. Status 2: the result or an input was wrong, or the output failed.
-//! Status 3: memory was refused, and refused again when the call was repeated.
+//! A check makes a call or several, on the octets of the two files. Status 0: the check succeeded,
+//! and its result is printed, up to 16384 octets, without allocating for that. A check of walks or
+//! of lines also succeeds if memory was refused for one call, and the next succeeded. Status 1:
+//! memory was refused, and what was to be changed is unchanged. Status 2: the result or an input
+//! was wrong, memory was refused and what was to be changed isn't as it was, or the output failed.
+//! Status 3: memory was refused, and refused again in the next call.
 #![tactic(auto)]
 
 mod agents;
@@ -31,8 +33,7 @@ const LONG: &[u8] = b"a string of 43 octets, more than in a place";
 pub(crate) enum Fault {
     /// Memory was refused, and what was to be changed is unchanged.
     Refused,
-    /// Memory was refused, and refused again when the call was repeated. What was to be changed is
-    /// unchanged.
+    /// Memory was refused, and refused again in the next call.
     Again,
     /// The result or an input is wrong, or memory was refused and what was to be changed isn't as
     /// it was.

@@ -68,7 +68,8 @@ pub(crate) fn walk_over(
 }
 
 /// Checks `run_walk` over a `MemoryLink`. If memory for a request is refused, the link must have
-/// counted a fault, and must serve a second walk, whose rows begin with the rows of the first.
+/// counted a fault, and must serve a second walk, whose rows begin with the rows of the first. If
+/// memory is refused for that one too, it must have counted two faults.
 pub fn walk(
     alloc: Global,
     text: &[u8],
@@ -95,8 +96,8 @@ pub fn walk(
     }
 }
 
-/// Checks `MemoryLink::reserve`: what is reserved is enough for a walk. If memory is refused, the
-/// link is unchanged, and serves a walk too.
+/// Checks `MemoryLink::reserve`: what is reserved is enough for a walk. If memory for that is
+/// refused, the link serves a walk too, unless memory is refused again.
 pub fn check_reserve(
     alloc: Global,
     text: &[u8],

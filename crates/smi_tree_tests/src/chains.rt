@@ -21,8 +21,8 @@ enum Basis<'a> {
     Nowhere,
 }
 
-/// Returns `count` names. The first has the number 1 only, and each other one refers to the name
-/// before it and appends `numbers`.
+/// Returns `count` names, but at least one. The first has the number 1 only, and each other one
+/// refers to the name before it and appends `numbers`.
 fn references_back(alloc: Global, count: usize, numbers: &[u32]) -> Result<Vec<Basis<'_>>, Fail> {
     let mut bases = Vec::new(alloc);
     bases.push(Basis::Numbers(&[1]))?;
@@ -32,8 +32,8 @@ fn references_back(alloc: Global, count: usize, numbers: &[u32]) -> Result<Vec<B
     Ok(bases)
 }
 
-/// Returns `count` names. Each refers to the name after it, and the last one to the name with index
-/// `end`.
+/// Returns `count` names, but at least one. Each refers to the name after it, but the last one to
+/// the name with index `end`.
 fn references_forward(
     alloc: Global,
     count: usize,
@@ -47,7 +47,8 @@ fn references_forward(
     Ok(bases)
 }
 
-/// Returns how many names of a module with these bases resolve to `expected`.
+/// Returns how many names of a module with these bases resolve to `expected`, or fail for this
+/// reason.
 fn count(alloc: Global, bases: &[Basis<'_>], expected: &str) -> Result<usize, Fail> {
     let mut text = String::new(alloc);
     push_module(&mut text, bases)?;
@@ -55,7 +56,8 @@ fn count(alloc: Global, bases: &[Basis<'_>], expected: &str) -> Result<usize, Fa
     count_in(alloc, &modules, expected)
 }
 
-/// Returns how many definitions of modules resolve to `expected`.
+/// Returns how many labels of the modules' definitions resolve to `expected`, or fail for this
+/// reason.
 fn count_in(alloc: Global, modules: &[Module], expected: &str) -> Result<usize, Fail> {
     let names = names_of(alloc, modules)?;
     Ok(count_among(&names, modules, expected))
@@ -69,7 +71,8 @@ fn count_among<'a>(names: &Names<'a>, modules: &'a [Module], expected: &str) -> 
     count
 }
 
-/// Returns how many definitions of a module resolve to `expected`.
+/// Returns how many labels of a module's definitions resolve to `expected`, or fail for this
+/// reason.
 fn count_of<'a>(names: &Names<'a>, module: &'a Module, expected: &str) -> usize {
     let mut count: usize = 0;
     for def in module.defs.as_slice() {

@@ -7,7 +7,7 @@ fn assert_letters(rt: &impl Abort, text: &[u8], letters: Letters) {
     assert!(rt; Letters::parse(text) == Ok(letters), "{text:?}");
 }
 
-/// Asserts that `text` is refused because of `octet`, which isn't a letter.
+/// Asserts that `text` is refused because of `octet`, which isn't a letter of `-O`.
 fn assert_no_letter(rt: &impl Abort, text: &[u8], octet: u8) {
     assert!(rt; Letters::parse(text) == Err(octet), "{text:?}");
 }

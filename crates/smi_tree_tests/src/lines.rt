@@ -14,7 +14,7 @@ fn letters_of(letters: &[u8]) -> Result<Letters, Fail> {
     Ok(Letters::parse(letters).ok().ok_or("no letters")?)
 }
 
-/// Returns whether the line of a binding is `text`, and is appended to what `out` has before.
+/// Returns whether the line of a binding is `text`, and is appended to what was written before.
 fn has_line(
     alloc: Global,
     tree: &Tree,
@@ -35,7 +35,7 @@ fn is_after_before(out: &[u8], text: &[u8]) -> bool {
     }
 }
 
-/// Returns whether `line` ends with the text of its value.
+/// Returns whether `line` ends with the text of `value` and a line feed.
 fn ends_in_value(
     alloc: Global,
     tree: &Tree,
@@ -50,8 +50,8 @@ fn ends_in_value(
     Ok(line.ends_with(&shown))
 }
 
-/// Asserts that a binding has this line, that it is appended to what was written before, and that
-/// it ends with the text of its value.
+/// Asserts that the line of a binding is `text`, is appended to what was written before, and ends
+/// with the text of `value` and a line feed.
 fn assert_line(
     rt: &impl Abort,
     alloc: Global,
@@ -270,7 +270,7 @@ fn a_name_is_shown_without_a_value(rt: HostRuntime) -> Result<(), Fail> {
     Ok(())
 }
 
-/// Appends the names of the column in four forms.
+/// Appends the name of the column in four forms, and a space after each.
 fn push_names(tree: &Tree, out: &mut Vec<u8>) -> Result<(), Fail> {
     let column = Oid::from_slice(&[1, 3, 6, 2])?;
     for letters in [b"".as_slice(), b"n", b"f", b"s"] {

@@ -1,31 +1,11 @@
 //! Trees of whole modules: their warnings in order, and what each look-up finds.
 
-use crate::reading::{modules_of, oid};
+use crate::reading::{TINY, modules_of, oid};
 use smi_tree::{NodeId, Tree, Warning};
 use snmp_oid::Oid;
 use std::alloc::Global;
 use std::process::Abort;
 use std::test::Fail;
-
-const TINY_SMI: &str = "TINY-SMI DEFINITIONS ::= BEGIN
-enterprises OBJECT IDENTIFIER ::= { private 1 }
-private     OBJECT IDENTIFIER ::= { internet 4 }
-internet    OBJECT IDENTIFIER ::= { iso org(3) dod(6) 1 }
-END
-";
-
-const TINY_MIB: &str = "TINY-MIB DEFINITIONS ::= BEGIN
-IMPORTS enterprises, absent FROM TINY-SMI
-        other FROM GONE-MIB;
-tiny OBJECT IDENTIFIER ::= { enterprises 32473 }
-tinyState OBJECT-TYPE SYNTAX INTEGER { up(1), down(2) } MAX-ACCESS read-only
-  STATUS current DESCRIPTION \"State.\" ::= { tiny 1 }
-tinyTable OBJECT-TYPE SYNTAX SEQUENCE OF TinyEntry MAX-ACCESS not-accessible
-  STATUS current DESCRIPTION \"Table.\" ::= { tiny 2 }
-loopA OBJECT IDENTIFIER ::= { loopB 1 }
-loopB OBJECT IDENTIFIER ::= { loopA 1 }
-END
-";
 
 static TINY_WARNINGS: [&str; 4] = [
     "TINY-MIB imports absent from TINY-SMI, which has none",
@@ -35,13 +15,19 @@ static TINY_WARNINGS: [&str; 4] = [
 ];
 
 /// The nodes of the tiny modules, without the built-in roots.
-static TINY_NODES: [(&str, &str, &str); 6] = [
+static TINY_NODES: [(&str, &str, &str); 12] = [
     ("TINY-SMI", "internet", "1.3.6.1"),
     ("TINY-SMI", "private", "1.3.6.1.4"),
     ("TINY-SMI", "enterprises", "1.3.6.1.4.1"),
     ("TINY-MIB", "tiny", "1.3.6.1.4.1.32473"),
     ("TINY-MIB", "tinyState", "1.3.6.1.4.1.32473.1"),
     ("TINY-MIB", "tinyTable", "1.3.6.1.4.1.32473.2"),
+    ("TINY-MIB", "tinyEntry", "1.3.6.1.4.1.32473.2.1"),
+    ("TINY-MIB", "tinyName", "1.3.6.1.4.1.32473.2.1.1"),
+    ("TINY-MIB", "tinyMac", "1.3.6.1.4.1.32473.2.1.2"),
+    ("TINY-MIB", "tinyKeyTable", "1.3.6.1.4.1.32473.3"),
+    ("TINY-MIB", "tinyKeyEntry", "1.3.6.1.4.1.32473.3.1"),
+    ("TINY-MIB", "tinyKeyUse", "1.3.6.1.4.1.32473.3.1.1"),
 ];
 
 /// A tree, and the warnings about its modules.
@@ -80,7 +66,7 @@ fn consists_of(text: &str, parts: &[&[u8]]) -> bool {
     rest.is_empty()
 }
 
-/// Returns whether `sentence` says what `warning` does.
+/// Returns whether `sentence` says what `warning` does. Only four kinds of warning have a sentence.
 fn says(sentence: &str, warning: &Warning) -> bool {
     match warning {
         Warning::DoubleModule(home) => {
@@ -137,7 +123,7 @@ fn find(tree: &Tree, home: &[u8], label: &[u8]) -> Option<NodeId> {
     tree.find(home, label)
 }
 
-/// Returns the first node of a label in any module.
+/// Returns the first node of a label, in any module or among the built-in roots.
 fn find_any(tree: &Tree, label: &[u8]) -> Option<NodeId> {
     tree.find_any(label)
 }
@@ -160,7 +146,7 @@ fn has_nodes(tree: &Tree, rows: &[(&str, &str, &str)]) -> Result<bool, Fail> {
     Ok(true)
 }
 
-/// Returns the node of a label directly below an identifier.
+/// Returns the first node of a label directly below an identifier.
 fn child(tree: &Tree, parent: &str, label: &str) -> Result<Option<NodeId>, Fail> {
     Ok(tree.child(&oid(parent)?, label.as_bytes()))
 }
@@ -171,10 +157,17 @@ fn is_tiny(tree: &Tree) -> Result<bool, Fail> {
     Ok(has_nodes(tree, &TINY_NODES)? && tree.len() == TINY_NODES.len() + 3)
 }
 
+/// Returns the texts of the two tiny modules, the first without its last word.
+fn tiny_texts() -> Result<(&'static str, &'static str), Fail> {
+    let text = str::from_utf8(TINY).ok().ok_or("no text")?;
+    Ok(text.split_once("END\n").ok_or("no second module")?)
+}
+
 #[test]
 fn the_tiny_modules_load_in_either_order(rt: HostRuntime) -> Result<(), Fail> {
-    assert_tiny(&rt, rt.alloc(), &[TINY_SMI, TINY_MIB])?;
-    assert_tiny(&rt, rt.alloc(), &[TINY_MIB, TINY_SMI])
+    let (smi, mib) = tiny_texts()?;
+    assert_tiny(&rt, rt.alloc(), &[smi, "END\n", mib])?;
+    assert_tiny(&rt, rt.alloc(), &[mib, smi, "END\n"])
 }
 
 fn assert_tiny(rt: &impl Abort, alloc: Global, texts: &[&str]) -> Result<(), Fail> {
@@ -198,7 +191,8 @@ fn assert_tiny_tree(rt: &impl Abort, loaded: &Loaded) -> Result<(), Fail> {
 
 #[test]
 fn modules_loaded_twice_change_no_node(rt: HostRuntime) -> Result<(), Fail> {
-    let texts = [TINY_SMI, TINY_MIB, TINY_SMI, TINY_MIB];
+    let (smi, mib) = tiny_texts()?;
+    let texts = [smi, "END\n", mib, smi, "END\n", mib];
     let loaded = load(rt.alloc(), &join_texts(rt.alloc(), &texts)?)?;
     assert_twice_tiny(&rt, &loaded)
 }
@@ -284,8 +278,8 @@ mine OBJECT IDENTIFIER ::= { 1 10 }
 END
 ";
 
-/// The first node of each label in each module. Some labels occur in several modules, and one is
-/// also a built-in root.
+/// The node of each label in the first module of each name. Some labels occur in several modules,
+/// and one is also a built-in root.
 static SHARED_NODES: [(&str, &str, &str); 7] = [
     ("A", "shared", "1.3"),
     ("A", "only", "1.4"),
@@ -296,7 +290,8 @@ static SHARED_NODES: [(&str, &str, &str); 7] = [
     ("C", "iso", "2.9"),
 ];
 
-/// Labels that no module of this name has.
+/// Names of modules, each with a label that isn't found there. Only the first module A counts, so
+/// `mine` isn't found in A.
 static ABSENT: [(&str, &str); 7] = [
     ("A", "mine"),
     ("A", "iso"),
@@ -379,8 +374,8 @@ fn assert_first_children(rt: &impl Abort, tree: &Tree) -> Result<(), Fail> {
     Ok(())
 }
 
-/// Returns whether the first child of an identifier with this label is the first of all its
-/// children that has this label.
+/// Returns whether `Tree::child` finds the same child as a search of all children of the identifier
+/// for the first one with this label.
 fn is_as_searched(tree: &Tree, oid: &Oid, label: &str) -> bool {
     let mut searched = None;
     for id in tree.children(oid) {
@@ -407,6 +402,18 @@ fn each_name_on_a_ring_has_a_warning(rt: HostRuntime) -> Result<(), Fail> {
     let mut text = String::new(rt.alloc());
     push_ring(&mut text)?;
     assert!(rt; has_ring(rt.alloc(), &text)?);
+    Ok(())
+}
+
+#[test]
+fn a_name_on_a_ring_of_imports_has_one_warning(rt: HostRuntime) -> Result<(), Fail> {
+    let text = "A DEFINITIONS ::= BEGIN IMPORTS x FROM B;
+y OBJECT IDENTIFIER ::= { x 1 }
+END
+B DEFINITIONS ::= BEGIN IMPORTS x FROM A; END
+";
+    let loaded = load(rt.alloc(), text)?;
+    assert!(rt; say(&["A::y stands on a cycle"], &loaded.warnings) && loaded.tree.len() == 3);
     Ok(())
 }
 
@@ -465,7 +472,7 @@ fn is_wide(tree: &Tree) -> Result<bool, Fail> {
     )
 }
 
-/// Returns the number of children of the node 1.9, or `None` if the last number of one isn't its
+/// Returns the number of children of `top`, or `None` if the identifier of one isn't 1.9 and its
 /// index among them.
 fn children_in_order(tree: &Tree, top: &Oid) -> Option<u32> {
     let mut number: u32 = 0;

@@ -161,6 +161,7 @@ static SYNTAXES: [Row<'static>; 15] = [
     ("IpAddress", Some((TypeBase::IpAddress, "", "", ""))),
     ("Opaque (SIZE (2))", Some((TypeBase::Opaque, "", "", "2"))),
     ("Counter64", Some((TypeBase::Counter64, "", "", ""))),
+    // Defined by the module itself, by an imported name of a base type.
     ("Bound", Some((TypeBase::Integer, "", "", ""))),
     // Across two imports, to the end of the chain.
     (
@@ -183,7 +184,8 @@ fn assert_objects(rt: &impl Abort, alloc: Global, modules: &[Module]) -> Result<
     Ok(())
 }
 
-/// Returns the index of the first object in the first module: the first definition with a syntax.
+/// Returns the index of the first object in the first module, if it is at most `BEFORE`. An object
+/// is a definition with a syntax.
 fn first_object(modules: &[Module], types: &Types) -> Option<usize>
     requires { AreTypesOf modules.now types.now }
 {

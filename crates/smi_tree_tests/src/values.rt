@@ -1,4 +1,5 @@
-//! The texts of values of each type, with the letters and the syntaxes that affect them.
+//! The texts of values of each type but object identifiers, with the letters and the syntaxes that
+//! affect them.
 ghost use Rattle.std.specs.Prelude.{◌≡◌, true};
 ghost use Rattle.smi_text.specs.trees.Word.{is_word};
 ghost use Rattle.snmp_wire.specs.ber.Value.{datum};
@@ -408,8 +409,9 @@ fn word(k: usize) -> &'static [u8]
     }
 }
 
-/// Returns the number of the name at index `k` of `count`: the least and the greatest value first
-/// and last, and between them each number three times, negative numbers and one out of range.
+/// Returns the number of the name at index `k` of `count`. The first is the least value, and the
+/// last the greatest. Each other is `-m`, `m`, `m`, one out of range or `m` after two zeros, by
+/// `k % 5`, where `m` is `k / 5`.
 fn number_at(alloc: Global, k: usize, count: usize) -> Result<String, AllocError> {
     let m = k / 5;
     if k == 0 {
@@ -426,7 +428,7 @@ fn number_at(alloc: Global, k: usize, count: usize) -> Result<String, AllocError
     }
 }
 
-/// Returns the numbers of [`number_at`] with their names.
+/// Returns `count` names, each with its number of [`number_at`].
 fn many_names(rt: &impl Abort, alloc: Global, count: usize) -> Result<Vec<NamedNumber>, AllocError>
     requires { count < 1000 }
 {
@@ -453,7 +455,8 @@ fn assert_same(
     Ok(())
 }
 
-/// Asserts that an index of these names finds the names that a search finds.
+/// Asserts that an index of these names finds the same names for some values as a search does, and
+/// those of `BY_INDEX`.
 fn assert_index(rt: &impl Abort, alloc: Global, names: &[NamedNumber]) -> Result<(), AllocError> {
     let index = NumberIndex::new(alloc, names)?;
     let plain = ValueSyntax::new(ValueBase::Integer, names, None, None);

@@ -129,7 +129,7 @@ fn a_get_next_returns_the_next_variable(rt: HostRuntime) {
     assert_reply(&rt, &table, 1472, &request, &reply);
 }
 
-/// Returns `request` with `octet` at this offset.
+/// Returns `request` with `octet` at this offset, or unchanged if it is shorter.
 fn with_octet(request: &[u8; 40], offset: usize, octet: u8) -> [u8; 40] {
     let mut changed = *request;
     if offset < 40 {
@@ -200,7 +200,8 @@ const NEXT: [u8; 34] = [
     0x05, 0x00,
 ];
 
-/// Returns whether the reply to `NEXT` has the longest name, which the table has.
+/// Returns whether the reply to `NEXT` has the length of one with the longest name, which the table
+/// has, and begins with the name's first octets.
 fn has_longest_name(table: &Table) -> bool {
     let mut out = [0; 65507];
     let name = [

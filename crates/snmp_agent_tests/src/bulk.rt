@@ -266,8 +266,8 @@ pub(crate) fn table_to(rt: &impl Abort, alloc: Global, last: u32) -> Table {
     table_of(rt, alloc, text.as_bytes())
 }
 
-/// Returns whether `binding` is the row of `number`, or, if `number` is above `last`, endOfMibView
-/// with the name of the last row.
+/// Returns whether `binding` has `number` as the last of its name's four numbers, and as its value.
+/// If `number` is above `last`, it must have `last` and endOfMibView instead.
 fn is_number(binding: &Binding<'_>, number: u32, last: u32) -> bool {
     let name = binding.name.as_slice();
     let is_expected = match binding.value {
@@ -278,8 +278,8 @@ fn is_number(binding: &Binding<'_>, number: u32, last: u32) -> bool {
     name.len() == 4 && name[3] == number.min(last) && is_expected
 }
 
-/// Returns the number of bindings in the reply, if they are the repetitions for `count` names, in
-/// order.
+/// Returns the number of bindings in the reply, if they are the repetitions for `count` names in
+/// order, from the first on, and fewer than 10,000.
 fn rounds_in(reply: &[u8], count: u32, last: u32) -> Option<u32> {
     let message = decode(reply).ok()?;
     let mut bindings = message.bindings();
@@ -298,7 +298,7 @@ fn rounds_in(reply: &[u8], count: u32, last: u32) -> Option<u32> {
 }
 
 /// Returns the number of bindings in the reply to the GetBulk of `count` names, if they are its
-/// repetitions. In the third one, the last name reaches the end of the MIB view.
+/// repetitions from the first on. In the third one, the last name reaches the end of the MIB view.
 fn rounds_of(rt: &impl Abort, alloc: Global, count: u16) -> Option<u32> {
     let request = bulk_of(alloc, count).ok()?;
     let last = u32::from(count).wrapping_add(129);

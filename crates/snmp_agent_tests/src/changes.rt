@@ -143,7 +143,8 @@ fn assert_bad_values(rt: &impl Abort, table: &mut Table, value: ValueRef<'_>) {
     assert!(rt; is_bad_value(table, value));
 }
 
-/// Asserts that a string of all 65536 octets is refused at 1.3.6.1, and one of 65535 is put there.
+/// Asserts that a string and an Opaque of all 65536 octets are refused at 1.3.6.1, and a string of
+/// the first 65535 is put there.
 fn assert_longest(rt: &impl Abort, table: &mut Table, octets: &[u8; 65536]) {
     assert!(rt; is_bad_value(table, ValueRef::Octets(octets)));
     assert!(rt; is_bad_value(table, ValueRef::Opaque(octets)));

@@ -17,8 +17,8 @@ const NEXT: u8 = 0xA1;
 /// The tag of a GetBulkRequest.
 const BULK: u8 = 0xA5;
 
-/// Returns the request with this tag for 1.3.6.`number`, from 128 to 16383. A GetBulk has
-/// max-repetitions 5.
+/// Returns the request with this tag for 1.3.6.`number`, where `number` is from 128 to 16383. A
+/// GetBulk has max-repetitions 5.
 fn request_of(tag: u8, number: u16) -> [u8; 36] {
     let [high, low] = number.wrapping_mul(2).to_be_bytes();
     let mut request = [
@@ -143,7 +143,8 @@ fn names_asked_for_again_have_the_same_replies(rt: HostRuntime) {
     }
 }
 
-/// Returns the GetNext of 1.3.6.1.4.1.1.`number`, from 128 to 16383: a name of eight octets.
+/// Returns the GetNext of 1.3.6.1.4.1.1.`number`, where `number` is from 128 to 16383, so that the
+/// name has eight octets.
 fn next_request_of(number: u16) -> [u8; 40] {
     let [high, low] = number.wrapping_mul(2).to_be_bytes();
     let mut request = [
@@ -202,8 +203,9 @@ const COLUMNS: u32 = 6;
 /// The number of rows in each column.
 const ROUTES: u32 = 90;
 
-/// Returns the name of the row at index `index` in a table of routes. An INDEX there has many
-/// numbers, so the names of rows differ only in the middle.
+/// Returns the name of the row at index `index` in the table of routes. After the last row, the
+/// count goes on at the first. An INDEX there has many numbers, so the names of rows differ only in
+/// the middle.
 fn route(index: u32) -> Option<Oid> {
     let column = index / ROUTES % COLUMNS + 1;
     let row = index % ROUTES;
@@ -236,7 +238,7 @@ fn routes_table(rt: &impl Abort, alloc: Global) -> Table {
 }
 
 /// Writes a request for `count` rows of the table of routes, `step` rows apart from row `index` on,
-/// and returns its length.
+/// and returns its length, or 0 if there is no room for it.
 fn write_request(
     kind: Kind,
     repetitions: i32,

@@ -9,7 +9,7 @@ use std::net::{Net, UdpSocket};
 use std::process::Abort;
 use std::time::Duration;
 
-/// Returns a socket at a free port of loopback. Its receives wait for a tenth of a second.
+/// Returns a socket at a free port of loopback. Its receives wait for up to a tenth of a second.
 fn socket_of(rt: &(impl Net + Abort)) -> UdpSocket {
     let socket = UdpSocket::bind(rt, "127.0.0.1:0").expect(rt, "a socket");
     socket

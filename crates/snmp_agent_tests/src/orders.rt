@@ -22,15 +22,17 @@ const SEEN: u32 = 384;
 struct Order {
     /// The number of rows.
     count: u32,
-    /// The number of columns that the rows form. They come row by row, across the columns. With 1,
-    /// the numbers increase by `step`.
+    /// The number of columns that the rows form. Places are counted row by row, across the columns.
+    /// With 1, the row at place `n` has the number `2 * n + 1`.
     columns: u32,
-    /// By how much the numbers increase, modulo `FIRST_ROWS`. With 0 they decrease.
+    /// By how much the place of each row is after the place of the row before, modulo `FIRST_ROWS`.
+    /// With 0 the places decrease by one.
     step: u32,
 }
 
 /// Two lines of a file that aren't the row in turn: one repeats an earlier row, and one is faulty.
-/// If an index is past the last row, there is no such line.
+/// If an index is past the last row, there is no such line. If `first` is `again`, no row is
+/// repeated.
 #[derive(Clone, Copy, Debug)]
 struct Wrong {
     /// The index of the row whose line has an earlier row instead.
@@ -174,9 +176,9 @@ fn is_read_so(alloc: Global, file: &TableFile) -> bool {
     }
 }
 
-/// Returns a random order of 100 to 1,699 rows: decreasing, of one column, or of several. A table
-/// puts the first of them one by one. If the step is long, or the columns are many, it gathers the
-/// others.
+/// Returns a random order of 100 to 1,699 rows, of one column or of several, with a step or
+/// decreasing. A table puts the first of them one by one. If the step is long, or the columns are
+/// many, it gathers the others.
 fn any_order(random: &mut Random) -> Order {
     let count = random.below(1600);
     let steps = [0, 1, 619, 1543, 3089];
@@ -190,7 +192,7 @@ fn any_order(random: &mut Random) -> Order {
     }
 }
 
-/// Returns wrong lines at random indices. Some indices are past the last row.
+/// Returns wrong lines at random indices. An index may be past the last row.
 fn any_wrong(random: &mut Random, count: u32) -> Wrong {
     let more = count.saturating_mul(2);
     let again = random.below(more);

@@ -15,7 +15,7 @@ pub(crate) struct Random {
 }
 
 impl Random {
-    /// Returns the next number below `bound`.
+    /// Returns the next number below `bound`, or 0 if `bound` is 0.
     pub(crate) fn below(&mut self, bound: u32) -> u32 {
         self.state = self.state.wrapping_mul(1664525).wrapping_add(1013904223);
         (self.state >> 8) % bound.max(1)
@@ -119,7 +119,8 @@ pub(crate) fn text_of(
     Ok(text)
 }
 
-/// Returns the map from the number of each row of [`text_of`] to its value.
+/// Returns the map from the number of each row of [`text_of`] to its value, for a step that has no
+/// factor in common with `count`.
 pub(crate) fn map_of(alloc: Global, count: u32, factors: Spread) -> Option<BTreeMap<u32, u32>> {
     let mut map = BTreeMap::new(alloc);
     for number in 0..count {
@@ -159,7 +160,8 @@ fn counts_of_rows_around_the_size_of_a_page_are_read(rt: HostRuntime) {
 
 /// Counts of rows, each with the step between the numbers of successive lines. Many rows then have
 /// a smaller name than the line before. At the last counts these are so many that a table gathers
-/// them. Before the end it sorts them in once, when they are as many as its pages have room for.
+/// them. At 40,000 they become as many as its pages have room for, so it sorts them in before the
+/// end.
 const UNORDERED: [(u32, u32); 14] = [
     (100, 61),
     (129, 79),

@@ -29,7 +29,8 @@ impl Calls {
     }
 }
 
-/// A link in memory that fails at most one send and at most one receive.
+/// A link in memory. The send and the receive that `sends` and `receives` name fail, beside the
+/// calls that the link in memory itself fails.
 #[derive(Drop)]
 struct Failing<'a> {
     link: MemoryLink<'a>,
@@ -39,7 +40,8 @@ struct Failing<'a> {
 }
 
 impl<'a> Failing<'a> {
-    /// Returns a link whose send number `send` and receive number `receive` fail.
+    /// Returns a link whose send number `send` and receive number `receive` fail, counted from 1.
+    /// Number 0 is no call.
     fn new(link: MemoryLink<'a>, send: usize, receive: usize) -> Failing<'a> {
         Failing {
             link,
@@ -111,8 +113,8 @@ struct Case<'a> {
     receive: usize,
 }
 
-/// What a run is expected to do: the integers that it returns, as digits, and how many times it
-/// sends and receives.
+/// What a run is expected to do: the number that `Digits` makes of its bindings, and how many times
+/// it sends and receives.
 #[derive(Clone, Copy)]
 struct Expected {
     number: u64,
@@ -179,8 +181,8 @@ fn assert_get(rt: &impl Abort, alloc: Global, case: Case<'_>, sends: usize, rece
 
 #[test]
 fn a_failing_link_ends_the_walk_after_the_rows_before(rt: HostRuntime) {
-    // The deliveries, the failing send and receive, the integers, and the numbers of sends and
-    // receives.
+    // The deliveries, the failing send and receive, the number that `Digits` makes, and the numbers
+    // of sends and receives.
     const CASES: &[(&[Option<usize>], usize, usize, u64, usize, usize)] = &[
         (&[], 1, 0, 0, 1, 0),
         (&[], 2, 0, 1, 2, 1),
@@ -195,6 +197,7 @@ fn a_failing_link_ends_the_walk_after_the_rows_before(rt: HostRuntime) {
         (&[Some(1), None], 0, 3, 1, 3, 3),
         // A receive after two strays.
         (&[Some(1), Some(1), Some(1)], 0, 4, 1, 2, 4),
+        // A send after two losses.
         (&[None, None], 3, 0, 0, 3, 2),
     ];
     for &(deliveries, send, receive, number, sends, receives) in CASES {
@@ -235,8 +238,8 @@ fn a_failing_link_ends_a_get_without_bindings(rt: HostRuntime) {
 /// The reasons for which a sink refuses a binding.
 const FAULTS: &[SinkFault] = &[SinkFault::Output, SinkFault::Memory];
 
-/// A sink that takes bindings as digits, and refuses binding number `refused`, counted from 1, with
-/// the reason `fault`.
+/// A sink that passes bindings on to `digits`, but refuses binding number `refused`, counted from
+/// 1, with the reason `fault`.
 #[derive(Drop)]
 struct Refusing {
     digits: Digits,
@@ -268,15 +271,15 @@ impl Refusing {
         }
     }
 
-    /// Returns whether the sink took the digits of `number`, and then refused the last binding
-    /// passed to it.
+    /// Returns whether `refused` bindings were passed to the sink, and `Digits` makes `number` of
+    /// those that it took.
     fn was_given(&self, number: u64) -> bool {
         self.digits.number == number && self.calls == self.refused
     }
 }
 
-/// Returns whether a walk into a sink that refuses binding number `refused` returns the digits of
-/// `number` before it and nothing after it, and ends with the sink's reason.
+/// Returns whether a walk into a sink that refuses binding number `refused` ends at that binding,
+/// with the reason `fault`, and `Digits` makes `number` of the bindings before it.
 fn is_walk_refused(
     alloc: Global,
     table: &Table,
@@ -292,8 +295,8 @@ fn is_walk_refused(
     walk_ends(&mut link, core, 0, &mut sink, &WalkEnd::Sink(fault)) && sink.was_given(number)
 }
 
-/// Asserts that a walk below this root, into a sink that refuses binding number `refused`, returns
-/// the digits of `number` before it and nothing after it, and ends with the sink's reason.
+/// Asserts that a walk below this root, into a sink that refuses binding number `refused`, ends at
+/// that binding, with the reason `fault`, and `Digits` makes `number` of the bindings before it.
 fn assert_refused(
     rt: &impl Abort,
     alloc: Global,
@@ -324,8 +327,8 @@ fn a_refused_binding_ends_the_walk_after_those_before(rt: HostRuntime) {
     }
 }
 
-/// Returns whether a Get into a sink that refuses binding number `refused` returns the digits of
-/// `number` before it and nothing after it, and ends with the sink's reason.
+/// Returns whether a Get into a sink that refuses binding number `refused` ends at that binding,
+/// with the reason `fault`, and `Digits` makes `number` of the bindings before it.
 fn is_get_refused(
     alloc: Global,
     table: &Table,
@@ -346,8 +349,8 @@ const NAMES: [&[u8]; 3] = [
     b"1.3.6.1.4.1.32473.1.1.0",
 ];
 
-/// Asserts that a Get into a sink that refuses binding number `refused` returns the digits of
-/// `number` before it and nothing after it, and ends with the sink's reason.
+/// Asserts that a Get into a sink that refuses binding number `refused` ends at that binding, with
+/// the reason `fault`, and `Digits` makes `number` of the bindings before it.
 fn assert_get_refused(
     rt: &impl Abort,
     alloc: Global,

@@ -9,7 +9,7 @@ use snmp_wire::Oid;
 use std::alloc::Global;
 use std::process::Abort;
 
-/// Three integers and an object prefix.
+/// Three integers, and an object without instances.
 const THREE: &[u8] = b"object 1.3.6.1.4.1.32473.1.4\n\
     1.3.6.1.4.1.32473.1.10.0|2|3\n\
     1.3.6.1.4.1.32473.1.2.0|2|2\n\
@@ -39,8 +39,8 @@ const ONCE: Case<'static> = Case {
     deliveries: &[],
 };
 
-/// What a Get is expected to do: the integers that it returns, as digits, and how many bindings it
-/// returns and datagrams it sends.
+/// What a Get is expected to do: the number that `Digits` makes of its bindings, how many bindings
+/// it returns, and how many datagrams it sends.
 #[derive(Clone, Copy)]
 struct Expected {
     number: u64,

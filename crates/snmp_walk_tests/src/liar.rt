@@ -61,9 +61,9 @@ const LATE: &[u8] = &[
     0x0B, 0x2B, 0x06, 0x01, 0x04, 0x01, 0x81, 0xFD, 0x59, 0x01, 0x01, 0x00, 0x02, 0x01, 0x01,
 ];
 
-/// A link to an agent that sends one reply again and again. Each time the last octet of the id, at
-/// offset `id_at`, is one higher, and so is the octet at offset `name_at`, if there is one. `sends`
-/// counts what is sent to it.
+/// A link to an agent that sends `reply` to each receive whose buffer is long enough. From one
+/// reply to the next, the octet at offset `id_at`, the last of the id, is one higher modulo 256,
+/// and so is the octet at offset `name_at` unless that is `None`. `sends` counts the sends.
 #[derive(Drop)]
 struct Liar<'a> {
     reply: &'a [u8],
@@ -155,7 +155,7 @@ fn assert_get(
     assert!(rt; digits.rows == rows && liar.sends == sends);
 }
 
-/// Returns a liar with this reply, whose ids begin with 1.
+/// Returns a liar whose first reply is `reply`, with an id of one octet at offset 17.
 fn lying(reply: &[u8]) -> Liar<'_> {
     Liar {
         reply,
@@ -177,14 +177,14 @@ fn late() -> Liar<'static> {
     }
 }
 
-/// Returns the end of a walk whose second reply repeats the name of its first.
+/// Returns the end of a walk whose first two replies have the name 1.3.6.1.4.1.32473.1.1.0.
 fn not_increasing(rt: &impl Abort) -> WalkEnd {
     let last = name_of(rt, b"1.3.6.1.4.1.32473.1.1.0");
     let got = name_of(rt, b"1.3.6.1.4.1.32473.1.1.0");
     WalkEnd::NotIncreasing { last, got }
 }
 
-/// Returns the end of a walk whose first reply has no bindings.
+/// Returns the end of a walk below `ROOT` whose first GetNext gets a reply without bindings.
 fn no_progress(rt: &impl Abort) -> WalkEnd {
     let asked = name_of(rt, ROOT);
     WalkEnd::NoProgress { asked }
@@ -206,8 +206,8 @@ fn each_bad_reply_ends_the_walk(rt: HostRuntime) {
     assert_end(&rt, late(), 2147483645, 3, 3, &WalkEnd::TooManyRequests);
 }
 
-/// Asserts that a Get of one name accepts a reply with that name, and how it ends over other
-/// replies.
+/// Asserts that a Get of the name in `ROW` is done if the reply is `ROW` or `MISSING`, and isn't
+/// done if it is one of the others.
 fn assert_replies_to_get(rt: &impl Abort, one: &[Oid]) {
     assert_get(rt, lying(&ROW), one, 1, 1, &WalkEnd::Done(1));
     assert_get(rt, lying(MISSING), one, 1, 1, &WalkEnd::Done(1));

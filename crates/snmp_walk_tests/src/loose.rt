@@ -1,4 +1,5 @@
-//! Walks over an agent in memory that doesn't always send its full reply, as RFC 3416 allows.
+//! Walks and Gets over an agent in memory that doesn't always reply as `snmp_agent` does, but in
+//! other ways that are allowed.
 ghost use Rattle.snmp_walk.specs.Facts.{IsFresh};
 
 use crate::runs::{ROOT, get_ends, names_of, public, table_of, walk_of};
@@ -36,7 +37,7 @@ impl<'a> Case<'a> {
     }
 }
 
-/// Returns whether the walk returns the digits of `number` as its integers, and ends with `end`.
+/// Returns whether the walk ends with `end`, and `Digits` makes `number` of its bindings.
 fn walk_returns(
     table: &Table,
     core: WalkCore,
@@ -52,8 +53,8 @@ fn walk_returns(
     walk_loose(&mut link, core, case.retries, &mut digits) == *end && digits.number == number
 }
 
-/// Asserts that the walk below the root over the table of `text` returns the digits of `number` as
-/// its integers, and ends with `end`.
+/// Asserts that the walk below `ROOT` over the table of `text` ends with `end`, and `Digits` makes
+/// `number` of its bindings.
 fn assert_walk(
     rt: &impl Abort,
     alloc: Global,
@@ -68,7 +69,8 @@ fn assert_walk(
     assert!(rt; walk_returns(&table, core, max_size, case, number, end));
 }
 
-/// Asserts that the walk over the nine rows returns the digits of `number`, and ends with `end`.
+/// Asserts that the walk over the nine rows ends with `end`, and `Digits` makes `number` of its
+/// bindings.
 fn assert_nine(rt: &impl Abort, alloc: Global, case: Case<'_>, number: u64, end: &WalkEnd) {
     assert_walk(rt, alloc, NINE, 1472, case, number, end);
 }

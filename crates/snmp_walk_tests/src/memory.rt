@@ -1,4 +1,4 @@
-//! Receives from a link in memory into buffers of any length.
+//! Receives from a link in memory into buffers of several lengths.
 
 use crate::runs::{public, table_of};
 use snmp_agent::Table;
@@ -46,8 +46,8 @@ fn receives_nothing(link: &mut MemoryLink<'_>) -> bool {
     link.receive(&mut buffer) == Ok(None)
 }
 
-/// Returns whether a receive into a longer buffer returns a Response, and `faults` calls failed so
-/// far.
+/// Returns whether a receive into a buffer of 65508 octets returns a datagram of 43 octets, and
+/// `faults` calls failed so far.
 fn receives_into_longer(link: &mut MemoryLink<'_>, faults: u64) -> bool {
     let mut longer = [0; 65508];
     link.receive(&mut longer) == Ok(Some(43)) && link.faults() == faults
@@ -58,8 +58,9 @@ fn is_fault(link: &mut MemoryLink<'_>, buffer: &mut [u8], number: u64) -> bool {
     link.receive(buffer) == Err(LinkFault) && link.faults() == number
 }
 
-/// Returns whether the link delivers the reply to request 1, then nothing, and then the replies to
-/// 2 and 3. Each receive into a short buffer must fail and use no delivery.
+/// Returns whether the link delivers the reply to request 1, then nothing, then the replies to 2
+/// and 3, and one more into a longer buffer. Each receive into a short buffer must fail and use no
+/// delivery.
 fn receives_all(link: &mut MemoryLink<'_>) -> bool {
     let mut short = [0; 65506];
     let mut exact = [0; 43];

@@ -23,8 +23,7 @@ struct Case<'a> {
     retries: u32,
 }
 
-/// Returns whether the walk of a case returns the digits of `number` as its integers, and ends with
-/// `end`.
+/// Returns whether the walk of a case ends with `end`, and `Digits` makes `number` of its bindings.
 fn walk_returns(
     alloc: Global,
     table: &Table,
@@ -41,8 +40,8 @@ fn walk_returns(
     walk_served(&mut link, core, case.retries, &mut digits) == *end && digits.number == number
 }
 
-/// Asserts that a walk over a network with these deliveries returns the digits of `number` as its
-/// integers, and ends with `end`.
+/// Asserts that a walk over a network with these deliveries ends with `end`, and `Digits` makes
+/// `number` of its bindings.
 fn assert_walk(
     rt: &impl Abort,
     alloc: Global,

@@ -1,4 +1,4 @@
-//! Walks over tables that are stored in several pages, of up to 128 rows each.
+//! Walks over tables of several sizes, whose rows are stored in pages of up to 128 each.
 
 use crate::runs::{ROOT, name_of, public, resumed_walk, walk_ends, walk_of};
 use snmp_agent::Table;

@@ -15,7 +15,7 @@ use std::process::Abort;
 pub const ROOT: &[u8] = b"1.3.6.1.4.1.32473.1";
 
 /// Returns the configuration of an agent with community `public`, whose messages have at most
-/// `max_size` octets.
+/// `max_size` octets. A size outside 1 to 65507 is changed to the nearest in it.
 pub fn public(max_size: usize) -> Config<'static> {
     Config {
         community: b"public",
@@ -96,8 +96,8 @@ fn are_sendable(names: &[Oid]) -> bool
     names.iter().all(|name| name.to_wire().is_ok())
 }
 
-/// Runs the Get of these names with this id, and returns whether it ends with `end`. Returns false
-/// if there are no names, or one can't be sent.
+/// Runs the Get of these names, and returns whether it ends with `end`. Its id is `id` modulo 2^31.
+/// Runs nothing and returns false if there are no names, or one can't be sent.
 pub fn get_ends<L: Link, S: Sink>(
     link: &mut L,
     names: &[Oid],

@@ -56,13 +56,14 @@ impl Whole {
         push(rt, &mut self.digits, digit);
     }
 
-    /// Records one more request. Its reply returns the last of the bindings appended so far.
+    /// Records one more request: once its reply arrives, all bindings appended so far are returned.
     fn end_request(&mut self, rt: &impl Abort) {
         push(rt, &mut self.rows_after, self.digits.len());
     }
 
-    /// Appends the rows of these numbers and the requests for them, for `step` rows each. If the
-    /// walk is resumed after a number, only greater numbers are returned.
+    /// Appends the rows of these numbers and the requests for them, for `step` rows each. The last
+    /// request gets fewer rows, or none. If the walk is resumed after a number, only rows of
+    /// greater numbers are appended.
     fn add_rows(&mut self, rt: &impl Abort, numbers: &[u8], after: Option<u8>, step: usize) {
         let mut here = 0_usize;
         for number in numbers {
@@ -124,9 +125,9 @@ struct RunCounts {
 }
 
 /// Returns whether a try of `request`, of up to 64 receives, receives its reply. A delivery is the
-/// reply to the datagram of its number, from 1; if there is no such datagram, the try ends. After
-/// the last delivery, a receive returns the reply to the latest datagram. `sent` has the request in
-/// each datagram that was sent, and `used` counts the deliveries so far.
+/// reply to the datagram of its number, from 1; if it is `None` or there is no such datagram, the
+/// try ends. After the last delivery, a receive returns the reply to the latest datagram. `sent`
+/// has the request in each datagram that was sent, and `used` counts the deliveries so far.
 fn receives_reply(
     request: usize,
     sent: &[usize],
@@ -206,8 +207,8 @@ fn draw_numbers(rt: &impl Abort, alloc: Global, random: &mut Random) -> Vec<u8> 
 }
 
 /// Appends the lines of a table, with the greatest name first: a row after the subtree of the root,
-/// one for each number below the root, one for the root itself if `own` is its value, and a row
-/// before the subtree.
+/// one for each number below the root, one for the root itself with the value `own` unless that is
+/// `None`, and a row before the subtree. The numbers must increase and be below 10.
 fn put_table(rt: &impl Abort, text: &mut Vec<u8>, numbers: &[u8], own: Option<u8>) {
     put(rt, text, b"1.3.6.1.4.1.32473.2|2|8\n");
     for number in numbers.iter().rev() {
@@ -286,8 +287,8 @@ fn core_of(rt: &impl Abort, asked: Asked) -> WalkCore
     }
 }
 
-/// What was drawn: the numbers below the root and the root's own row of a table, what a walk asks
-/// for, and deliveries.
+/// What was drawn: a table (the numbers of its rows below the root, and the value of the root's own
+/// row, if it has one), what a walk asks for, and deliveries.
 #[derive(Drop)]
 struct Drawn {
     numbers: Vec<u8>,
@@ -310,8 +311,8 @@ fn draw(rt: &impl Abort, alloc: Global, random: &mut Random) -> Drawn {
     }
 }
 
-/// What a walk is to return: the integers as digits, how many bindings, how many datagrams and
-/// requests it sends, and whether it is done.
+/// What a walk is to do: the number that `Digits` makes of its bindings, how many bindings it
+/// returns, how many datagrams and requests it sends, and whether it is done.
 #[derive(Clone, Copy)]
 struct Wanted {
     number: u64,

@@ -3,8 +3,9 @@
 use snmp_walk::{Link, LinkFault, MemoryLink, Sink, SinkFault};
 use snmp_wire::{Binding, ValueRef, parse_numeric};
 
-/// A sink that appends each integer from 0 to 9 to `number` as a digit (1, 2 and 3 make 123), and
-/// counts the bindings.
+/// A sink that counts the bindings, and makes a number of the integers: 1, 2 and 3 make 123, and
+/// none make 0. Each integer from 0 to 255 is added to ten times `number`, modulo 2^64. Other
+/// values leave `number` as it is.
 #[derive(Drop)]
 pub struct Digits {
     pub number: u64,
@@ -16,7 +17,7 @@ impl Digits {
         Digits { number: 0, rows: 0 }
     }
 
-    /// Counts a binding, and appends its digit if it has one.
+    /// Counts a binding. Adds `digit` to ten times `number`, unless `digit` is `None`.
     pub fn add(&mut self, digit: Option<u8>) {
         self.rows = self.rows.saturating_add(1);
         if let Some(digit) = digit {
@@ -41,8 +42,8 @@ impl Sink for Digits {
 /// A binding: the text of its name, and its value.
 pub type Row = (&'static [u8], ValueRef<'static>);
 
-/// A sink that compares its bindings with those that are wanted, counts them, and counts those that
-/// differ.
+/// A sink that compares each binding with the wanted one at the same place. `rows` counts all
+/// bindings, and `others` those that differ or come after the last that is wanted.
 #[derive(Drop)]
 pub struct Listed<'a> {
     pub wanted: &'a [Row],
@@ -83,8 +84,8 @@ impl<'a> Sink for Listed<'a> {
     }
 }
 
-/// A link in memory that counts its sends, and its requests: the sends whose datagram has another
-/// id than the one sent before.
+/// A link in memory that counts its sends, and its requests: the first send, and each send whose
+/// datagram has another octet at offset 17 than the datagram before.
 #[derive(Drop)]
 pub struct Counted<'a> {
     pub link: MemoryLink<'a>,
@@ -126,7 +127,7 @@ impl<'a> Link for Counted<'a> {
     ghost lawful = { λ _ h. absurd h };
 
     fn send(&mut self, datagram: &[u8]) -> Result<(), LinkFault> {
-        // The request-id, if it has one octet and the community is `public`.
+        // The request-id, if it and all lengths have one octet each and the community is `public`.
         let id = datagram.get(17).copied();
         if self.sends == 0 || id != self.last_id {
             self.requests = self.requests.saturating_add(1);

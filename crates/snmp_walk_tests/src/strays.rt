@@ -19,8 +19,8 @@ const THREE: &[u8] =
 #[derive(Clone, Copy)]
 struct Case<'a> {
     stray: &'a [u8],
-    /// How many times the stray arrives after each datagram that is sent, before its reply. After
-    /// datagrams that aren't in the list, the stray doesn't arrive.
+    /// How many times the stray arrives before the reply to the first datagram that is sent, to the
+    /// second, and so on. After the end of the list, the stray doesn't arrive.
     before: &'a [usize],
     retries: u32,
 }
@@ -99,8 +99,8 @@ impl<'a, 'c> Link for Crowded<'a, 'c> {
     }
 }
 
-/// What a run is expected to do: the integers that it returns, as digits, how many datagrams and
-/// requests it sends, and how many times it receives.
+/// What a run is expected to do: the number that `Digits` makes of its bindings, how many datagrams
+/// and requests it sends, and how many times it receives.
 #[derive(Clone, Copy)]
 struct Expected {
     number: u64,
@@ -128,8 +128,8 @@ fn walk_does_as_expected(
         && link.has_counted(expected)
 }
 
-/// Asserts that the walk with first id 2 over the strays of a case does what is expected. It is
-/// done if it returns all integers, and otherwise ends without a response.
+/// Asserts that the walk with first id 2 over the strays of a case does what is expected. It must
+/// be done if 123 is expected of `Digits`, and otherwise end without a response.
 fn assert_walk(rt: &impl Abort, alloc: Global, table: &Table, case: Case<'_>, expected: Expected) {
     let core = walk_of(rt, ROOT, Mode::Plain, Method::Next, 2);
     let end = if expected.number == 123 {
@@ -158,8 +158,8 @@ fn get_does_as_expected(
         && link.has_counted(expected)
 }
 
-/// Asserts that the Get with id 2 over the strays of a case does what is expected. It is done if it
-/// returns the integer, and otherwise ends without a response.
+/// Asserts that the Get with id 2 over the strays of a case does what is expected. It must be done
+/// if 1 is expected of `Digits`, and otherwise end without a response.
 fn assert_get(
     rt: &impl Abort,
     alloc: Global,
@@ -178,7 +178,8 @@ fn assert_get(
 
 /// Asserts that in a walk 63 of these datagrams before a reply change nothing, and 64 end the try.
 fn assert_stray_to_walks(rt: &impl Abort, alloc: Global, table: &Table, stray: &[u8]) {
-    // The strays, the retries, the integers, and the numbers of sends, requests and receives.
+    // The strays, the retries, the number that `Digits` makes, and the numbers of sends, requests
+    // and receives.
     const CASES: &[(&[usize], u32, u64, usize, usize, usize)] = &[
         (&[1], 0, 123, 4, 4, 5),
         (&[63, 63, 63, 63], 0, 123, 4, 4, 256),
@@ -212,7 +213,8 @@ fn assert_stray_to_gets(
     names: &[Oid],
     stray: &[u8],
 ) {
-    // The strays, the retries, the integer, and the numbers of sends and receives.
+    // The strays, the retries, the number that `Digits` makes, and the numbers of sends and
+    // receives.
     const CASES: &[(&[usize], u32, u64, usize, usize)] = &[
         (&[1], 0, 1, 1, 2),
         (&[63], 0, 1, 1, 64),

@@ -173,7 +173,8 @@ fn assert_uses(rt: &impl Abort, alloc: Global, tables: &[Table]) {
         // second datagram, in the other case a late one to its first.
         (&[0, 1, 0], &[None], [1, 0, 2], 5),
         (&[0, 1, 0], &[None, Some(1)], [0, 0, 2], 5),
-        // The first reply, this reply again (a stray), a loss, and a late reply to the second.
+        // The first reply, this reply again (a stray), a loss, and a late reply to the second
+        // datagram.
         (&[1, 0, 1], &[Some(1), Some(1), None, Some(2)], [1, 0, 2], 5),
         // A datagram that wasn't sent yet has no reply.
         (&[0, 1], &[Some(2)], [1, 2, 2], 5),

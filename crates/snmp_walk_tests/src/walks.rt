@@ -38,8 +38,8 @@ struct Case<'a> {
     deliveries: &'a [Option<usize>],
 }
 
-/// What a walk is expected to do: the integers that it returns, as digits, and how many datagrams
-/// and how many requests it sends.
+/// What a walk is expected to do: the number that `Digits` makes of its bindings, and how many
+/// datagrams and how many requests it sends.
 #[derive(Clone, Copy)]
 struct Expected {
     number: u64,
@@ -206,8 +206,8 @@ fn a_try_ends_with_its_64th_receive(rt: HostRuntime) {
     assert_walk(&rt, rt.alloc(), nothing, none, &WalkEnd::NoResponse);
 }
 
-/// Returns whether a walk over a link that has reserved enough memory returns all rows, and then
-/// ends because its ids run out.
+/// Returns whether a walk ends because its ids run out, and `Digits` makes 123 of its bindings. The
+/// link must first succeed in reserving memory for six sends.
 fn runs_out(alloc: Global, table: &Table, core: WalkCore) -> bool
     requires { IsFresh core }
 {
@@ -226,8 +226,8 @@ fn a_walk_ends_when_its_ids_run_out(rt: HostRuntime) {
     assert!(&rt; runs_out(rt.alloc(), &table, core));
 }
 
-/// Returns whether the walk over `table` is done with `rows` rows, whose integers are the digits of
-/// `number`.
+/// Returns whether the walk over `table` is done with `rows` rows, and `Digits` makes `number` of
+/// them.
 fn is_done_with(alloc: Global, table: &Table, core: WalkCore, number: u64, rows: u64) -> bool
     requires { IsFresh core }
 {
@@ -236,8 +236,8 @@ fn is_done_with(alloc: Global, table: &Table, core: WalkCore, number: u64, rows:
     walk_ends(&mut link, core, 0, &mut digits, &WalkEnd::Done(rows)) && digits.number == number
 }
 
-/// Asserts that the walk below the root that is resumed after the name `after` is done with `rows`
-/// rows, whose integers are the digits of `number`.
+/// Asserts that the walk below `ROOT` that is resumed after the name `after` is done with `rows`
+/// rows, and `Digits` makes `number` of them.
 fn assert_resumed(rt: &impl Abort, alloc: Global, after: &[u8], number: u64, rows: u64) {
     let core = resumed_walk(rt, &name_of(rt, after), Method::Next);
     let table = table_of(rt, alloc, THREE);

@@ -116,7 +116,8 @@ fn assert_values(
     Ok(())
 }
 
-/// Asserts that each of these values is refused for its content, which no value with its tag has.
+/// Asserts that a Response is refused with the error `Content` if the value of its one binding is
+/// any of these.
 fn assert_bad_contents(rt: &impl Abort, alloc: Global, rows: &[&[u8]]) -> Result<(), AllocError> {
     for octets in rows {
         let datagram = with_value(rt, alloc, octets)?;
@@ -135,7 +136,7 @@ fn a_request_is_read(rt: HostRuntime) {
     assert_request(&rt, &REQUEST);
 }
 
-/// Returns whether `datagram` encodes the message of `RESPONSE`.
+/// Returns whether `datagram` encodes a Response with one binding: sysName.0 with the string `wes`.
 fn is_response(datagram: &[u8]) -> bool {
     match decode(datagram) {
         Ok(message) => {
@@ -265,7 +266,7 @@ fn of_10240_changed_requests_4507_are_read(rt: HostRuntime) {
     assert!(rt; right == 4507, "{right}");
 }
 
-/// Integers whose content has five octets, and none.
+/// An integer whose content has five octets, and one whose content is empty.
 const BAD_INTEGERS: &[&[u8]] = &[&[0x02, 0x05, 0x00, 0x00, 0x00, 0x00, 0x05], &[0x02, 0x00]];
 
 #[test]
@@ -371,8 +372,9 @@ const IDENTIFIERS: &[(&[u8], &[u32])] = &[
     ),
 ];
 
-/// Malformed identifiers: with a number above 4294967295, as the first or a later one; with an
-/// unfinished number; with a number that has a leading zero; without content.
+/// Malformed identifiers: with 4294967296 as the second number; with 4294967296 as the third; with
+/// an unfinished number; with a number that begins with the octet 0x80, a leading zero; without
+/// content.
 const BAD_IDENTIFIERS: &[&[u8]] = &[
     &[0x06, 0x05, 0x90, 0x80, 0x80, 0x80, 0x50],
     &[0x06, 0x06, 0x2B, 0x90, 0x80, 0x80, 0x80, 0x00],
@@ -537,8 +539,8 @@ const FOUR_BINDINGS: [u8; 64] = [
     0x08, 0x06, 0x03, 0x2B, 0x87, 0x68, 0x04, 0x01, 0x78, 0x30, 0x05, 0x06, 0x01, 0x2B, 0x05, 0x00,
 ];
 
-/// Reads the next binding of `iterated`, and that of `read` into `binding`. Returns whether both
-/// have this name and value.
+/// Reads the next binding of `read` into `binding`. If it has this name and value, takes the next
+/// binding of `iterated` too. Returns whether both have this name and value.
 fn are_next<'a>(
     iterated: &mut Bindings<'a>,
     read: &mut Bindings<'a>,

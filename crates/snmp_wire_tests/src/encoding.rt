@@ -39,7 +39,8 @@ const BULK: [u8; 41] = [
     0x01, 0x04, 0x01, 0x81, 0xFD, 0x59, 0x01, 0x05, 0x00,
 ];
 
-/// Returns whether `value` has an encoding.
+/// Returns whether `value` can be written: a string has at most 65535 octets, and an identifier an
+/// encoding. Each other value can be written.
 fn is_encodable(value: &ValueRef<'_>) -> bool
     ensures { IsTrue result → IsEncodableValue (datum value.now) }
 {
@@ -50,7 +51,7 @@ fn is_encodable(value: &ValueRef<'_>) -> bool
     }
 }
 
-/// Returns the binding of `name` and `value`, and asserts that it has an encoding.
+/// Returns the binding of `name` and `value`, and asserts that it can be written.
 fn binding<'a>(rt: &impl Abort, name: &[u32], value: ValueRef<'a>) -> Binding<'a>
     ensures { IsEncodable (var_bind result) }
 {
@@ -60,7 +61,7 @@ fn binding<'a>(rt: &impl Abort, name: &[u32], value: ValueRef<'a>) -> Binding<'a
     binding
 }
 
-/// Asserts that `binding` has an encoding.
+/// Asserts that the name of `binding` has an encoding, and its value can be written.
 fn assert_encodable(rt: &impl Abort, binding: &Binding<'_>)
     ensures { IsEncodable (var_bind binding.now) }
 {
@@ -68,7 +69,8 @@ fn assert_encodable(rt: &impl Abort, binding: &Binding<'_>)
     assert!(rt; is_encodable(&binding.value));
 }
 
-/// Returns the encoded length of `bindings`, at most one. It is short enough for a message.
+/// Returns the encoded length of `bindings`, which are one binding or none. They are short enough
+/// for a message.
 fn octets_of(bindings: &[Binding<'_>]) -> u64
     requires at_most_one { length bindings.now ≤ 1 }
     requires encodable { All (λ b. IsEncodable (var_bind b)) bindings.now }

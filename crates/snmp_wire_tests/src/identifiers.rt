@@ -56,8 +56,8 @@ fn short_identifiers_are_padded_and_bad_ones_refused(rt: HostRuntime) {
     assert!(rt; has_no_wire(&oid_of(&rt, &[1, 40])));
 }
 
-/// Appends two numbers to an identifier of 127 numbers, and returns whether the first is accepted
-/// and the second refused.
+/// Appends 7 to an identifier that is 127 times 7, and then once more. Returns whether the first is
+/// accepted and the second refused.
 fn is_filled(oid: &mut Oid) -> bool {
     oid.push(7).is_ok()
         && oid.push(7) == Err(OidError::TooLong)

@@ -1,4 +1,5 @@
-//! Encoded names are compared as their numbers are, without decoding them.
+//! Encoded names: they are compared as their numbers are, without decoding them, and they are read
+//! and written.
 
 use snmp_wire::{
     Binding, EncodedName, MAX_CONTENT, NameBuffer, Oid, encode_asking, encode_binding,
@@ -121,7 +122,7 @@ fn malformed_contents_are_refused(rt: HostRuntime) {
     }
 }
 
-/// Returns the numbers of the name with the longest encoding.
+/// Returns the numbers of a name with the longest encoding.
 fn longest() -> [u32; 128] {
     let mut numbers = [4294967295; 128];
     numbers[0] = 2;
@@ -148,7 +149,7 @@ fn the_longest_name_is_written_and_compared(rt: HostRuntime) {
 }
 
 /// Returns whether `encode_asking` writes what `encode_binding` does for the binding of `name` and
-/// NULL, and writes nothing if the buffer is one octet too short.
+/// NULL, and returns `None` if the buffer is one octet too short.
 fn is_asked(name: &EncodedName<'_>) -> bool {
     let mut out = [0xAA; 700];
     let mut expected = [0xAA; 700];
