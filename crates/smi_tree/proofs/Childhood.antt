@@ -1,15 +1,16 @@
 -- The first child with a label is the one with the lowest number.
 use Rattle.std.proofs.{lemmas.Grind.common_steps, lemmas.Bool.cases_eq, lemmas.Bool.cases_lt, lemmas.Bool.cases_order, lemmas.List.length-map}
 use Rattle.std.proofs.lemmas.Option.{slice_get_within}
-use Rattle.std.proofs.Common.{◌≡◌, ◌≢◌, ℕ, zero, suc, ◌+◌, ◌<◌, ◌≤◌, List, [], ◌∷◌, ◌++◌, length, Option, Some, None, IfSome, IsSomeAnd, true}
-use Rattle.std.proofs.Common.{option_map, refl, sym, ap, ◌∙◌, arith, ◌⊎◌, inl, inr}
+use Rattle.std.proofs.Common.{◌≡◌, ◌≢◌, ℕ, zero, suc, ◌<◌, ◌≤◌, List, [], ◌∷◌, ◌++◌, length, Option, Some, None, IfSome, IsSomeAnd, true}
+use Rattle.std.proofs.Common.{option_map, refl, sym, ap, ◌∙◌, arith, inl, inr}
 use Rattle.smi_tree.specs.{branches.FirstIndex.first_index, branches.FirstIndex.oid_at, branches.Children.IsLowerChild}
 use Rattle.smi_text.specs.trees.Mark.{same_text}
 use Rattle.smi_tree.specs.Indices.{label_at, IsPrevious}
-use Rattle.smi_names.specs.{meaning.Meaning.or_else, nodes.Nodes.Node}
-use Rattle.smi_tree.specs.Nodes.{IsOfLowest, nothing, lowest, IsFirstChild, is_labelled, of_lowest, highest, child_at, child_of, oids_of, labels_of}
+use Rattle.smi_names.specs.{nodes.Nodes.Node}
+use Rattle.smi_tree.specs.Nodes.{IsOfLowest, nothing, lowest, IsFirstChild, of_lowest, highest, child_at, child_of, oids_of, labels_of}
 use Rattle.smi_tree.specs.Nodes.{last_number, index_anywhere, has_label}
-use Rattle.smi_tree.proofs.{FirstIndex.index_found, First.none_if, First.passing, Previous.IsFirstOf, Previous.first_of, Previous.label-of, Lists.get_within, SameTexts.same, SameTexts.same_itself}
+use Rattle.smi_tree.proofs.{FirstIndex.index_found, First.none_if, First.passing, Previous.IsFirstOf, Previous.first_of, Previous.label-of}
+use Rattle.smi_tree.proofs.{Lists.get_within, SameTexts.same, SameTexts.same_itself}
 
 -- `f` has at most one result for the lowest number
 one_lowest : {f : ℕ → Option ℕ} {r s : Option ℕ} → IsOfLowest f r → IsOfLowest f s → r ≡ s
@@ -68,7 +69,7 @@ pub record IsLowestFrom (nodes : List Node) (o label : List ℕ) (id : ℕ) (chi
   pub least : (n k : ℕ) → child_at nodes o label n ≡ Some k → id ≤ k → IsSomeAnd child (λ c. c.0 ≤ n)
 
 module _ (nodes : List Node) (o label : List ℕ) where
-  -- a child with the label has an index at which the label is
+  -- if `k` is the index of a child with the label, `k` is below the number of nodes, and the label at index `k` is this label
   there : (n k : ℕ) → child_at nodes o label n ≡ Some k → (k < length nodes) × (label_at (labels_of nodes) k ≡ label)
   there n k e =
       let at = index_found (oids_of nodes) (o ++ n ∷ []) k (child-id nodes o label n k e) in
@@ -76,7 +77,7 @@ module _ (nodes : List Node) (o label : List ℕ) where
       let named : same_text n.0.label label ≡ true = grind (arith, common_steps, e, n.1) in
       (slice_get_within nodes k n.0 n.1, label-of (λ (m : Node). m.label) nodes k n.0 n.1 ∙ same n.0.label label named)
 
-  -- if a label is at an index, the identifier there that is a child is one with this label
+  -- if the label at index `k` is this label, and `k` is the first index of a child of `o`, then `k` is the index of a child with the label
   labelled : (n k : ℕ) → k < length nodes → label_at (labels_of nodes) k ≡ label → first_index (oids_of nodes) (o ++ n ∷ []) ≡ Some k
       → child_at nodes o label n ≡ Some k
   labelled n k l at e =
@@ -84,7 +85,8 @@ module _ (nodes : List Node) (o label : List ℕ) where
       let named : m.0.label ≡ label = sym (label-of (λ (m : Node). m.label) nodes k m.0 m.1) ∙ at in
       grind (arith, common_steps, e, m.1, named, same_itself label)
 
-  -- if `old` is the lowest child from `from` on, `new` is the lowest child from the next index `p` before it
+  -- if `old` has the lowest number of the children from index `from` on, and the label is at no index after `p` and before `from`, then the lower one of
+  -- `old` and the child at index `p` has the lowest number from `p` on
   lower : (from p : ℕ) (old new : Option (ℕ × ℕ)) → IfSome old (λ c. child_at nodes o label c.0 ≡ Some c.1)
       → ((n k : ℕ) → child_at nodes o label n ≡ Some k → from ≤ k → IsSomeAnd old (λ c. c.0 ≤ n)) → p < length nodes
       → label_at (labels_of nodes) p ≡ label → ((k : ℕ) → label_at (labels_of nodes) k ≡ label → k < length nodes → k < from → k ≤ p)
@@ -92,10 +94,7 @@ module _ (nodes : List Node) (o label : List ℕ) where
   lower from p old new is least inside at none l = record {
     within = inside;
     labelled = at;
-    is = elim l.one [
-      | inl kept ↦ rw kept is
-      | inr here ↦ by new here
-    ];
+    is = elim l.one [ inl kept ↦ rw kept is | inr here ↦ by new here ];
     least = λ n k e le. elim (cases_eq k p) [
       | inl here ↦ l.of_id n (child-id nodes o label n p (rw here at e))
       | inr other ↦ (let known = there n k e in
@@ -110,58 +109,62 @@ module _ (nodes : List Node) (o label : List ℕ) where
 
       trans : (n : ℕ) (old new : Option (ℕ × ℕ)) → IsSomeAnd old (λ c. c.0 ≤ n) → IfSome old (λ c. IsSomeAnd new (λ d. d.0 ≤ c.0))
           → IsSomeAnd new (λ d. d.0 ≤ n)
-      trans n (Some c) (Some d) a b = omega arith
-      trans n (Some c) None a b = absurd b
-      trans n None _ a b = absurd a
+      trans n old new a b = grind (arith, common_steps)
+
+  -- the same for the previous index `p` of the label, after the index `id`
+  pub search_moves : {id p : ℕ} {old new : Option (ℕ × ℕ)} → IsLowestFrom nodes o label id old → IsPrevious (labels_of nodes) (length nodes) id p
+      → IsLowerChild (oids_of nodes) o old p new → IsLowestFrom nodes o label p new
+  search_moves {id = id} {p = p} {old = old} {new = new} at next l =
+      lower id p old new at.is at.least next.within (next.same ∙ at.labelled)
+      (λ k is inside l. grind (arith, cases_lt p k, next.between k, l, is, at.labelled)) l
 
   -- `first` is the first node with the label
-  module _ (first : ℕ) (e : index_anywhere nodes label ≡ Some first) where
+  module _ (first : ℕ) (e : Some first ≡ index_anywhere nodes label) where
     is_first : IsFirstOf (labels_of nodes) label first
-    is_first = first_of (λ (n : Node). n.label) nodes label first e
+    is_first = first_of (λ (n : Node). n.label) nodes label first (sym e)
 
     all : length (labels_of nodes) ≡ length nodes
     all = length-map nodes (λ (n : Node). n.label)
 
+    after : (k : ℕ) → label_at (labels_of nodes) k ≡ label → k < length nodes → first ≤ k
+    after k at inside = is_first.before k at (omega (arith, inside, all))
+
     pub within : first < length nodes
     within = omega (arith, is_first.within, all)
 
-    pub search_begins : (p : ℕ) (new : Option (ℕ × ℕ)) → IsPrevious (labels_of nodes) (length nodes) first p
+    -- the child at the last index of the label has the lowest number from there on
+    pub search_begins : {p : ℕ} {new : Option (ℕ × ℕ)} → IsPrevious (labels_of nodes) (length nodes) first p
         → IsLowerChild (oids_of nodes) o None p new → IsLowestFrom nodes o label p new
-    search_begins p new at l =
-        let named = at.same ∙ is_first.is in
-        let last = is_first.before p named (omega (arith, at.within, all)) in
+    search_begins {p = p} {new = new} at l = let named = at.same ∙ is_first.is in
         lower (length nodes) p None new tt (λ n k f le. omega (arith, (there n k f).0, le)) at.within named
-        (λ k is inside _. (at.around last k inside (is ∙ sym is_first.is)).1) l
+        (λ k is inside _. (at.around (after p named at.within) k inside (is ∙ sym is_first.is)).1) l
 
-    pub search_moves : (id p : ℕ) (old new : Option (ℕ × ℕ)) → IsLowestFrom nodes o label id old → id ≢ first
-        → IsPrevious (labels_of nodes) (length nodes) id p → IsLowerChild (oids_of nodes) o old p new
-        → (p < id) × IsLowestFrom nodes o label p new
-    search_moves id p old new at other next l = (
-      before,
-      lower id p old new at.is at.least next.within (next.same ∙ at.labelled)
-          (λ k is inside l. grind (arith, cases_lt p k, next.between k, l, is, at.labelled)) l,
-    )
+    -- the previous index of the label is lower, unless `id` is the first one
+    pub search_falls : {id p : ℕ} {old : Option (ℕ × ℕ)} → IsLowestFrom nodes o label id old → id ≢ first
+        → IsPrevious (labels_of nodes) (length nodes) id p → p < id
+    search_falls {id = id} {p = p} at other next = elim (cases_lt p id) [
+      | inl less ↦ less
+      | inr up ↦ (let a = next.around up first within (is_first.is ∙ sym at.labelled) in
+          absurd (other (omega (arith, a.0, after id at.labelled at.within))))
+    ]
+
+    -- if `child` has the lowest number from the first index of the label on, it is the first child
+    pub search_ends : {id : ℕ} {child : Option (ℕ × ℕ)} {r : Option ℕ} → id ≡ first → IsLowestFrom nodes o label id child
+        → r ≡ option_map (λ c. c.1) child → IsFirstChild nodes o label r
+    search_ends {id = id} {child = child} end at is = rw is (by child at)
       where
-        before : p < id
-        before = elim (cases_lt p id) [
-          | inl less ↦ less
-          | inr after ↦ (let a = next.around after first (omega (arith, is_first.within, all)) (is_first.is ∙ sym at.labelled) in
-              let b = is_first.before id at.labelled (omega (arith, at.within, all)) in absurd (other (omega (arith, a.0, b))))
-        ]
-
-    after : (n k : ℕ) → child_at nodes o label n ≡ Some k → first ≤ k
-    after n k f = let at = there n k f in is_first.before k at.1 (omega (arith, at.0, all))
-
-    pub search_ends : (child : Option (ℕ × ℕ)) → IsLowestFrom nodes o label first child → IsFirstChild nodes o label (option_map (λ c. c.1) child)
-    search_ends None at = nothing (λ n. none_if (child_at nodes o label n) (λ k f. at.least n k f (after n k f)))
-    search_ends (Some c) at =
-        lowest c.0 c.1 at.is (λ m l. none_if (child_at nodes o label m) (λ k f. let up = at.least m k f (after m k f) in omega (arith, up, l)))
+        by : (child : Option (ℕ × ℕ)) → IsLowestFrom nodes o label id child → IsFirstChild nodes o label (option_map (λ c. c.1) child)
+        by None at = nothing (λ n. none_if (child_at nodes o label n) (λ k f.
+            let known = there n k f in at.least n k f (omega (arith, end, after k known.1 known.0))))
+        by (Some c) at = lowest c.0 c.1 at.is (λ m l. none_if (child_at nodes o label m) (λ k f.
+            let known = there m k f in
+            let up = at.least m k f (omega (arith, end, after k known.1 known.0)) in omega (arith, up, l)))
 
   -- if no node has the label, no child has it
-  pub no_child : index_anywhere nodes label ≡ None → IsFirstChild nodes o label None
-  no_child e = nothing (λ n. none_if (child_at nodes o label n) (λ k f.
+  pub no_child : {r : Option ℕ} → index_anywhere nodes label ≡ None → r ≡ None → IsFirstChild nodes o label r
+  no_child e is = rw is (nothing (λ n. none_if (child_at nodes o label n) (λ k f.
       let at = there n k f in
       let m = get_within nodes k at.0 in
       let named : m.0.label ≡ label = sym (label-of (λ (m : Node). m.label) nodes k m.0 m.1) ∙ at.1 in
       let first = passing (has_label label) nodes k m.0 m.1 (rw named (same_itself label)) in
-      cc (e, first.1)))
+      cc (e, first.1))))

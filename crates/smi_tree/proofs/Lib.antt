@@ -1,8 +1,8 @@
 pub mod SameTexts
 pub mod First
-pub mod Previous
 pub mod SharedLabels
 pub mod Sources
+pub mod Previous
 pub mod Childhood
 pub mod Syntaxes
 pub mod LongestPrefix

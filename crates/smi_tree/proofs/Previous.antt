@@ -1,6 +1,6 @@
 -- For each label, the last index before with the same label.
-use Rattle.std.proofs.Common.{◌≡◌, ◌≢◌, ℕ, ◌+◌, ◌<◌, ◌≤◌, List, [], ◌∷◌, ◌++◌, length, map, get_or, Some, slice_index_or, ◌⊎◌, inl, inr, refl, sym, ◌∙◌, arith}
-use Rattle.std.proofs.lemmas.{Grind.common_steps, Grind.elements, List.length-map, Bool.cases_eq, Bool.cases_lt}
+use Rattle.std.proofs.Common.{◌≡◌, ℕ, ◌+◌, ◌<◌, ◌≤◌, List, [], ◌∷◌, ◌++◌, length, map, get_or, Some, slice_index_or, inl, inr, refl, sym, ◌∙◌, arith}
+use Rattle.std.proofs.lemmas.{Grind.elements, List.length-map, Bool.cases_eq, Bool.cases_lt}
 use Rattle.std.proofs.lemmas.Option.{slice_get-map, slice_get-get_or, slice_get_within, get_or_from_slice_get}
 use Rattle.std.specs.List.{slice_get, position_from, SwappedAt}
 use Rattle.smi_text.specs.{trees.Mark.same_text, declared.trees.tree.Module.Module}
@@ -38,25 +38,23 @@ pub first_at : (ms : List Module) (ss : List Source) (k f : ℕ) (d : Source) �
 first_at ms ss k f d inside e =
     rw (label-of (label_from ms) ss k (get_or ss k d) (slice_get-get_or ss k d inside)) (first_of (label_from ms) ss (label_from ms (get_or ss k d)) f e)
 
--- if the index `n` of one label more is exchanged with the last index of this label, whose first index is `f`, the list is right for one label more
+-- if `f` is the first index of the label at index `n`, and `n` is appended and exchanged with the item at index `f`, the list is right for one label more
 pub previous-more : (labels : List (List ℕ)) (n f : ℕ) (old new : List ℕ) → n < length labels → IsFirstOf labels (label_at labels n) f
     → ArePrevious labels n old → length new ≡ n + 1 → SwappedAt (old ++ n ∷ []) new f n → ArePrevious labels (n + 1) new
 previous-more labels n f old new inside g are long swapped = record { long = long; each = each }
   where
     each : (k : ℕ) → k < n + 1 → IsPrevious labels (n + 1) k (slice_index_or new k 0)
     each k l = elim (cases_eq k f) [
-      | inl at ↦ (let here : slice_index_or new k 0 ≡ n = grind (arith, elements, swapped.0 0, are.long, at) in
-          rw here (record {
-            within = omega arith;
-            same = rw at (sym g.is);
-            between = λ j a b e. omega (arith, g.before n refl inside, at);
-            around = λ le j b e. (rw at (g.before j (e ∙ rw at g.is) (omega arith)), omega arith);
-          }))
+      | inl at ↦ (let here : slice_index_or new k 0 ≡ n = grind (arith, elements, swapped.0 0, are.long, at) in rw here (record {
+        within = omega arith;
+        same = rw at (sym g.is);
+        between = λ j a b e. omega (arith, g.before n refl inside, at);
+        around = λ le j b e. (rw at (g.before j (e ∙ rw at g.is) (omega arith)), omega arith);
+      }))
       | inr other ↦ elim (cases_eq k n) [
         | inl at ↦ (let p : IsPrevious labels n f (slice_index_or old f 0) = are.each f (omega (arith, g.before n refl inside, other, at)) in
             let here : slice_index_or new k 0 ≡ slice_index_or old f 0 = grind (arith, elements, swapped.1 0, are.long, g.before n refl inside, other, at) in
-            let up = g.before (slice_index_or old f 0) (p.same ∙ g.is) (omega (arith, p.within, inside)) in
-            rw here (record {
+            let up = g.before (slice_index_or old f 0) (p.same ∙ g.is) (omega (arith, p.within, inside)) in rw here (record {
               within = omega (arith, p.within);
               same = rw at (p.same ∙ g.is);
               between = λ j a b e. omega (arith, p.around up j (rw at at b) (e ∙ rw at (sym g.is)), a);
@@ -68,12 +66,7 @@ previous-more labels n f old new inside g are long swapped = record { long = lon
               within = omega (arith, q.within);
               same = q.same;
               between = q.between;
-              around = λ le j b e. elim (cases_eq j n) [
-                | inl top ↦ (let named : label_at labels n ≡ label_at labels k = rw top at e in
-                    let after = g.before k (sym named) (omega (arith, l, inside)) in
-                    absurd (other (omega (arith, after, (q.around le f (omega (arith, after, before, l)) (g.is ∙ named)).0))))
-                | inr more ↦ q.around le j (omega (arith, b, more)) e
-              ];
+              around = λ le j b e. grind (arith, cases_eq j n, g.before k, g.is, q.around le f, q.around le j, e, b, l, before, other, inside);
             }))
       ]
     ]

@@ -61,7 +61,7 @@ pub record IsPrevious (labels : List (List ℕ)) (n k p : ℕ) : Type 0 where
   pub between : (j : ℕ) → p < j → j < k → label_at labels j ≢ label_at labels k
   pub around : k ≤ p → (j : ℕ) → j < n → label_at labels j ≡ label_at labels k → (k ≤ j) × (j ≤ p)
 
--- `previous` has this index for each of the first `n` labels
+-- `previous` has, for each of the first `n` labels, the previous index of the same label
 pub record ArePrevious (labels : List (List ℕ)) (n : ℕ) (previous : List ℕ) : Type 0 where
   pub long : length previous ≡ n
   pub each : (k : ℕ) → k < n → IsPrevious labels n k (slice_index_or previous k 0)

@@ -30,10 +30,6 @@ index_anywhere nodes label = position_from (has_label label) 0 nodes
 abbrev pub oids_of : List Node → List (List ℕ)
 oids_of nodes = map (λ n. n.oid) nodes
 
--- the labels of the nodes
-abbrev pub labels_of : List Node → List (List ℕ)
-labels_of nodes = map (λ n. n.label) nodes
-
 -- whether there is a node at index `k` that has this label
 abbrev pub is_labelled : List Node → List ℕ → ℕ → Bool
 is_labelled nodes label k = unwrap_or (option_map (has_label label) (slice_get nodes k)) false
@@ -78,3 +74,9 @@ IsFirstChild nodes o label = IsOfLowest (child_at nodes o label)
 -- is the first child, by `IsFirstChild`
 abbrev pub child_of : List Node → List ℕ → List ℕ → Option ℕ
 child_of nodes o label = of_lowest (child_at nodes o label) (suc (highest (oids_of nodes)))
+
+-- ---- for private functions
+
+-- the labels of the nodes
+abbrev pub labels_of : List Node → List (List ℕ)
+labels_of nodes = map (λ n. n.label) nodes

@@ -28,8 +28,8 @@ pub record IsTree (modules : List Module) (tree : Contents) (warnings : List War
   pub syntaxes : AreSyntaxesOf modules tree.nodes tree.syntaxes
   pub indexes : AreIndexesOf modules tree.nodes tree.indexes
 
--- a tree as it was loaded, with the warnings about its modules and the key of each map of names
--- that the load made
+-- a tree as it was loaded, with the warnings about its modules, and with the one key by which all
+-- maps of names that the load made hash their names
 pub record Load : Type 0 where
   pub tree : Contents
   pub warnings : List Warning

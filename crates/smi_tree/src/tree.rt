@@ -56,8 +56,8 @@ pub struct Tree {
     /// For each label, and each module other than the module of the label's first node: the index
     /// of the first node with that label in that module.
     others: Others,
-    /// For each node, the last one before it with the same label. For a label's first node, the last
-    /// one with this label.
+    /// For each node, the last one before it with the same label. For a label's first node, the
+    /// last one with this label.
     previous: Vec<NodeId>,
     /// The syntax of each object.
     types: Types,
@@ -211,6 +211,7 @@ impl Tree {
 
     /// Returns the first of the children of `oid` that has this label. Visits each node with this
     /// label, and not each child.
+    #[tactic(auto, using(crate::proofs::Childhood::no_child, crate::proofs::Childhood::within, crate::proofs::Childhood::search_falls, crate::proofs::Childhood::search_ends))]
     pub fn child(&self, oid: &Oid, label: &[u8]) -> Option<NodeId>
         ensures { IsFirstChild self.now.nodes oid.now label.now result }
     {

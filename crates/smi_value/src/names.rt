@@ -9,9 +9,9 @@ use std::alloc::{AllocError, Global};
 use std::collections::BTreeMap;
 use std::marker::Model;
 
-/// The largest number of names that are searched without an index. A search takes some 15
-/// instructions for each name before the one that is found, and a look-up in an index some 100 to
-/// 300, whatever the number of names: up to 16 names, an index would save nothing.
+/// The largest number of names that are searched without an index. A search takes some 30
+/// instructions for each name up to the one that is found, so 250 on average among 16 names. A
+/// look-up in an index takes 100 to 250 among 17 names, and 500 to 700 among 10,000.
 const MOST_SEARCHED: usize = 16;
 
 /// An index of a list of names: for each number that has a name, the position of its first name.

@@ -85,6 +85,22 @@ impl<'a> ValueSyntax<'a> {
         }
     }
 
+    /// Returns the name of the number `n` in `syntax`, if it has one and applies to values of type
+    /// `base`.
+    pub(crate) fn name_at(
+        syntax: Option<&'a ValueSyntax<'a>>,
+        base: ValueBase,
+        n: i128,
+    ) -> Option<&'a [u8]>
+        ensures { option_copied result
+            ≡ name_of_number (syntax_at base (option_copied syntax.entry)).names n }
+    {
+        match syntax {
+            Some(syntax) if syntax.base.is_same(base) => syntax.names.name_of(n),
+            _ => None,
+        }
+    }
+
     /// Returns the names in `syntax` if it applies to values of type `base`, otherwise none.
     pub(crate) fn names_at(syntax: Option<&'a ValueSyntax<'a>>, base: ValueBase) -> NumberNames<'a>
         ensures { result ≡ (syntax_at base (option_copied syntax.entry)).names }
@@ -121,10 +137,8 @@ impl<'a> ValueSyntax<'a> {
 pub(crate) fn first_name(names: &[NamedNumber], n: i128) -> Option<&[u8]>
     ensures { option_copied result ≡ name_of_number names.now n }
 {
-    match names.iter().find(|named| is_number_of(named, n)) {
-        Some(named) => Some(named.name.as_bytes()),
-        None => None,
-    }
+    let named = names.iter().find(|named| is_number_of(named, n))?;
+    Some(named.name.as_bytes())
 }
 
 /// Returns whether `named` is a name of the number `n`.
@@ -147,7 +161,7 @@ fn few_digits(text: &[u8]) -> Option<u16>
     ensures { IfSome result (λ few. stated_number text.now ≡ Some (pos few)) }
 {
     match text {
-        [ones @ b'0'..=b'9'] => Some(u16::from(*ones - b'0')),
+        [ones @ b'0'..=b'9'] => Some(u16::from(*ones) - 48),
         [tens @ b'0'..=b'9', ones @ b'0'..=b'9'] => {
             Some(10 * u16::from(*tens - b'0') + u16::from(*ones - b'0'))
         }

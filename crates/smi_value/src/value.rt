@@ -121,8 +121,7 @@ fn append_integer(draft: &mut Draft, letters: &Letters, syntax: Option<&ValueSyn
         × IsIntegerText letters.now at n (name_of_number at.names n) text
         × Adds draft.old text draft.new }
 {
-    let names = ValueSyntax::names_at(syntax, ValueBase::Integer);
-    match names.name_of(i128::from(n)) {
+    match ValueSyntax::name_at(syntax, ValueBase::Integer, i128::from(n)) {
         Some(name) => {
             append_word(draft, letters, b"INTEGER: ");
             append_named(draft, letters, name, n);

@@ -1,6 +1,6 @@
 -- Children of an identifier: what an iterator over them has left, and the lower of two.
-use Rattle.std.specs.Prelude.{◌≡◌, ℕ, ◌≤◌, ◌⊎◌, List, [], ◌∷◌, ◌++◌, Option, Some, IfSome, IsSomeAnd}
-use Rattle.std.specs.List.{filter_map}
+use Rattle.std.specs.Prelude.{◌≡◌, ℕ, ◌≤◌, ◌⊎◌, List, [], ◌∷◌, ◌++◌, Option, Some, IfSome}
+use Rattle.std.specs.{Prelude.IsSomeAnd, List.filter_map}
 use Rattle.smi_tree.specs.branches.{Branches.id_at, FirstIndex.first_index}
 use Rattle.smi_tree.specs.declared.branches.identifiers.Children.{Children}
 

@@ -1,5 +1,5 @@
 -- The indexes that are stored of the long lists of named numbers or bits in modules.
-use Rattle.std.specs.Prelude.{◌≡◌, ℕ, List, IfSome, Option, Some, None}
+use Rattle.std.specs.Prelude.{◌≡◌, ℕ, List, IfSome, Option, Some}
 use Rattle.std.specs.{List.slice_get, Option.option_and_then, Ordering.nat_cmp}
 use Rattle.std.specs.BTreeMap.{BTreeMap, get}
 use Rattle.smi_text.specs.{declared.trees.tree.Module.Module, declared.trees.tree.Def.Def}
@@ -19,6 +19,8 @@ AreNumbersOf defs numbers = (k : ℕ) (d : Def) → slice_get defs k ≡ Some d
 -- `all` has such indexes for each module
 abbrev pub AreNumbersOfAll : List Module → List (BTreeMap ℕ NumberIndex) → Type 0
 AreNumbersOfAll ms all = ArePairwise (λ i m numbers. AreNumbersOf m.defs numbers) ms all
+
+-- ---- for private functions
 
 -- the stored index of the definition at `at`, if there is one
 abbrev pub index_at : List (BTreeMap ℕ NumberIndex) → Option (ℕ × ℕ) → Option NumberIndex

@@ -1,5 +1,5 @@
 -- The stored index is that of the names in the syntax.
-use Rattle.std.proofs.Common.{rules, ◌≡◌, Some, sym, ap, ◌∙◌}
+use Rattle.std.proofs.Common.{rules, ◌≡◌, Some, sym, ap}
 use Rattle.std.specs.Option.{option_copied}
 use Rattle.smi_tree.specs.types.Kept.{facts_of, kept_syntax}
 use Rattle.smi_tree.proofs.NumbersKept.{kept_right}

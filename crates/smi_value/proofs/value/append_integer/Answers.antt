@@ -12,11 +12,10 @@ returns-in-Some c =
     let at = syntax_at base.Integer (option_copied c.args.syntax) in
     let text : List ℕ = type_word c.args.letters.now (codes "INTEGER: ") ++ named_text c.args.letters.now c.in-Some.name.now (signed_decimal c.args.n) in
     let h = c.in-Some.ensures in
-    let k = c.names_at-names.ensures in
     let from : c.from.result ≡ c.args.n = c.from.ensures ∙ same in
     let fits : SFits w128 c.from.result = assumption in
     let wide : to_z w128 (of_z w128 c.from.result) ≡ c.args.n = to_z-of_z w128 c.from.result fits ∙ from in
-    let named : Some c.in-Some.name.now ≡ name_of_number at.names c.args.n = rw (wide, k) at h in
+    let named : Some c.in-Some.name.now ≡ name_of_number at.names c.args.n = rw wide at h in
     let P : Option (List ℕ) → Type 0 = λ name. IsIntegerText c.args.letters.now at c.args.n name text in
     let adds = adds_from _ _ _ (c.append_named.ensures.goes_on _ _ c.append_word.ensures.grows) in
     (text, subst P named refl, rw same at adds)

@@ -1,5 +1,6 @@
 -- A child that is kept has the lower number, or the identifier at the index isn't a child at its first index.
-use Rattle.std.proofs.Common.{rules, ◌≡◌, ℕ, List, [], ◌∷◌, ◌++◌, Option, Some, None, IfSome, IsSomeAnd, ◌≤◌, inl, inr, refl, sym, ◌∙◌, ap, length, length-append, arith}
+use Rattle.std.proofs.Common.{rules, ◌≡◌, ℕ, List, [], ◌∷◌, ◌++◌, Option, Some, None, IfSome, IsSomeAnd, ◌≤◌, inl, inr, refl, sym, ◌∙◌, arith}
+use Rattle.std.proofs.Common.{ap, length, length-append}
 use Rattle.std.proofs.lemmas.{List.same_from_push, Grind.common_steps}
 use Rattle.std.specs.Cmp.Lexicographic.{bytes_decides}
 use Rattle.smi_tree.specs.{branches.FirstIndex.first_index, branches.FirstIndex.oid_at, branches.Children.IsLowerChild}
@@ -9,6 +10,7 @@ use Rattle.smi_tree.proofs.branches.identifiers.Identifiers.lower_child.Goals.{t
 use Rattle.smi_tree.proofs.branches.identifiers.Identifiers.lower_child.Goals.{in_default-child-via-in-Some-child+else-lower-number}
 use Rattle.smi_tree.proofs.branches.identifiers.Identifiers.lower_child.Goals.{in_default-child-via-in_default-child}
 
+-- if the number of `child` is at most that of each child of `o` with the first index `id`, `child` is the lower one
 kept : (oids : List (List ℕ)) (o : List ℕ) (child : Option (ℕ × ℕ)) (id : ℕ)
     → ((n : ℕ) → first_index oids (oid_at oids id) ≡ Some id → oid_at oids id ≡ o ++ n ∷ [] → IsSomeAnd child (λ d. d.0 ≤ n))
     → IsLowerChild oids o child id child
@@ -22,9 +24,11 @@ kept oids o child id lower = record {
     by None = tt
     by (Some c) = omega arith
 
+-- an index is the first index of at most one child
 same-number : (oids : List (List ℕ)) (o : List ℕ) (id n m : ℕ) → first_index oids (o ++ n ∷ []) ≡ Some id → first_index oids (o ++ m ∷ []) ≡ Some id → n ≡ m
 same-number oids o id n m e f = (same_from_push o o n m (sym (index_found oids (o ++ n ∷ []) id e).1 ∙ (index_found oids (o ++ m ∷ []) id f).1)).1
 
+-- if `number` is at most that of `child`, the child at index `id` with this number is the lower one
 taken : (oids : List (List ℕ)) (o : List ℕ) (child : Option (ℕ × ℕ)) (id number : ℕ) → first_index oids (o ++ number ∷ []) ≡ Some id
     → IfSome child (λ c. number ≤ c.0) → IsLowerChild oids o child id (Some (number, id))
 taken oids o child id number e lower = record { one = inr (refl, e); of_old = lower; of_id = λ n f. omega (arith, same-number oids o id number n e f) }
@@ -61,8 +65,10 @@ pub returns-in_default-child : goal.returns-in_default-child
 returns-in_default-child c =
     let numbers : c.as_slice-numbers.result.now ≡ oid_at c.args.self.now c.args.id = c.as_slice-numbers.ensures.value ∙ c.get.ensures in
     let split : c.as_slice-numbers.result.now ≡ c.in-Some.prefix.now ++ c.in-Some.number.now ∷ [] = search rules in
-    let same : c.in-Some.prefix.now ≡ c.args.oid.now = grind (arith, common_steps, bytes_decides c.in-Some.prefix.now c.args.oid.now, c.as_slice.ensures.value, c.ne.ensures, c.if-ne.false) in
-    let found : first_index c.args.self.now c.as_slice-numbers.result.now ≡ Some c.args.id = grind (arith, common_steps, c.find_numbers.ensures, c.ne-else-ne.ensures, c.if-ne-2.false) in
+    let same : c.in-Some.prefix.now ≡ c.args.oid.now =
+    grind (arith, common_steps, bytes_decides c.in-Some.prefix.now c.args.oid.now, c.as_slice.ensures.value, c.ne.ensures, c.if-ne.false) in
+    let found : first_index c.args.self.now c.as_slice-numbers.result.now ≡ Some c.args.id =
+    grind (arith, common_steps, c.find_numbers.ensures, c.ne-else-ne.ensures, c.if-ne-2.false) in
     taken c.args.self.now c.args.oid.now c.args.child c.args.id c.in-Some.number.now (rw (← same, ← split) found)
     (elim c.in_default-child.branch [
       | in_default-child-via-in-Some-child+else-lower-number w ↦ (let is : c.args.child ≡ Some w.in-Some-child.lower = search rules in rw is (omega arith))
