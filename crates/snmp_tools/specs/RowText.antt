@@ -1,4 +1,5 @@
--- The line of a row, `.NUMBERS = TYPE: VALUE`, as `-On` shows it if no module is loaded.
+-- The line of a row, as `-On` shows it if no module is loaded: `.NUMBERS = TYPE: VALUE`, without a
+-- type for an empty string, for NULL and for the exceptions.
 use Rattle.std.specs.Prelude.{ℕ, ◌/◌, if◌then◌else◌, List, [], ◌∷◌, ◌++◌, codes, decimal}
 use Rattle.std.specs.{List.flat_map, List.list_all, Fmt.signed_decimal}
 use Rattle.snmp_oid.specs.Numeric.{numeric_text}

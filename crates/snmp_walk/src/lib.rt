@@ -2,7 +2,8 @@
 //! section 4.2), and the Get of several names.
 //!
 //! [`WalkCore`] says which request to send and reads the reply. [`run_walk`] and [`run_get`] send
-//! requests and receive replies over a [`Link`], and pass each binding to a [`Sink`].
+//! requests and receive replies over a [`Link`], and pass the bindings that belong to the walk or the
+//! Get to a [`Sink`].
 //!
 //! # Examples
 //!

@@ -28,7 +28,7 @@ pub trait Network: Endpoint {
     /// network in state `new`.
     ghost carries: { Self → Happening Self.Peer → Self → Type 0 };
 
-    /// `is_new network`: nothing has happened yet.
+    /// `is_new network`: nothing was sent yet, at either end.
     ghost is_new: { Self → Type 0 };
 
     /// The walk, as a peer of the agent.

@@ -18,9 +18,9 @@ pub trait Sink {
     fn row(&mut self, binding: &Binding<'_>) -> Result<(), SinkFault>
         ensures { takes self.old (var_bind binding.now) result self.new };
 
-    /// Takes the bindings of one reply, in order. Fails at the first one that is refused. A sink
-    /// whose calls are costly, as writes are, can have its own `rows` that takes all of them at
-    /// once.
+    /// Takes those bindings of one reply that are passed on, in order. Fails at the first one that
+    /// is refused. A sink whose calls are costly, as writes are, can have its own `rows`, with one
+    /// costly call for all of them.
     fn rows(&mut self, mut rows: Rows<'_>) -> Result<(), SinkFault>
         ensures ok { OnOk result (TakesAll takes self.old rows.entry self.new) }
         ensures err { IfErr result (λ fault. (prefix : List VarBind) × (p : VarBind)

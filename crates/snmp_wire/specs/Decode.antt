@@ -92,7 +92,8 @@ kind_of tag =
     else (if tag == 0xA8 then Ok kind.Report
     else Err error.Tag)))))))
 
--- the content of the outermost element, if no octets follow it
+-- the content of the outermost element, if it is a SEQUENCE and no octets follow it; otherwise the
+-- fault
 unfoldable pub outermost_of : List ℕ → Result (List ℕ) BerError
 outermost_of [] = Err error.Truncated
 outermost_of (tag ∷ rest) =

@@ -161,7 +161,8 @@ impl<'s, 'a> Entries<'s, 'a> {
 
     /// Returns the index in `list` of what the name at `index` resolves to; a new identifier is
     /// appended. `to` is the index of the name that it refers to, and `indices[to]` the index in
-    /// `list` of what that name resolves to.
+    /// `list` of what that name resolves to. `to` is `None` if the name refers to none, and the
+    /// number of names if it refers to a name without a meaning.
     fn resolve_entry(
         &self,
         alloc: Global,

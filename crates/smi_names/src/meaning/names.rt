@@ -143,7 +143,7 @@ impl<'a> Names<'a> {
         Some(entry.decider)
     }
 
-    /// Returns the names by their indices.
+    /// Returns the names as [`Entries`]: each name has an index there.
     pub fn entries(&self) -> Entries<'_, 'a>
         ensures { result.modules ≡ self.now.modules }
     {

@@ -49,7 +49,8 @@ IsShortValue _ = Unit {0}
 abbrev pub whole_size : Message → ℕ → ℕ
 whole_size m total = length (canon_head m total) + total
 
--- the error-status and the error-index of the whole Response to a request of this kind
+-- the error-status of the Response to a request of this kind, unless the Response is replaced for
+-- its length; `whole_index` is its error-index
 abbrev pub whole_status : Kind → ℤ
 whole_status kind.SetRequest = not_writable
 whole_status _ = no_error

@@ -43,7 +43,8 @@ FileFails files path why =
     ⊎ ((text : List ℕ) × (fault : ParseError) × MayHold files path text
     × (fault ≢ error.Memory) × IsCause fault text × (why ≡ faulty path fault))
 
--- `why` is the reason of the first file that fails; the files before it hold modules
+-- `why` is the reason of the first file that fails; the files before it hold modules, as far as it
+-- is known what they hold
 abbrev pub FilesFail : Holdings → (paths : List (List ℕ)) → Refusal → Type 0
 FilesFail files paths why = IsFirstToFail paths (MayHoldModules files) (FileFails files) why
 
