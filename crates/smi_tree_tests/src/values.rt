@@ -417,7 +417,7 @@ fn number_at(alloc: Global, k: usize, count: usize) -> Result<String, AllocError
     if k == 0 {
         return format!(in alloc; "-2147483648");
     }
-    if k + 1 == count {
+    if k.wrapping_add(1) == count {
         return format!(in alloc; "2147483647");
     }
     match k % 5 {
@@ -429,9 +429,11 @@ fn number_at(alloc: Global, k: usize, count: usize) -> Result<String, AllocError
 }
 
 /// Returns `count` names, each with its number of [`number_at`].
-fn many_names(rt: &impl Abort, alloc: Global, count: usize) -> Result<Vec<NamedNumber>, AllocError>
-    requires { count < 1000 }
-{
+fn many_names(
+    rt: &impl Abort,
+    alloc: Global,
+    count: usize,
+) -> Result<Vec<NamedNumber>, AllocError> {
     let mut names = Vec::new(alloc);
     for k in 0..count {
         let number = number_at(alloc, k, count)?;
