@@ -1,4 +1,4 @@
--- A buffer with octets appended has the same datagrams as before and, with the new span, one more (`cut-push`).
+-- If octets and a span for them are appended, the datagrams are those from before and then one more (`cut-push`).
 use Rattle.std.proofs.{lemmas.Grind.common_steps, Math.Seq.drop-append_seam, lemmas.Option.slice_get-map}
 use Rattle.std.proofs.Common.{◌≡◌, ℕ, zero, suc, ◌+◌, ◌-◌, ◌≤◌, List, [], ◌∷◌, ◌++◌, length, refl, ◌∙◌, ap, arith, Some, length-drop}
 use Rattle.std.proofs.lemmas.List.{take-append-le, drop-append-le, take_all, map-append}

@@ -54,7 +54,7 @@ end_joined [] p h = ap (λ (v : Datum). is_end v || false) h
 end_joined (r ∷ before) p h = any_later r (joined (before ++ (p ∷ []) ∷ [])) (end_joined before p h)
 
 module _ (codec : Codec) (view : MibView) (good : IsMibView view) where
-  -- a name has one successor
+  -- a name has at most one successor
   one_next : (o : List ℕ) (p q : VarBind) → IsNext view o p → IsNext view o q → p ≡ q
   one_next o p q a b = next_first view good codec o p a ∙ sym (next_first view good codec o q b)
 
@@ -64,7 +64,7 @@ module _ (codec : Codec) (view : MibView) (good : IsMibView view) where
       let same : a.0 ≡ b.0 = one_after i o a.0 b.0 a.1 b.1 in
       one_next b.0.name p q (subst (λ (r : VarBind). IsNext view r.name p) same a.2) b.2
 
-  -- o is the name reached from `asked` by this many GetNexts, each of the name that the one before returned
+  -- o is the name reached from `asked` by i GetNexts, each of the name that the one before returned; i is the second argument
   abbrev IsSuccessor : List ℕ → ℕ → List ℕ → Type 0
   IsSuccessor asked zero o = o ≡ asked
   IsSuccessor asked (suc i) o = (q : VarBind) × IsNextAfter view i asked q × (q.name ≡ o)

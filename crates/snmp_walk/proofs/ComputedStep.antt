@@ -1,4 +1,4 @@
--- What holds in each case of a message holds of `take_of` (`take_by`).
+-- If P holds in each case of what a message can mean to a walk, it holds of `take_of` (`take_by`).
 use Rattle.std.proofs.{lemmas.Grind.common_steps, lemmas.Bool.Decides.Decides-int_eq}
 use Rattle.std.proofs.Common.{◌≡◌, ℕ, ◌+◌, ◌<◌, ◌≤◌, List, [], ◌∷◌, length, refl, sym, ap, subst, arith, pos, Some, false}
 use Rattle.std.proofs.lemmas.Bool.{cond_both, or_parts, ltb-true, ltb-false}
@@ -13,7 +13,7 @@ use Rattle.snmp_walk.specs.private.ComputedStep.{awaits, is_awaited, is_over, st
 use Rattle.snmp_walk.specs.private.ComputedStep.{reads_for, reads_reply, take_of}
 use Rattle.snmp_walk.specs.private.ReplyRows.{After, nothing, leaving, falling, reply_rows, is_misplaced}
 
--- what holds if the walk sends its next request, and if it has no id left, holds of `goes_on`
+-- if P holds in both cases, that the walk sends its next request and that no id is left, then it holds of `goes_on`
 pub goes_by : (w : WalkState) (P : Step × WalkState → Type 0) (next : Phase) (rows : List VarBind)
     → (w.id < 2147483647 → P (step.Rows rows, record w { phase = next; asked = last_name w.asked rows; id = w.id + 1; count = w.count + length rows }))
     → (2147483647 ≤ w.id → P (stops w rows ending.TooManyRequests)) → P (goes_on w next rows)

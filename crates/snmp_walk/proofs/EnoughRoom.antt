@@ -36,7 +36,7 @@ served : (p : Phase) (m : Method) → IsServed (request_kind p m)
 served phase.Rows method.Next = tt
 served _ _ = tt
 
--- each trail has at most k rows
+-- each trail from the name that the walk begins from has at most k rows
 abbrev pub HasFew : (List ℕ → VarBind → Type 0) → WalkState → ℕ → Type 0
 HasFew Next first k = (trail : List VarBind) → IsTrail Next first.root first.asked trail → length trail ≤ k
 
@@ -129,7 +129,7 @@ module _ (codec : Codec) (agents : Agents) (first : WalkState) (good_views : Are
     asked_at_get p (inl e) s = (subst (IsStage Next Got first given w.asked) e s).1
     asked_at_get p (inr e) s = (subst (IsStage Next Got first given w.asked) e s).1
 
-    -- the Response with all that was asked for fits
+    -- the whole Response to a Get or a GetNext fits
     whole_fits : (r : Message) → IsWhole view (request_of w) r → Fits agents.max_size r
     whole_fits r (got bindings k answers e) =
         let p = one_answer (λ asked given. IsGet view asked.name given) w.asked bindings answers in
@@ -142,7 +142,7 @@ module _ (codec : Codec) (agents : Agents) (first : WalkState) (good_views : Are
         rw (e, p.1) (fits p.0 room)
     whole_fits r (unwritten k e) = absurd (set_phase w.phase w.method k)
 
-    -- the reply to a GetBulk has at least one binding, and fits
+    -- if a GetBulk asks for at least one binding, the longest prefix that fits (`IsLongestPrefix`) isn't empty, and the Response with it fits
     bulk_fits : (all bindings : List VarBind) → IsChain (IsNext view) w.asked all → all ≢ [] → IsLongestPrefix agents.max_size (request_of w) all bindings
         → Fits agents.max_size (response (request_of w) no_error (pos 0) bindings)
     bulk_fits all (p ∷ more) chain some longest = longest.fits (λ e. let never : ⊥ = cc in never)

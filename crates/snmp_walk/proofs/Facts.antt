@@ -36,7 +36,7 @@ lawful_whole : (agents : Agents) (Silent : WalkState → Type 0) (first : WalkSt
 lawful_whole agents Silent first rows (ending.Done n) d h = h.5.1
 lawful_whole agents Silent first rows _ d h = absurd d
 
--- if no reply to the request of w arrived, and no delivery was ahead, then one of the agents has no reply to it
+-- if no reply to the request of w arrived in at least one try, and no delivery was ahead, then one of the agents has no reply to it
 none_lost : (agents : Agents) (tries : ℕ) (old new : Traffic) (w : WalkState) → 0 < tries → old.ahead ≡ [] → HasNoReply agents tries old new w
     → HasNone agents w
 none_lost agents tries old new w some none h = elim h.lost [

@@ -19,12 +19,12 @@ use Rattle.snmp_walk.proofs.{Trail.chain_prefix, ReplyRows.prefixes_by, ReplyRow
 
 -- ---- a walk that continues
 
--- if all bindings are rows, none is endOfMibView
+-- if all bindings are rows, none has endOfMibView
 given_all : (root o : List ℕ) (bindings : List VarBind) → (reply_rows root o bindings).after ≡ nothing → list_any (λ q. is_end q.value) bindings ≡ false
 given_all root = prefixes_by root (λ o all prefix. prefix.after ≡ nothing → list_any (λ q. is_end q.value) all ≡ false) (λ o e. refl)
     (λ o p more prefix i u later e. or_from _ _ (inside_value root p i) (later e)) (λ o p more i f e. absurd cc) (λ o p more f e. absurd cc)
 
--- if the step continues the walk w, then m is the reply to the first Get; or the last Get is next; or m has no error, all its bindings are rows, and none is
+-- if the step continues the walk w, then m is the reply to the first Get; or the last Get is next; or m has no error, all its bindings are rows, and none has
 -- endOfMibView
 abbrev pub GoesFull : WalkState → Message → Step → WalkState → Type 0
 GoesFull w m (step.Rows rows) v =

@@ -217,7 +217,8 @@ module _ (codec : Codec) (community : List ℕ) (id : ℕ) (names : List (List �
       (d, tried, spelt),
     )
 
-    -- if no reply arrived over an honest link, one of the agents has no reply to the request, or the deliveries lost the reply (`IsLostGet`)
+    -- if no reply arrived over an honest link, and earlier runs had lower ids, one of the agents has no reply to the request, or the deliveries lost the
+    -- reply (`IsLostGet`)
     pub lost_get : IsGetTried facts link after tries community id names outcome.missed → IsHonestFrom facts id link
         → (facts.traffic after).sent ≡ (facts.traffic link).sent ++ replicate tries (canon Asked)
         → IsLostGet (facts.agents link) tries (facts.traffic link) (canon Asked) (facts.traffic after)

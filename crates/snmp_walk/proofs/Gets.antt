@@ -5,7 +5,7 @@ use Rattle.std.proofs.Common.{append-nil, Option}
 use Rattle.std.specs.Prelude.{Result, Ok, Err, replicate, Some, None}
 use Rattle.snmp_walk.specs.{declared.end.LinkFault.LinkFault, private.Codec.Codec, declared.end.SinkFault.SinkFault, declared.end.WalkEnd.WalkEnd}
 use Rattle.snmp_walk.specs.{declared.tries.Course.Course, Traffic.Traffic, Traffic.Lost, Facts.IsDone, Facts.IsDoneOrCutOff, Facts.IsDoneOrStopped}
-use Rattle.snmp_walk.specs.{private.Course.Heard, private.Course.heard_of, Read.IsReadAs, Read.Tells, Moved.IsMoved, StepRules.IsResponseTo}
+use Rattle.snmp_walk.specs.{private.Course.Heard, private.Course.heard_of, Read.IsReadAs, Read.Tells, Moved.AreFew, Moved.IsMoved, StepRules.IsResponseTo}
 use Rattle.snmp_walk.specs.{Network.AreRepliesOf, declared.link.Link.Ghosts as LinkFacts, Responses.IsResponseFrom, Responses.MayRespond, Link.Agents}
 use Rattle.snmp_walk.specs.{Link.OneOf, Link.AreLawful, Link.IsReplyFrom, Link.agent_in, Link.Outcome, Tries.AreTried, Tries.Happens, Tries.InTurn}
 use Rattle.snmp_walk.specs.{Tries.IsNotAwaited, RunResult.HasHappened, RunResult.but_for_errors, RunResult.IsHonestFrom, RunResult.IsGetTried}
@@ -18,7 +18,7 @@ use Rattle.snmp_walk.specs.declared.tries.Course.TheVariants as course
 use Rattle.snmp_walk.specs.private.Course as heard
 use Rattle.snmp_walk.specs.Get.{get_request, got_step, AreFor, AreGot, MeansToGet, IsDelivered, IsReasonOfGet, HasRoomForGet, IsEndOfGet, IsLostGet}
 use Rattle.snmp_walk.specs.Get.{IsTooBig, GetFacts, GotFacts}
-use Rattle.std.proofs.Common.{◌+◌}
+use Rattle.std.proofs.Common.{◌+◌, ◌*◌}
 use Rattle.snmp_walk.proofs.{Networks.begins_tries, OwnReply.all_lower_more, OwnReply.all_lower_sent}
 use Rattle.snmp_walk.specs.{RunResult.AreOfLowerIds}
 use Rattle.snmp_walk.proofs.{Names.no_end, Variables.get_one, Networks.all_tries, Networks.answered_tries}
@@ -30,7 +30,7 @@ use Rattle.snmp_walk.proofs.Moves.{Suits, agrees, moved_of, sent_of, tries_as, m
 use Rattle.snmp_walk.specs.Link as outcome
 use Rattle.snmp_walk.specs.Responses as sending
 
--- two lists of the results of Gets of the same names, in one view, are equal
+-- two lists of the results of Gets of the same names, in one MIB view, are equal
 one_got : (view : MibView) → IsMibView view → (names : List (List ℕ)) (a b : List VarBind) → AreGot view names a → AreGot view names b → a ≡ b
 one_got view good [] [] [] h k = refl
 one_got view good (o ∷ names) (p ∷ a) (q ∷ b) h k = grind (arith, common_steps, one_got view good names a b h.1 k.1, get_one)
@@ -111,7 +111,7 @@ module _ (agents : Agents) (lawful : AreLawful agents) (community : List ℕ) (i
       absurd (no_fit (subst (Fits agents.max_size) (sym all.2) (room.response_fits view all.0 one all.1)))
   response_fits room view one m (bulk all bindings k asked longest e) = let no : ⊥ = cc in absurd no
 
-  -- with one table, all results are from it
+  -- the agents have one table, and `all` are the results of Gets of the names in it
   module _ (view : MibView) (all : List VarBind) (one_view : agents.tables ≡ view ∷ []) (are : AreGot view names all) where
     one_good : IsMibView view
     one_good = good_view view (subst (λ (tables : List MibView). OneOf tables view) (sym one_view) (inl refl))
@@ -327,7 +327,8 @@ module _ {W S : Type 0} (facts : LinkFacts W) (link : W) (tries : ℕ) (communit
 
   abbrev HasMoved : W → WalkEnd → Type 0
   HasMoved after end = (times : ℕ) × (times ≤ tries) × (names ≢ [] → end ≢ ending.RequestTooLong → 0 < times) × (receives : ℕ)
-      × IsMoved facts link (replicate times (canon Asked)) receives (end ≡ ending.Link) after
+      × IsMoved facts link (replicate times (canon Asked)) receives (end ≡ ending.Link) after × AreFew facts link receives after
+      × (receives ≤ 64 * times)
 
   abbrev pub IsGotSo : W → S → WalkEnd → Type 0
   IsGotSo after sunk end = IsGot takes Asked names (Tried after) (From after) before sunk end
@@ -347,8 +348,15 @@ module _ {W S : Type 0} (facts : LinkFacts W) (link : W) (tries : ℕ) (communit
   sent_none end heard unsent keeps = grind (arith, common_steps, append-nil)
 
   moved_none : (end : WalkEnd) → (end ≡ ending.Link → ⊥) → (names ≢ [] → end ≢ ending.RequestTooLong → ⊥) → HasMoved link end
-  moved_none end fine unsent =
-      (0, omega arith, (λ named fits. absurd (unsent named fits)), 0, moves_as facts (omega arith) (λ f. absurd f) fine (moves_none facts link))
+  moved_none end fine unsent = (
+    0,
+    omega arith,
+    (λ named fits. absurd (unsent named fits)),
+    0,
+    moves_as facts (omega arith) (λ f. absurd f) fine (moves_none facts link),
+    (λ keeps. omega arith),
+    omega arith,
+  )
 
   -- if there are no names, `GotFacts` holds of a Get that is done and returned nothing
   nothing_got : (agents : Agents) → names ≡ [] → GotFacts agents Asked names [] [] (ending.Done 0)
@@ -447,7 +455,7 @@ module _ {W S : Type 0} (facts : LinkFacts W) (link : W) (tries : ℕ) (communit
           (y.2 ∙ ap (λ (n : ℕ). (facts.traffic link).sent ++ replicate n (canon Asked)) (y.4 none)))
           (λ long. absurd (omega (arith, long, ap length is, few, length-take n octets))) (λ long. absurd (short long))
           (λ keeps. let y = x keeps in (y.0, y.1, y.2, (λ silent. y.4 (a.2 silent)), λ _ sent fine. y.3 (λ cut. fine (a.0 cut))))
-          (m.0, m.1, (λ _ _. m.2), m.3, m.4)
+          (m.0, m.1, (λ _ _. m.2), m.3, m.4, m.5, m.6)
           (λ k low.
           let y = x k in
           all_lower_sent Asked ranged no_set id (id + 1) refl (omega arith) (facts.traffic link).sent (facts.traffic after).sent y.0 y.2

@@ -83,7 +83,7 @@ respelt m reply longer h s =
           (All-append (λ o. o < 256) h.size h.content h.are_octets (content_octets sequence_tag h.content reply h.same s.are_octets)));
     }
 
--- a long length has as many octets as its first octet says
+-- if the second octet of an element is at least 128, its length is long, and its content begins at the offset `long` - 126
 pub long_content : (tag long : ℕ) (content octets : List ℕ) → IsElement tag content octets → get_or octets 1 0 ≡ long → 128 ≤ long
     → take (length octets - (long - 126)) (drop (long - 126) octets) ≡ content
 long_content tag long content octets h first low = long_by h.length_octets content h.is_length h.parts
@@ -307,7 +307,7 @@ sent_loosely codec typed agents view how datagram octets m lawful one s spelt =
 
 -- ---- what arrives over a link
 
--- if the steps `xs`, x and `ys` led from `old` to `new`, then `xs` led from `old` to some state, and x led on from there
+-- if the steps `xs`, x and `ys` took the link from `old` to `new`, then `xs` took it from `old` to some state, and x took it from there to another
 up_to : {L X : Type 0} (step : L → X → L → Type 0) (xs ys : List X) (x : X) (old new : L) → InTurn step old (xs ++ x ∷ ys) new
     → (mid : L) × (next : L) × InTurn step old xs mid × step mid x next
 up_to step [] ys x old new h = (old, h.0, refl, h.1)
@@ -333,7 +333,8 @@ error_next : (ahead left : List Way) (next : Way) → IsNextWay ahead next left 
 error_next [] left next h error = let whole = h.0 in let never : ⊥ = cc in absurd never
 error_next (first ∷ more) left next h error = inl (sym error ∙ h.0)
 
--- Events can lead from `old` to `new` only so: the agent is unchanged, the datagram sent last was sent in them or before them, and no way is added.
+-- What holds after events took the link from `old` to `new`: the agent is unchanged, the datagram sent last was passed to a send in them or is the one from
+-- before, and no way is added.
 record IsLed (old : LooseLink) (events : List (Event (Unit {0}))) (new : LooseLink) : Type 0 where
   agent : agent_at new ≡ agent_at old
   last : OneOf (tried events) (last_sent new) ⊎ (last_sent new ≡ last_sent old)
@@ -390,7 +391,8 @@ module _ (facts : LinkFacts LooseLink)
       in_first silence more q one = absurd one
       in_first receive_failed more q one = absurd one
 
-  -- if genErr isn't of this sort, or no way is genErr, then all messages of this sort that arrive are replies or other Responses
+  -- over a link over which nothing was sent before: if no message of this sort has the status of genErr, or no way ahead is `GenErr`, then each message of
+  -- this sort that arrives is a reply or another Response
   pub come_loosely : Codec → EncodingIsOfType → (Sort : Message → Type 0) (events : List (Event (Unit {0}))) (old new : LooseLink)
       → ((m : Message) → Sort m → m.a ≡ general_error → OneOf (ways_left old) way.GenErr → ⊥) → IsMibView (agent_at old).view
       → last_sent old ≡ [] → InTurn (Happens facts) old events new → AreRepliesOf Sort (agents_at old) events

@@ -1,4 +1,4 @@
--- What an honest link delivers for a request: its reply (`reply_of`), or others until it counts as lost (`lost_of`).
+-- What an honest link delivers for a request: its reply (`reply_of`) or, if each try misses that, deliveries that lose the tries (`lost_of`).
 use Rattle.std.proofs.lemmas.Grind.{common_steps}
 use Rattle.std.proofs.Common.{◌≡◌, ◌≢◌, ◌⊎◌, inl, inr, ℕ, zero, suc, ◌+◌, ◌<◌, List, [], ◌∷◌, ◌++◌, length, replicate, refl, sym, ◌∙◌, ap, subst}
 use Rattle.std.proofs.Common.{arith, append-nil, Option, Some, None}
@@ -166,7 +166,8 @@ module _ {L : Type 0} (facts : LinkFacts L) (recording : (link : L) → facts.ho
       ) in
       (lost.0, unused (t.sent.1.used s.honest) ∙ lost.1, lost.2)
 
--- over an honest link: if all tries of q missed the reply, the deliveries used lose them (`lost_of`); if d answered q, d is a reply to q (`reply_of`)
+-- over an honest link, if `IsAsked` holds of the datagrams sent before: if all tries of q missed the reply, the deliveries used lose them (`lost_of`); if d
+-- answered q, d is a reply to q (`reply_of`)
 module _ {L : Type 0} (facts : LinkFacts L) (recording : (link : L) → facts.honest link → facts.records link) (Other : List ℕ → Type 0) (q : List ℕ)
     (tries : ℕ) (old new : L) (honest : facts.honest old) (asked : IsAsked (facts.agents old) Other q (facts.traffic old).sent) where
   pub lost_of : AreTried facts Other q tries old outcome.missed new

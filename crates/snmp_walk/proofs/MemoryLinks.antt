@@ -54,7 +54,7 @@ pub silent_by : (r : Option ℕ) (number : ℕ) (Next NoReply : ℕ → Type 0) 
 silent_by None number Next NoReply next none = (number, next, none)
 silent_by (Some n) number Next NoReply next none = tt
 
--- the table for a datagram is the one at its index in `uses`, if `uses` is long enough
+-- the table for datagram `number` is at the index `uses[number - 1]`, if `uses` has at least `number` items
 pub table_found : (tables : List MibView) (uses : List ℕ) (number i index : ℕ) (d : MibView) → 0 < number → i ≡ number - 1 → i < length uses
     → index ≡ get_or uses i index → index < length tables → IsTableFor tables uses number (get_or tables index d)
 table_found tables uses number i index d some at within is low = inl (

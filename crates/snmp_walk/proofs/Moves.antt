@@ -152,12 +152,12 @@ module _ {L : Type 0} (facts : LinkFacts L) (Other : List ℕ → Type 0) (q : L
   few_before tries old new h keeps =
       omega (arith, ap length (sent_before tries old new h keeps), length-append (facts.traffic old).sent (replicate tries q), length-replicate tries q)
 
-  -- a try of the request adds it to the list of datagrams sent
+  -- over a link that lists what is sent, a try of the request adds it to the list
   sent_try : (what : Outcome) (old new : L) (strays : List (List ℕ)) → IsTry facts Other q what old strays new → facts.records old
       → (facts.traffic new).sent ≡ (facts.traffic old).sent ++ q ∷ []
   sent_try what old new strays t keeps = grind (arith, common_steps, sent_none, moves_on, moved_delivering, moved_ending, sent_all)
 
-  -- the tries of a request move the link (`IsMovedByTries`)
+  -- if at least one try is allowed, the tries of a request move the link (`IsMovedByTries`), which failed if and only if the outcome is `cut_off`
   pub moved_of : (tries : ℕ) → 0 < tries → (what : Outcome) (old new : L) → AreTried facts Other q tries old what new
       → IsMovedByTries facts old q tries (what ≡ outcome.cut_off) new
   moved_of tries some outcome.missed old new h = (
@@ -167,6 +167,7 @@ module _ {L : Type 0} (facts : LinkFacts L) (Other : List ℕ → Type 0) (q : L
     64 * tries,
     moves_as facts (omega arith) (λ f. absurd f) (λ e. cc) (moved_before tries old new h),
     few_before tries old new h,
+    omega arith,
   )
   moved_of tries some what old new h = by_last h.4
     where
@@ -189,6 +190,7 @@ module _ {L : Type 0} (facts : LinkFacts L) (Other : List ℕ → Type 0) (q : L
               ap length (sent_try what h.2 new t.0 t.1 ((moved_before h.0 old h.2 h.3).keeps keeps)),
               length-append (facts.traffic h.2).sent (q ∷ []),
             ),
+        omega arith,
       )
       by_last (inr f) = (
         h.0 + 1,
@@ -198,9 +200,11 @@ module _ {L : Type 0} (facts : LinkFacts L) (Other : List ℕ → Type 0) (q : L
         once_more (moves_as facts (omega arith) (λ _. f.0) (λ _. tt) f.1.2),
         λ keeps.
             omega (arith, few_before h.0 old h.2 h.3 keeps, ap (λ (t : Traffic). length t.sent) f.1.1),
+        omega arith,
       )
 
-  -- the request was sent at most `tries` times: at least once unless the link failed, and exactly `tries` times if no try received its reply
+  -- by the list of the datagrams sent, the request was sent at most `tries` times: at least once unless the link failed, and exactly `tries` times if no try
+  -- received its reply
   abbrev pub IsSent : (tries : ℕ) → Outcome → L → L → Type 0
   IsSent tries what old new = (times : ℕ) × (times ≤ tries) × ((facts.traffic new).sent ≡ (facts.traffic old).sent ++ replicate times q)
       × ((what ≡ outcome.cut_off → ⊥) → 0 < times) × (what ≡ outcome.missed → times ≡ tries)
@@ -222,7 +226,7 @@ module _ {L : Type 0} (facts : LinkFacts L) (Other : List ℕ → Type 0) (q : L
   -- if `IsMovedByTries` holds with `failed`, it holds with any proposition equivalent to `failed`
   pub tries_as : {old new : L} {tries : ℕ} {failed other : Type 0} → (failed → other) → (other → failed) → IsMovedByTries facts old q tries failed new
       → IsMovedByTries facts old q tries other new
-  tries_as there back h = (h.0, h.1, h.2, h.3, moves_as facts (omega arith) there back h.4, h.5)
+  tries_as there back h = (h.0, h.1, h.2, h.3, moves_as facts (omega arith) there back h.4, h.5, h.6)
 
 -- ---- the ends that an outcome allows
 

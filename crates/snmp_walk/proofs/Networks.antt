@@ -1,4 +1,4 @@
--- Over a faithful network, what arrives at the walk are replies of its agents (`replies_over`).
+-- Over a faithful network, each message that arrives at the walk is a reply of the agents at the other end (`replies_over`).
 use Rattle.std.proofs.Common.{◌≡◌, inl, inr, ℕ, List, [], ◌∷◌, ◌++◌, refl, sym, ◌∙◌, ap, subst, append_assoc, append-nil, flat_map, arith, length}
 use Rattle.std.proofs.Common.{map, Option, Some, None, Ok, Err, take}
 use Rattle.std.specs.Prelude.{Result}
@@ -208,7 +208,7 @@ send_after (silence ∷ events) more h k = h
 send_after (receive_failed ∷ events) more h k = h
 
 module _ {L : Type 0} (facts : LinkFacts L) (q : List ℕ) where
-  -- events led from `old` to `new`, and no datagram but q was sent in them
+  -- events took the link from `old` to `new`, and no datagram but q was passed to a send in them
   abbrev pub Grows : L → L → Type 0
   Grows old new = (events : List (Event (Unit {0}))) × InTurn (Happens facts) old events new × ((d : List ℕ) → OneOf (tried events) d → d ≡ q)
 
@@ -255,7 +255,7 @@ module _ {L : Type 0} (facts : LinkFacts L) (q : List ℕ) where
     missed_tries (strays ∷ more) old new h =
         grows_on old h.0 new (one_try old h.0 strays outcome.missed h.1) (missed_tries more h.0 new h.2)
 
-    -- if r answered q, then before r was delivered, only q was sent (`Grows`)
+    -- if r answered q, then before r was delivered, only q was passed to sends (`Grows`)
     pub answered_tries : (tries : ℕ) (old new : L) (r : List ℕ) → AreTried facts Other q tries old (outcome.answered r) new
         → (last : L) × Grows old last × facts.delivers last r new
     answered_tries tries old new r (earlier, few, before, missed, inl (strays, t)) = (
@@ -476,7 +476,7 @@ pub still_so : {N Peer : Type 0} (carries : N → Happening Peer → N → Type 
 still_so carries Holds on [] old new it h = subst Holds (sym h) it
 still_so carries Holds on (e ∷ run) old new it h = still_so carries Holds on run h.0 new (on old h.0 e it h.1) h.2
 
--- what the agents return for the latest datagram is what their one agent replies to it
+-- if a receive returned what one of the agents replies to the request, or nothing without a reply, then the agents may return that (`Gives`)
 pub gives_of : (agents : Agents) (view : MibView) → OneOf agents.tables view → (agent : Agent) → agent ≡ agent_in agents view
     → (request : Option (List ℕ)) (got : Option ℕ) (buffer : List ℕ) → RepliesTo agent request (event_of_got (Ok got) buffer)
     → Gives agents request (received got buffer)

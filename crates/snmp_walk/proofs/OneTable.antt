@@ -156,12 +156,12 @@ module _ (rows : List VarBind) (got : VarBind) (Next Got : List ℕ → VarBind 
   whole_is given (inl h) = grind (arith, common_steps, whole_given)
   whole_is given (inr h) = sym (alone_whole given h)
 
--- the rows below the root that come after its wire form are all rows below it
+-- if the rows are instances, those below the root that come after its wire form are all rows below it
 pub rest_from_wire : (root : List ℕ) (rows : List VarBind) → AreInstances rows → rest_of root (wire root) rows ≡ rows_below root rows
 rest_from_wire root [] h = refl
 rest_from_wire root (r ∷ rows) h = grind (arith, common_steps, rest_from_wire root rows h.3, cond_both, below_after_wire)
 
--- a walk from the root's wire form is the walk of the root
+-- if the rows are instances, a walk from the root's wire form is the walk of the root
 pub walk_from_wire : (m : Mode) (root : List ℕ) (got : VarBind) (rows : List VarBind) → AreInstances rows
     → walk_from m root (wire root) got rows ≡ walk_of m root got rows
 walk_from_wire mode.Plain root got rows h = ap (or_only got) (rest_from_wire root rows h)

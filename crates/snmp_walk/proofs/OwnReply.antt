@@ -94,7 +94,7 @@ module _ (codec : Codec) (q : Message) (ranged : IsMessageInRange q) (no_set : q
         is_response = is_response;
       }
 
--- an agent doesn't drop a request with its community if it has room for each Response to that
+-- an agent doesn't drop a request of SNMPv2c with its community, of a kind that it serves, if it has room for each Response to it
 pub no_drop : Codec → (q : Message) → Spells q (canon q) → q.version ≡ pos 1 → (agent : Agent) → q.community ≡ agent.community → IsServed q.kind
     → ((r : Message) → IsResponse agent.view agent.max_size q r → Fits agent.max_size r) → (cause : DropReason) → IsDropped agent (canon q) cause → ⊥
 no_drop codec q own version agent named served fits = elim [
@@ -108,7 +108,7 @@ no_drop codec q own version agent named served fits = elim [
     same : (m : Message) → Spells m (canon q) → m ≡ q
     same m spelt = (codec.one m q (canon q) (canon q) [] [] spelt own refl).0
 
--- a request for one name has one answer
+-- the answers to a request for one name are one binding
 pub one_answer : (R : VarBind → VarBind → Type 0) (o : List ℕ) (bindings : List VarBind) → AreAnswers R (record { name = o; value = null_value } ∷ []) bindings
     → (p : VarBind) × (bindings ≡ p ∷ []) × R (record { name = o; value = null_value }) p
 one_answer R o [] h = absurd h
@@ -308,7 +308,7 @@ module _ (codec : Codec) (q : Message) (ranged : IsMessageInRange q) (no_set : q
       let is = form may_be in
       subst (IsResponseTo q.community id) (sym is.3) (record { version = version; community_is = refl; kind = refl; id_is = is_id })
 
--- the reply of one of the agents to the waiting request, or another Response that it may send, is honest
+-- the reply of one of the agents to the waiting request, or another Response that one of them may send to it, is honest
 pub any_reply : Codec → (agents : Agents) → AreLawful agents → (w : WalkState) → IsWalkState w → is_over w.phase ≡ false → (reply : List ℕ) (m : Message)
     → Spells m reply → IsReplyFrom agents (canon (request_of w)) reply ⊎ IsResponseFrom agents (canon (request_of w)) m
     → IsReplyTo (IsNextFrom agents) (IsGotFrom agents) (IsTooLarge agents) w m
@@ -413,7 +413,8 @@ asked_of codec agents sent w lawful good waits earlier = record {
   ];
 }
 
--- over an honest link, the reply m that was read is an honest reply to the waiting request, and full if the agents have room
+-- over an honest link, if what was sent before are requests with lower ids, the reply m that was read is an honest reply to the waiting request, and full if
+-- the agents have room
 pub from_of : {L : Type 0} (facts : LinkFacts L) → ((link : L) → facts.honest link → facts.records link) → Codec → (tries : ℕ) (w : WalkState) (link after : L)
     → (facts.honest link → AreLawful (facts.agents link)) → IsWalkState w → is_over w.phase ≡ false → (m : Message) (d : List ℕ)
     → IsTried facts tries w link (outcome.answered d) after → Spells m d → IsResponseTo w.community w.id m

@@ -1,4 +1,4 @@
--- What a walk has returned increases (`part_rises`), and a prefix of it is progress too (`part_prefix`).
+-- The names that a walk has returned increase (`part_rises`), and a prefix of a part of a walk is a part of it too (`part_prefix`).
 use Rattle.std.proofs.{lemmas.Grind.common_steps}
 use Rattle.std.proofs.Common.{◌≡◌, ◌⊎◌, inl, inr, ℕ, true, false, List, [], ◌∷◌, ◌++◌, refl, sym, ◌∙◌, ap, subst, arith, append-nil}
 use Rattle.snmp_wire.specs.Message.{VarBind}

@@ -95,7 +95,7 @@ module _ {L : Type 0} (codec : Codec) (facts : LinkFacts L) (tries : ℕ) (first
     waits : (w : WalkState) (given : List VarBind) → Reached w given → is_over w.phase ≡ false
     waits w given s = waiting Increases Named Small rising_answers first given w.asked w.phase s.anyhow.stage
 
-    -- the reply that was read is an agent's reply to the waiting request, or another Response that the agent may send to this request
+    -- the reply that was read is the reply of one of the agents to the waiting request, or another Response that one of them may send to it
     read_is : (w : WalkState) (l new : L) (given : List VarBind) (s : Reached w given) → IsWalkState w → (r : List ℕ) (m : Message) → Spells m r → Sort m
         → IsResponseTo w.community w.id m → (h : Tried w l (outcome.answered r) new) → (rest : List (Event (Unit {0})))
         → all ≡ s.events ++ ((tried_events w l new (outcome.answered r) h).0 ++ rest)

@@ -82,7 +82,7 @@ some_read : (w : WalkState) (bindings : List VarBind) → is_misplaced (asked_fo
 some_read w [] fine some = absurd (some refl)
 some_read w (b ∷ more) fine some = rw fine
 
--- if the bindings aren't out of place, a reply is read by what follows the rows at its start
+-- if there are bindings, and `is_misplaced` doesn't hold of them, a reply is read by what follows the rows at its start
 module _ (w : WalkState) (bindings : List VarBind) (fine : is_misplaced (asked_for w.method) bindings ≡ false) (last : List ℕ) (rows : ℕ) (after : After)
     (h : AreRowsRead w.asked bindings (reply_rows w.root w.asked bindings) last rows after) where
   read : (bindings ≡ [] → ⊥) → reads_next w bindings ≡ reads_as after w (take rows bindings)

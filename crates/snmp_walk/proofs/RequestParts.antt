@@ -64,13 +64,13 @@ text_bound : (text : List ℕ) → length (canon_value (octet_string text)) ≤ 
 unfolding canon_content
 text_bound text = value_bound (octet_string text)
 
--- a binding has at most 18 octets besides the numbers of its name and the content of its value
+-- a binding has at most 18 octets besides five for each number of its name and the content of its value
 pub binding_bound : (name : List ℕ) (value : Datum)
     → length (canon_binding (record { name = name; value = value })) ≤ 18 + 5 * length name + length (canon_content value)
 unfolding canon_binding
 binding_bound name value = omega (arith, element_bound, length-append {A = ℕ}, name_bound name, value_bound value)
 
--- a list of one binding has at most 18 octets besides the numbers of its name and the content of its value
+-- a list of one binding has at most 18 octets besides five for each number of its name and the content of its value
 pub one_bound : (name : List ℕ) (value : Datum)
     → length (canon_bindings (record { name = name; value = value } ∷ [])) ≤ 18 + 5 * length name + length (canon_content value)
 unfolding canon_bindings

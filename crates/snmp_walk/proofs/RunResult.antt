@@ -1,4 +1,4 @@
--- The loop of `run_walk`: its invariant `Runs` holds at the start (`runs_first`), and each request keeps it or ends the run with what the contract says
+-- The loop of `run_walk`: its invariant `Runs` holds at the start (`runs_first`), and each request preserves it or ends the run with what the contract says
 -- (`turn_of`).
 use Rattle.std.proofs.{lemmas.Grind.common_steps, lemmas.List.flat_map_more, lemmas.Bool.and_from, lemmas.Bool.false≢true}
 use Rattle.std.proofs.Common.{◌≡◌, inl, inr, ℕ, ◌+◌, ◌^◌, ◌<◌, List, [], ◌∷◌, ◌++◌, refl, sym, ◌∙◌, ap, true, false, subst, arith, append-nil}
@@ -142,7 +142,8 @@ module _ {S L : Type 0} {facts : LinkFacts L} {takes : S → VarBind → Result 
       → AreTried facts (IsNotAwaited w.community w.id) q tries here what after → Tried other
   tried_by {q} {what} {other} is same h = grind (arith, common_steps)
 
-  -- if the link was honest when the run began, it still is, and what was sent over it are the request of w and requests with lower ids
+  -- if the link was honest when the run began, and earlier runs had lower ids, it is still honest, and what was sent over it are the request of w and
+  -- requests with lower ids
   asked : IsHonestFrom facts first.id link → facts.honest here × IsEarlier (facts.traffic here).sent w
   asked h = (r.has_moved.by.moved.honest h.0, r.earlier (recording link h.0) h.1)
 
@@ -217,7 +218,7 @@ module _ {S L : Type 0} {facts : LinkFacts L} {takes : S → VarBind → Result 
   last_sent : (what : Outcome) (end : WalkEnd) → Suits what end → Tried what → IsSentLast end w
   last_sent what end suits tried keeps = grind (arith, common_steps, sent_on, agrees)
 
-  -- if no reply arrived over an honest link, one of the agents has no reply to the request, or the deliveries lost the reply
+  -- if no reply arrived over an honest link, and earlier runs had lower ids, one of the agents has no reply to the request, or the deliveries lost the reply
   no_reply : Tried outcome.missed → IsHonestFrom facts first.id link → IsUnreplied w
   no_reply tried h =
       let q : List ℕ = canon (request_of w) in

@@ -40,7 +40,7 @@ asks_stage first given phase.Last by h paced = (h.1, h.2)
 asks_stage first given phase.Over by h paced = absurd h
 asks_stage first given phase.Rows by h paced = grind (arith, common_steps, last_named, named_after)
 
--- if the walk that began as `first` has reached w, then w's request is one of its requests (`Asks`)
+-- if the walk that began as `first` has reached w, then w's request is one that it can send, whatever rows it passes on later (`Asks`)
 pub asks_now : (first w : WalkState) (given rows : List VarBind) → Reaches Increases Named first w given → Asks first (given ++ rows) w
 asks_now first w given rows h = record { same = h.same; name = asks_more first given rows w.phase w (asks_stage first given w.phase w h.stage h.paced) }
 
@@ -111,6 +111,7 @@ module _ {W : Type 0} (facts : LinkFacts W) where
       receives = 0;
       moved = moves_none facts link;
       few = λ keeps. omega arith;
+      within = omega arith;
     };
     ids = omega arith;
     short = omega arith;
@@ -139,6 +140,14 @@ module _ {W : Type 0} (facts : LinkFacts W) where
           moved = subst (λ (d : List (List ℕ)). IsMoved facts old d (h.by.receives + t.3) failed new) (sym (sent_push h.by.requests one))
               (moves_on facts h.by.moved t.4);
           few = λ keeps. omega (arith, h.by.few keeps, t.5 (h.by.moved.keeps keeps));
+          within = omega (
+            arith,
+            h.by.within,
+            t.6,
+            ap length (sent_push h.by.requests one),
+            length-append (sent_by h.by.requests) (replicate t.0 q),
+            length-replicate t.0 q,
+          );
         };
         ids = omega (arith, h.ids, longer);
         short = subst (λ (k : ℕ). octets_in (sent_by (h.by.requests ++ one ∷ [])) ≤ k * tries * 1000) (sym longer)

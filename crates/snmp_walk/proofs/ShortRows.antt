@@ -1,4 +1,4 @@
--- If a table has no long strings, messages of 1472 octets have room for each of its rows (`rows_have_room`).
+-- If a table has no string of more than 700 octets, and the community has at most 30, messages of 1472 octets have room for each row (`rows_have_room`).
 use Rattle.std.proofs.{lemmas.Grind.common_steps, Common.◌≡◌, Common.◌≤◌, Common.length, Common.arith, Common.pos, Common.◌∷◌, Common.[]}
 use Rattle.snmp_wire.specs.Message.{Datum, VarBind, integer_value, octet_string, null_value, object_id, ip_address, counter32, gauge32, time_ticks}
 use Rattle.snmp_wire.specs.Message.{opaque_octets, counter64, no_such_object, no_such_instance, end_of_mib_view}

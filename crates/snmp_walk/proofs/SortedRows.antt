@@ -1,4 +1,5 @@
--- Sorted rows of a table, and what agents return, by the tests of names; honest answers are such rows (`views_answer`).
+-- Rows sorted by name, and what agents return for a GetNext and a Get, by tests of names and values. What agents of MIB views return passes these tests
+-- (`views_answer`).
 use Rattle.std.proofs.Common.{◌≡◌, ℕ, ◌≤◌, true, false, List, [], ◌∷◌, length, arith, inl, inr, refl, sym, ap, subst}
 use Rattle.snmp_wire.specs.Message.{VarBind, end_of_mib_view, Datum, no_such_object, no_such_instance}
 use Rattle.snmp_walk.specs.{Names.is_end, Names.is_missing, Names.comes_after, private.ComputedStep.if_present, Walk.rows_after, Walk.rows_named}
@@ -9,36 +10,38 @@ use Rattle.snmp_agent.specs.table.Table.{MibView, IsInstanceValue, IsMibView, Is
 use Rattle.snmp_agent.specs.table.Table.{end_of_view}
 use Rattle.snmp_walk.proofs.Names.{less_precedes}
 
--- each name comes after o
+-- the name of each row comes after o
 abbrev pub AreAfter : List ℕ → List VarBind → Type 0
 AreAfter o [] = Unit {0}
 AreAfter o (row ∷ rows) = (comes_after o row.name ≡ true) × AreAfter o rows
 
--- the names increase
+-- the names of the rows increase
 abbrev pub AreIncreasing : List VarBind → Type 0
 AreIncreasing [] = Unit {0}
 AreIncreasing (row ∷ rows) = AreAfter row.name rows × AreIncreasing rows
 
--- each is an instance that an agent may have: its name has at least three numbers, and it has a value
+-- each row is an instance that an agent may have: its name has at least three numbers, and it has a value
 abbrev pub AreInstances : List VarBind → Type 0
 AreInstances [] = Unit {0}
 AreInstances (row ∷ rows) =
     (3 ≤ length row.name) × (is_end row.value ≡ false) × (is_missing row.value ≡ false) × AreInstances rows
 
--- the first of the bindings, or o with endOfMibView if there is none
+-- the first of the rows or, if there are none, the name o with endOfMibView
 abbrev pub or_end : List ℕ → List VarBind → VarBind
 or_end o [] = record { name = o; value = end_of_mib_view }
 or_end o (p ∷ more) = p
 
--- what agents return satisfies this whatever their tables hold (RFC 3416, sections 4.2.1 and 4.2.2)
+-- What holds of the answers of agents (RFC 3416, sections 4.2.1 and 4.2.2). An answer to a GetNext has endOfMibView or a name that comes after the requested
+-- one, and not noSuchObject or noSuchInstance. An answer to a Get has the requested name, and not endOfMibView.
 pub record AreLawfulReplies (Next Got : List ℕ → VarBind → Type 0) : Type 0 where
   pub rises : (o : List ℕ) (p : VarBind) → Next o p → is_end p.value ≡ false → comes_after o p.name ≡ true
   pub is_value : (o : List ℕ) (p : VarBind) → Next o p → is_missing p.value ≡ false
   pub same_name : (o : List ℕ) (p : VarBind) → Got o p → p.name ≡ o
   pub is_answer : (o : List ℕ) (p : VarBind) → Got o p → is_end p.value ≡ false
 
--- The agents serve one table. Its rows are sorted by name, its answer to a GetNext is the first row after the name, and `got` is its answer to a Get of the
--- name that the walk begins from.
+-- The agents serve one table. Its rows are sorted by name. Its answer to a GetNext is the first row after the name or, if there is none, that name with
+-- endOfMibView. `got` is its answer to a Get of the name that the walk begins from: the only row with this name if it has a value, and otherwise there is no
+-- such row.
 pub record IsOneTable (rows : List VarBind) (got : VarBind)
     (Next Got : List ℕ → VarBind → Type 0) (first : WalkState) : Type 0 where
   pub rising : AreIncreasing rows
@@ -47,7 +50,7 @@ pub record IsOneTable (rows : List VarBind) (got : VarBind)
   pub answer : (p : VarBind) → Got first.asked p → p ≡ got
   pub row : if_present got ≡ rows_named first.asked rows
 
--- ---- what tables answer is sorted, and is what agents return
+-- ---- the answers of MIB views
 
 pub value_no_end : (v : Datum) → IsInstanceValue v → is_end v ≡ false
 value_no_end end_of_mib_view h = absurd h

@@ -67,7 +67,7 @@ module _ (Next Got : List ℕ → VarBind → Type 0) (Large : ℕ → VarBind �
   pub root_is : (w : WalkState) (given : List VarBind) → Reaches Next Got first w given → w.root ≡ first.root
   root_is w given h = ap (λ (v : WalkState). v.root) h.same
 
-  -- a plain walk that returned nothing has made no request before the waiting one
+  -- a plain walk that returned nothing, and waits for the next instances, has sent no request before the waiting one
   plain_pace : (given : List VarBind) (w : WalkState) → w.phase ≡ phase.Rows → Reaches Next Got first w given → length given ≡ 0 → first.mode ≡ mode.Plain
       → w.id ≡ first.id
   plain_pace given w waits h none plain = grind (arith, common_steps, length-append, few_replies)
@@ -215,7 +215,7 @@ module _ (Next Got : List ℕ → VarBind → Type 0) (Large : ℕ → VarBind �
 
 -- ---- what holds of a step whatever the reply is
 
--- what takes the place of `Large` if replies needn't be honest: any binding may have no room
+-- what replaces `Large` if replies needn't be honest: any binding may have no room
 abbrev pub Small : ℕ → VarBind → Type 0
 Small id p = Unit {0}
 

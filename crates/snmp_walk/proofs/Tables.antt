@@ -1,4 +1,4 @@
--- With several tables, each row that a walk returns is from one of them, and no name that all tables have is skipped.
+-- With several tables, each row below the root that a walk returns is from one of them, and no name that all tables have is skipped.
 use Rattle.std.proofs.{lemmas.Grind.common_steps, lemmas.Bool.false≢true, lemmas.Bool.false_from_ne_true}
 use Rattle.std.proofs.Common.{◌≡◌, ◌⊎◌, inl, inr, ℕ, ◌≤◌, Bool, true, false, List, [], ◌∷◌, ◌++◌, length, refl, sym, ◌∙◌, ap, subst, arith}
 use Rattle.std.proofs.Common.{length-append}
@@ -93,7 +93,7 @@ successor_of codec view o n p (successor s) h a = s
 successor_of codec view o n p (end_of_view none is) h a =
     absurd (none h.0 h.1 (subst (Precedes o) (sym h.2) (after_precedes codec o n a)))
 
--- the answer to a GetNext of o is the row n after o, or comes before it
+-- if the table has the name n after o, the answer to a GetNext of o has this name, or comes before it
 up_to : Codec → (view : MibView) (o n : List ℕ) (p : VarBind) → IsNext view o p → HasName view n → comes_after o n ≡ true
     → (n ≡ p.name) ⊎ (comes_after p.name n ≡ true)
 up_to codec view o n p next h a = by_order (slice_cmp nat_cmp p.name n) refl

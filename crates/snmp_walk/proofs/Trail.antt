@@ -1,4 +1,4 @@
--- A chain of GetNext answers is a trail up to the first answer outside the subtree.
+-- A chain of GetNext answers is a trail up to the first answer that isn't an instance below the root.
 use Rattle.std.proofs.Common.{◌≡◌, ◌≢◌, ℕ, ◌+◌, ◌≤◌, false, List, [], ◌∷◌, ◌++◌, length, length-append, refl, sym, ◌∙◌, arith}
 use Rattle.std.proofs.{lemmas.List.Elements.All-head, lemmas.List.Elements.All-tail, lemmas.Bool.or_from, lemmas.Bool.false≢true}
 use Rattle.std.specs.{Prelude.All, Prelude.flat_map, List.list_any}
@@ -29,7 +29,7 @@ module _ (Next : List ℕ → VarBind → Type 0) (root : List ℕ) where
   trail-append o [] ys h k = k
   trail-append o (x ∷ xs) ys h k = (h.0, h.1, trail-append x.name xs ys h.2 k)
 
-  -- each name of a trail begins with the root
+  -- if o begins with the root, so does the last name of a trail from o
   pub trail_begins : (o s : List ℕ) (trail : List VarBind) → o ≡ root ++ s → IsTrail Next root o trail → (u : List ℕ) × (last_name o trail ≡ root ++ u)
   trail_begins o s [] at h = (s, at)
   trail_begins o s (p ∷ trail) at h = trail_begins p.name h.1.below.0 trail h.1.below.2 h.2

@@ -8,7 +8,7 @@ use Rattle.snmp_walk.specs.Tries.{InTurn, Sends, SendFails, ReceivesDatagram, Re
 use Rattle.snmp_walk.specs.declared.link.Link.{Ghosts as LinkFacts}
 use Rattle.snmp_walk.proofs.{Members.one_append, Moves.moves_as, Moves.received as moved_by}
 
--- if the steps `xs` led in turn from `old` to `now`, and x from `now` to `new`, then `xs` and x led in turn from `old` to `new`
+-- if the steps `xs` took the link in turn from `old` to `now`, and x from `now` to `new`, then `xs` and x took it in turn from `old` to `new`
 turn_more : {L X : Type 0} (step : L → X → L → Type 0) (old now new : L) (xs : List X) (x : X) → InTurn step old xs now → step now x new
     → InTurn step old (xs ++ x ∷ []) new
 turn_more {L} step old now new [] x h s = (new, subst (λ (l : L). step l x new) h s, refl)

@@ -1,4 +1,5 @@
--- The variables of a view are a list sorted by name; Get and GetNext read off that list (`next_first`, `get_one`).
+-- The variables of a view are a list sorted by name. A GetNext returns the first of them after the name, or endOfMibView (`next_first`), and a Get has at
+-- most one answer (`get_one`).
 use Rattle.std.proofs.Common.{arith, ◌≡◌, inl, inr, ℕ, T, Bool, true, false, List, [], ◌∷◌, map, refl, sym, ◌∙◌, ap, subst, Some, None}
 use Rattle.std.proofs.lemmas.Grind.{common_steps}
 use Rattle.std.proofs.lemmas.Bool.{false≢true, and_parts, false_from_ne_true, cond-true, cond-false, cond_both}
@@ -136,7 +137,7 @@ module _ (view : MibView) (good : IsMibView view) where
   row_after : (o : List ℕ) (p : VarBind) → IsSuccessor view o p → OneOf (rows_after o (variables view)) p
   row_after o p s = keeps (λ row. comes_after o row.name) p (variables view) (ap is_lt (less_precedes o p.name s.after)) (row_in p s.row)
 
-  -- the answer to a GetNext is the first row after the name, or endOfMibView
+  -- the answer to a GetNext is the first row after the name or, if there is none, endOfMibView
   next_by : Codec → (o : List ℕ) (p : VarBind) (suffix : List VarBind) → suffix ≡ rows_after o (variables view) → IsNext view o p → p ≡ or_end o suffix
   next_by codec o p [] e (successor s) = absurd (subst (λ (rows : List VarBind). OneOf rows p) (sym e) (row_after o p s))
   next_by codec o p [] e (end_of_view none is) = is

@@ -49,7 +49,7 @@ rows_read readings = flat_map (λ r. r.rows) readings
 -- The walk read these datagrams, in order, as these rows, and its state went from v to w. Each
 -- datagram answered the request that waited then, and the link went from one state to the next,
 -- from `old` to `new`. `Tried` says what came of a request over the link. `IsWalkState` holds of
--- each state in which the walk waited.
+-- each state in which the walk waited for one of these datagrams.
 abbrev pub AreRead : {L : Type 0} → (Tried : WalkState → L → Outcome → L → Type 0) → WalkState → L
     → List Reading → WalkState → L → Type 0
 AreRead {L} Tried v old [] w new = (w ≡ v) × (new ≡ old)
@@ -236,7 +236,8 @@ pub record ReplyFacts (agents : Agents) (Silent : WalkState → Type 0) (first :
   pub common_names : (name : List ℕ) → IsOfWalk first name → IsInEach agents name
       → (prefix : List VarBind) (last : VarBind) → rows ≡ prefix ++ last ∷ []
       → (Precedes last.name name → ⊥) → OccursOnce rows name
-  -- if the walk is done, each name of the walk that all tables have occurs once in `rows`
+  -- if the walk is done, each name that belongs to the walk (`IsOfWalk`), and that all tables
+  -- have, occurs once in `rows`
   pub common_at_done : IsDone end → (name : List ℕ) → IsOfWalk first name → IsInEach agents name
       → OccursOnce rows name
   -- a plain walk that is done returned at least one row
@@ -295,7 +296,8 @@ pub record SendFacts (agents : Agents) (honest : Type 0) (tries : ℕ) (old : Tr
   pub few_of_names : honest → (k : ℕ) → CountsNames agents first k
       → length requests ≤ k + 1 + gets first.mode
   -- if `honest` holds, and there is room for all bindings that each request for the next instances
-  -- asks for, a walk by GetBulk with r repetitions sends at most k / r + 1 of them
+  -- asks for, a walk of k names below the root, by GetBulk with r repetitions, sends at most
+  -- k / r + 1 such requests, and a Get
   pub few_where_all_fit : honest
       → ((t : Try) → OneOf requests t → t.by.phase ≡ phase.Rows → HasRoomForAll agents t.by)
       → (k : ℕ) → CountsNames agents first k

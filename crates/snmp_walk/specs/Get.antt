@@ -98,8 +98,9 @@ pub record IsTooBig (agents : Agents) (request : Message) (names : List (List �
   pub got : AreGot view names all
   pub no_room : Fits agents.max_size (response request (pos 0) (pos 0) all) → ⊥
 
--- How a Get can end. `Fails` says which error statuses a reply can have, `Bad` that it can have
--- other names than those asked for, and `Silent` that it can fail to arrive.
+-- How a Get can end. `Fails` says which error statuses a reply can have, `Bad` that a reply
+-- without an error can have other bindings than those for the names, and `Silent` that it can fail
+-- to arrive.
 abbrev pub IsEndOfGet : (Fails : ℤ → ℤ → Type 0) → (Bad Silent : Type 0) → Message
     → List (List ℕ) → WalkEnd → Type 0
 IsEndOfGet Fails Bad Silent request names (ending.Done count) = count ≡ length names
@@ -152,8 +153,8 @@ pub record GotFacts (agents : Agents) (request : Message) (names : List (List �
   -- with one table, `rows` are all results of Gets of the names, if the Get is done
   pub all_at_done : (view : MibView) (all : List VarBind) → agents.tables ≡ view ∷ []
       → AreGot view names all → IsDone end → rows ≡ all
-  -- it ends with an error status only if the agents' messages have no room for the results, and
-  -- never because the reply has other names than those asked for
+  -- it ends with an error status only if an agent's messages have no room for the results, and
+  -- never with `BadReply`
   pub ends : IsEndOfGet (IsTooBig agents request names) ⊥ (Unit {0}) request names end
   -- if there is room, it is done unless the link or the sink stops it or no reply arrives
   pub done_unless_lost : HasRoomForGet agents request names → IsDoneOrCutOff end

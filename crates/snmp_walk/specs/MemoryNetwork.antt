@@ -52,8 +52,9 @@ replies_by (at_agents (sent peer d)) = d ∷ []
 replies_by _ = []
 
 -- A receive uses the next delivery if it is for its end, and leaves the deliveries `left`. It
--- returns the datagram with that number whole, or nothing if there is none, or fails. The agent's
--- receive fails only if the datagram is longer than any over UDP. A send uses no delivery.
+-- returns the whole datagram whose number `IsNextReply` or `IsNextRequest` says, or nothing if no
+-- datagram has it, or fails. The agent's receive fails only if the datagram is longer than any
+-- over UDP. A send uses no delivery.
 abbrev pub Uses : MemoryNetwork → Happening (Unit {0}) → (left : List Delivery) → Type 0
 Uses old (at_walk (came peer d)) left =
     (number : ℕ) × IsNextReply old.answer (ahead_of old) (Some number) left
@@ -75,7 +76,7 @@ Uses old (at_agents receive_failed) left =
 Uses old _ left = left ≡ ahead_of old
 
 -- the number of the reply that the agent sent in its last turn, after this event: 0 if it sent
--- none, and none if its receive or its send failed; `count` is the number of all replies so far
+-- none, and None if its receive or its send failed; `count` is the number of all replies so far
 abbrev pub answer_after : (count : ℕ) → Happening (Unit {0}) → (answer : Option ℕ) → Option ℕ
 answer_after count (at_walk e) answer = answer
 answer_after count (at_agents (sent peer d)) answer = Some count

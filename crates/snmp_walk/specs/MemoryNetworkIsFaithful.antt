@@ -1,6 +1,6 @@
 -- A network in memory neither invents nor alters datagrams (`faithful_in_memory`). Once it is
--- prompt it stays so (`still_prompt_in_memory`), and the walk receives the agent's replies
--- (`prompt_in_memory`). For proofs.
+-- prompt it stays so (`still_prompt_in_memory`), and a receive of the walk returns the agent's
+-- reply, or nothing if there is none, or fails (`prompt_in_memory`). For proofs.
 use Rattle.std.specs.Prelude.{◌≡◌, ◌⊎◌, ◌+◌, ℕ, zero, suc, List, [], ◌∷◌, ◌++◌, length, map}
 use Rattle.std.specs.Prelude.{Option, Some, None, flat_map}
 use Rattle.std.specs.List.{AllByRecursion, slice_get}
@@ -43,8 +43,8 @@ one_append (x ∷ xs) ys d (inr one) = elim (one_append xs ys d one) [
   | inr h ↦ inr h
 ]
 
--- if the events `xs`, x and `ys` led from `old` to `new`, then `xs` led from `old` to some state,
--- and x led on from there
+-- if the events `xs`, x and `ys` took the network from `old` to `new`, then `xs` took it from
+-- `old` to some state, and x took it from there to another
 up_to : {L X : Type 0} (step : L → X → L → Type 0) (xs ys : List X) (x : X) (old new : L)
     → InTurn step old (xs ++ x ∷ ys) new
     → (mid : L) × (next : L) × InTurn step old xs mid × step mid x next

@@ -17,8 +17,9 @@ abbrev pub AreFew : {W : Type 0} → LinkFacts W → W → (receives : ℕ) → 
 AreFew {W} facts old receives new = facts.records old
     → receives + 64 * length (facts.traffic old).sent ≤ 64 * length (facts.traffic new).sent
 
--- requests of the walk that began as `first` and passed on these rows took the link from `old` to
--- `new`: their ids increase by one, and each was tried 1 to `tries` times
+-- Requests of the walk that began as `first` and passed on these rows took the link from `old` to
+-- `new`: their ids increase by one, and each was passed to a send 1 to `tries` times. `failed`
+-- says whether the last send or receive failed.
 pub record IsMovedByRequests {W : Type 0} (facts : LinkFacts W) (tries : ℕ) (first : WalkState)
     (given : List VarBind) (old : W) (failed : Type 0) (new : W) : Type 0 where
   pub requests : List Try
@@ -27,13 +28,17 @@ pub record IsMovedByRequests {W : Type 0} (facts : LinkFacts W) (tries : ℕ) (f
   pub receives : ℕ
   pub moved : IsMoved facts old (sent_by requests) receives failed new
   pub few : AreFew facts old receives new
+  -- over any link, there are at most 64 receives for each send, failed ones included
+  pub within : receives ≤ 64 * length (sent_by requests)
 
 -- ---- for private functions
 
--- 1 to `tries` tries of this datagram took the link from `old` to `new`
+-- 1 to `tries` sends of this datagram, and at most 64 receives for each, took the link from `old`
+-- to `new`; `failed` says whether the last of these calls failed
 abbrev pub IsMovedByTries : {W : Type 0} → LinkFacts W → W → List ℕ → (tries : ℕ)
     → (failed : Type 0) → W → Type 0
 IsMovedByTries {W} facts old datagram tries failed new =
     (times : ℕ) × (times ≤ tries) × (0 < times) × (receives : ℕ)
     × IsMoved facts old (replicate times datagram) receives failed new
     × AreFew facts old receives new
+    × (receives ≤ 64 * times)

@@ -27,7 +27,7 @@ AreUsed ahead count left =
 
 -- Sends of the datagrams `tried`, in order, and at most `receives` receives took the link from
 -- `old` to `new`. `failed` says whether the last of these calls failed; no other did.
--- The agents and facts of the link are arguments, since the clauses of the trait itself cite this.
+-- The agents and facts of the link are arguments, since the clauses of the trait itself use this.
 pub record Moves {W : Type 0} (Keeps Honest : W → Type 0) (agents_of : W → Agents)
     (traffic_of : W → Traffic) (faults_of : W → ℕ) (Ready : W → ℕ → ℕ → Type 0) (old : W)
     (tried : List (List ℕ)) (receives : ℕ) (failed : Type 0) (new : W) : Type 0 where

@@ -1,6 +1,6 @@
 -- Tests of names in a walk: which are below its root, and which come after another (RFC 3416,
--- section 4.2.2). `Walk` picks the rows of a table by `is_below` and `comes_after`. The relations
--- `IsBelow` and `Precedes`, which the laws of walks use, say the same.
+-- section 4.2.2). `specs/Walk.antt` picks the rows of a table by `is_below` and `comes_after`. The
+-- relations `IsBelow` and `Precedes`, which the laws of walks use, say the same.
 use Rattle.std.specs.Prelude.{ℕ, Bool, true, false, ◌&&◌, not, nat_lt, List, length}
 use Rattle.std.specs.{List.starts_with, Bool.nat_eq, Ordering.nat_cmp, Ordering.is_lt}
 use Rattle.std.specs.Cmp.Lexicographic.{slice_cmp}

@@ -40,7 +40,7 @@ abbrev pub requests_by : {Peer : Type 0} → Happening Peer → List (List ℕ)
 requests_by (at_walk (sent peer d)) = d ∷ []
 requests_by _ = []
 
--- the first of these events, if there is one, is a send: nothing is received before it
+-- the first of these events, if there is one, is a send, which may have failed
 abbrev pub BeginWithSend : List (Event (Unit {0})) → Type 0
 BeginWithSend [] = Unit {0}
 BeginWithSend (sent peer d ∷ more) = Unit {0}
@@ -48,8 +48,8 @@ BeginWithSend (send_failed peer d ∷ more) = Unit {0}
 BeginWithSend _ = ⊥
 
 -- Each datagram that arrived at the walk, and encodes a message of this sort, is the reply of one
--- of the agents to a datagram that the walk had tried to send before, or encodes another Response
--- that this agent may send to that.
+-- of the agents to a datagram that the walk had sent, or tried to send, before, or encodes another
+-- Response that one of the agents may send to such a datagram.
 abbrev pub AreRepliesOf : (Message → Type 0) → Agents → List (Event (Unit {0})) → Type 0
 AreRepliesOf Sort agents events =
     (before after : List (Event (Unit {0}))) (peer : Unit {0}) (r : List ℕ)
@@ -71,9 +71,9 @@ abbrev pub IsTriedTo : {Peer : Type 0} → Peer → List (Happening Peer) → Li
 IsTriedTo peer run d = OneOf run (at_agents (sent peer d))
     ⊎ OneOf run (at_agents (send_failed peer d))
 
--- The network neither invents nor alters messages between the walk, which is the peer `walker` to
--- the agents, and these. It may lose, repeat, delay and reorder them, as UDP may (RFC 768). Other
--- peers may send the agents what they like, but no message of theirs arrives at the walk.
+-- The network neither invents nor alters messages between the walk and the agents, to which the
+-- walk is the peer `walker`. It may lose, repeat, delay and reorder them, as UDP may (RFC 768).
+-- Other peers may send the agents what they like, but no message of theirs arrives at the walk.
 pub record IsFaithful {Peer : Type 0} (walker : Peer) (run : List (Happening Peer)) : Type 0 where
   -- a message that arrived at the walk is one that the agents had sent to it, or tried to, before
   pub replies : (before after : List (Happening Peer)) (peer : Unit {0}) (d : List ℕ)
@@ -84,15 +84,15 @@ pub record IsFaithful {Peer : Type 0} (walker : Peer) (run : List (Happening Pee
   pub requests : (before after : List (Happening Peer)) (d : List ℕ)
       → run ≡ before ++ at_agents (came walker d) ∷ after → OneOf (tried (of_walk before)) d
 
--- how an agent was served for a while: its table, the number of turns, their counts, and the
--- events in them
+-- how an agent served for a while: its table, the number of turns, how many ended in each way, and
+-- the events in them
 pub record Service (Peer : Type 0) : Type 0 where
   pub view : MibView
   pub turns : ℕ
   pub served : Served
   pub events : List (Event Peer)
 
--- each of these services served one of the agents
+-- in each of these services, one of the agents served
 abbrev pub AreServices : {Peer : Type 0} → Agents → List (Service Peer) → Type 0
 AreServices agents [] = Unit {0}
 AreServices agents (s ∷ more) = OneOf agents.tables s.view
@@ -117,7 +117,7 @@ event_of_got (Ok None) buffer = silence
 event_of_got (Err _) buffer = receive_failed
 
 -- A receive of the walk returned the agent's reply to this datagram; or nothing, since the agent
--- drops the datagram or there is none; or it failed.
+-- drops the datagram or there is none; or it failed. Of a send, this says nothing.
 abbrev pub RepliesTo : Agent → (request : Option (List ℕ)) → Event (Unit {0}) → Type 0
 RepliesTo agent request (came peer r) = (d : List ℕ) × (request ≡ Some d) × IsReply agent d r
 RepliesTo agent request silence = (request ≡ None)

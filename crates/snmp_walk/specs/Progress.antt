@@ -58,7 +58,7 @@ IsPartOfWalk Next Got first given =
     (given ≡ [])
     ⊎ (((o : List ℕ) × HasReturned Next Got first given o) ⊎ IsAlone Next Got first given)
 
--- `given` is all that the walk that began as `first` may return
+-- `given` may be all that the walk that began as `first` returns
 abbrev pub IsWholeWalk : (Next Got : List ℕ → VarBind → Type 0) → WalkState → List VarBind → Type 0
 IsWholeWalk Next Got first given =
     ((o : List ℕ) × HasReturned Next Got first given o × IsAtEnd Next first.root o
@@ -80,9 +80,9 @@ abbrev pub opening_gets : Mode → ℕ
 opening_gets mode.Include = 1
 opening_gets _ = 0
 
--- Each request before the waiting one used one id, and its reply had a part of `given`: the first
--- Get of a walk that includes its root had the root's own row, if it exists, and each other
--- request at least one row below the root.
+-- Each request before the waiting one used one id, and its reply had a part of `given`: the reply
+-- to the first Get of a walk that includes its root had the root's own row, if it exists, and each
+-- other reply at least one row below the root.
 pub record HasAsked (Next Got : List ℕ → VarBind → Type 0) (first : WalkState)
     (given : List VarBind) (id : ℕ) : Type 0 where
   pub prefix : List VarBind
@@ -135,13 +135,12 @@ Ends Next Got Large first w given (ending.NoProgress o) = (w.phase ≡ phase.Row
 Ends Next Got Large first w given ending.TooManyRequests = 2147483647 ≤ w.id
 Ends Next Got Large first w given _ = ⊥
 
--- What takes the place of `Next o p` if replies needn't be honest: p isn't noSuchObject or
--- noSuchInstance and, unless it is endOfMibView, its name comes after o.
+-- What replaces `Next o p` if replies needn't be honest: p isn't noSuchObject or noSuchInstance
+-- and, unless it is endOfMibView, its name comes after o.
 abbrev pub Increases : List ℕ → VarBind → Type 0
 Increases o p = (p.value ≢ end_of_mib_view → Precedes o p.name) × (IsMissing p → ⊥)
 
--- what takes the place of `Got o p` if replies needn't be honest: p has the name o and isn't
--- endOfMibView
+-- what replaces `Got o p` if replies needn't be honest: p has the name o and isn't endOfMibView
 abbrev pub Named : List ℕ → VarBind → Type 0
 Named o p = (p.name ≡ o) × (p.value ≢ end_of_mib_view)
 

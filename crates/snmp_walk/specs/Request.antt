@@ -71,9 +71,9 @@ request_of w = record {
   bindings = asking w.asked ∷ [];
 }
 
--- The datagram is the shortest encoding of a request with an id below `id`, as an earlier run may
--- have sent it. Its reply has that id too, so that a late reply isn't taken for one to a request
--- with `id` or a higher id.
+-- The datagram is the shortest encoding of a message with an id below `id` that isn't a Set, such
+-- as a request of an earlier run. A reply to it has the same id, so that a late reply isn't taken
+-- for one to a request with `id` or a higher id.
 pub record IsOfLowerId (id : ℕ) (datagram : List ℕ) : Type 0 where
   pub request : Message
   pub in_range : IsMessageInRange request

@@ -7,11 +7,11 @@ use Rattle.snmp_agent.specs.table.Table.{MibView, IsNext}
 use Rattle.snmp_agent.specs.Reply.{IsRequest, IsWhole, Fits, response, no_error, too_big}
 use Rattle.snmp_walk.specs.{Link.Agents, Link.OneOf, Progress.IsChain}
 
--- An agent of this table, whose messages have at most `max_size` octets, may send the Response r
--- to q: the whole Response (`IsWhole`); tooBig, if the whole one is longer; or, to a GetBulk of
--- one name without non-repeaters, at most max-repetitions successors, each of the name before it,
--- and none only if the first has no room. So it may send fewer than have room, and endOfMibView
--- more than once.
+-- An agent of this table may send the Response r to q: the whole Response, whatever its length
+-- (`IsWhole`); tooBig, if the whole one has more than `max_size` octets; or, to a GetBulk of one
+-- name without non-repeaters, at most max-repetitions successors, each of the name before it, and
+-- none only if the first has no room. So it may send fewer than have room, and endOfMibView more
+-- than once.
 pub data MayRespond (view : MibView) (max_size : ℕ) (q r : Message) : Type 0 where
   whole : IsWhole view q r → MayRespond view max_size q r
   shortened : (large : Message) → IsWhole view q large → (Fits max_size large → ⊥)

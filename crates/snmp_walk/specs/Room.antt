@@ -14,8 +14,8 @@ abbrev pub HasRoom : Agents → VarBind → Type 0
 HasRoom agents p =
     length (canon (full_response agents.community 2147483647 (p ∷ []))) ≤ agents.max_size
 
--- the value isn't a string of more than 700 octets, so that its row, with any name, fits into a
--- message of 1472 octets
+-- the value isn't a string of more than 700 octets, so that its row, with any name and a community
+-- of at most 30 octets, fits into a message of 1472 octets
 abbrev pub IsShort : Datum → Type 0
 IsShort (octet_string octets) = length octets ≤ 700
 IsShort (opaque_octets octets) = length octets ≤ 700
@@ -40,12 +40,13 @@ IsException _ = ⊥
 -- table, and for the name that the walk begins from with an exception.
 pub record HasRoomForEach (agents : Agents) (view : MibView) (first : WalkState) : Type 0 where
   pub community : first.community ≡ agents.community
-  -- if a row has room, so has its name with endOfMibView
+  -- Each row has room. Its name with endOfMibView takes no more octets, so that it has room too.
   pub rows : (p : VarBind) → IsRow view p → HasRoom agents p
   pub exceptions : (v : Datum) → IsException v
       → HasRoom agents (record { name = first.asked; value = v })
 
--- There are enough ids for a request for each row below the root, one more, and a Get.
+-- There are enough ids for a request for each row below the root that comes after the name that
+-- the walk begins from, one more, and a Get.
 abbrev pub HasIds : WalkState → MibView → Type 0
 HasIds first view = first.id + length (rest_of first.root first.asked
     (variables view)) + 2 ≤ 2147483647

@@ -10,7 +10,8 @@ use Rattle.snmp_walk.specs.declared.mode.Phase.TheVariants as phase
 use Rattle.snmp_walk.specs.Request.{asked_for, request_of}
 use Rattle.std.specs.List.{list_any}
 
--- a request of a walk, by the walk's state, and how many times it was sent
+-- A request of a walk, by the walk's state, and how many times it was sent, or passed to a send
+-- (`IsMovedByRequests`).
 pub record Try : Type 0 where
   pub by : WalkState
   pub times : ℕ
@@ -39,7 +40,7 @@ AsksFor first rows phase.Rows by = (by.asked ≡ first.asked) ⊎ IsNameIn rows 
 AsksFor first rows phase.Last by = (by.asked ≡ first.asked) × (first.mode ≡ mode.Plain)
 AsksFor first rows phase.Over by = ⊥
 
--- the walk that began as `first`, and passed on these rows, sent a request in state `by`
+-- the walk that began as `first`, and passed on these rows, can send a request in state `by`
 pub record Asks (first : WalkState) (rows : List VarBind) (by : WalkState) : Type 0 where
   pub same : by ≡ record first { phase = by.phase; asked = by.asked; id = by.id; count = by.count }
   pub name : AsksFor first rows by.phase by
@@ -54,7 +55,7 @@ AreTries tries first rows id (t ∷ more) =
 
 -- ---- for private functions
 
--- there are as many bindings as were asked for, or one of them is endOfMibView
+-- there are as many bindings as were asked for, or one of them has endOfMibView
 abbrev pub IsFull : Method → List VarBind → Type 0
 IsFull method bindings = (length bindings ≡ asked_for method)
     ⊎ (list_any (λ p. is_end p.value) bindings ≡ true)

@@ -1,11 +1,11 @@
 -- What is known after a run over a link: after a walk, and after a Get of names.
-use Rattle.std.specs.Prelude.{◌≡◌, ◌≢◌, ◌⊎◌, ◌<◌, ◌≤◌, ◌+◌, ◌++◌, ℕ, List, [], Result, length}
-use Rattle.std.specs.Prelude.{replicate}
+use Rattle.std.specs.Prelude.{◌≡◌, ◌≢◌, ◌⊎◌, ◌<◌, ◌≤◌, ◌+◌, ◌*◌, ◌++◌, ℕ, List, [], Result}
+use Rattle.std.specs.Prelude.{length, replicate}
 use Rattle.snmp_agent.specs.Event.{Event}
 use Rattle.snmp_wire.specs.{Canon.canon, Message.VarBind}
 use Rattle.snmp_walk.specs.{declared.end.SinkFault.SinkFault, declared.end.WalkEnd.WalkEnd}
 use Rattle.snmp_walk.specs.{Link.Agents, Link.AreLawful, Link.OneOf, Link.Outcome, Moved.IsMoved}
-use Rattle.snmp_walk.specs.{Request.IsOfLowerId}
+use Rattle.snmp_walk.specs.{Moved.AreFew, Request.IsOfLowerId}
 use Rattle.snmp_walk.specs.{Moved.IsMovedByRequests, Network.AreReplies, Network.BeginWithSend}
 use Rattle.snmp_walk.specs.{Network.AreRepliesOrErrors, Sink.Took, WalkState.WalkState}
 use Rattle.snmp_walk.specs.declared.end.WalkEnd.TheVariants as ending
@@ -43,10 +43,11 @@ but_for_errors (ending.Fault status index) = ending.Link
 but_for_errors end = end
 
 -- The events at a link, from state `link` to state `after`. If each message received is a reply of
--- one of some lawful agents to a datagram that was sent, or tried to be sent, before it, or another
--- Response that this agent may send, then `Given` holds of the agents and of the end. If errors
--- may have arrived too, such as genErr, it holds of the agents and of the end, an error status
--- being taken for a failure of the link.
+-- one of these lawful agents to a datagram passed to a send before it, or another Response that
+-- one of them may send to it, then `Given` holds of the agents and of the end (`replied`). If
+-- messages with an error status, such as genErr, may have arrived too, then `Given` holds of the
+-- agents and of the end with an error status taken for a failure of the link
+-- (`replied_or_failed`).
 pub record HasHappened {W : Type 0} (facts : LinkFacts W) (link after : W) (end : WalkEnd)
     (Given : Agents → WalkEnd → Type 0) : Type 0 where
   pub events : List (Event (Unit {0}))
@@ -78,11 +79,12 @@ pub record IsWalkedOver {W : Type 0} (facts : LinkFacts W) (link after : W) (tri
   -- that is sent for k names below the root
   pub ready : IsHonestFrom facts first.id link → (k : ℕ) → CountsNames (facts.agents link) first k
       → IsReadyForAll (facts.ready link) tries k → end ≢ ending.Link
-  -- its requests changed the link, which failed if the walk ended with `Link`
+  -- its requests changed the link, which failed if and only if the walk ended with `Link`
   pub moved : IsMovedByRequests facts tries first given link (end ≡ ending.Link) after
   -- There is at most one request for each row passed on, one more, and a Get.
   pub few_of_rows : length moved.requests ≤ length given + 1 + gets first.mode
-  -- A later run over the link may begin with the id after the last one of these requests.
+  -- Over a link that lists what is sent, if earlier runs had lower ids: a later run may begin with
+  -- the id after the last one of these requests.
   pub later : facts.records link → AreOfLowerIds (facts.traffic link).sent first.id
       → AreOfLowerIds (facts.traffic after).sent (first.id + length moved.requests)
   -- what happened over any link, and what was passed on if only replies of agents arrived
@@ -102,7 +104,8 @@ pub record IsGotOver {W : Type 0} (facts : LinkFacts W) (link after : W) (tries 
     (community : List ℕ) (id : ℕ) (names : List (List ℕ)) (given refused : List VarBind)
     (end : WalkEnd) : Type 0 where
   pub named : AreForNames (get_request community id names) names given refused end
-  -- each end has its reason in what came of the request
+  -- if there are names, the end has its reason: what came of the request or, if it would be too
+  -- long, that nothing was sent
   pub reason : names ≢ [] → IsReasonOfGet (IsGetTried facts link after tries community id names)
       (IsDelivered (IsGetTried facts link after tries community id names) (facts.agents link)
       (IsHonestFrom facts id link) community id names) names given refused end
@@ -120,13 +123,17 @@ pub record IsGotOver {W : Type 0} (facts : LinkFacts W) (link after : W) (tries 
       (facts.traffic link) (get_request community id names) names given refused end
       (facts.traffic after)
   -- tries of the request changed the link, at least one if it had to be sent, and the link failed
-  -- if the Get ended with `Link`
+  -- if and only if the Get ended with `Link`. As in a walk, there are at most 64 receives for
+  -- each send.
   pub moved : (times : ℕ) × (times ≤ tries)
       × (names ≢ [] → end ≢ ending.RequestTooLong → 0 < times)
       × (receives : ℕ)
       × IsMoved facts link (replicate times (canon (get_request community id names))) receives
       (end ≡ ending.Link) after
-  -- a later run over the link may begin with the id after this one
+      × AreFew facts link receives after
+      × (receives ≤ 64 * times)
+  -- over a link that lists what is sent, if earlier runs had lower ids: a later run may begin with
+  -- the id after this one
   pub later : facts.records link → AreOfLowerIds (facts.traffic link).sent id
       → AreOfLowerIds (facts.traffic after).sent (id + 1)
   -- what happened over any link, and what was passed on if only replies of agents arrived

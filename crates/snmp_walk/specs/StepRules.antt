@@ -65,7 +65,8 @@ Closes w rows given new =
     (GivesNothing w rows × GoesOn w phase.Last [] given new)
     ⊎ ((GivesNothing w rows → ⊥) × EndsBy w rows (ending.Done (w.count + length rows)) given new)
 
--- the bindings are instances below the root, and their names increase, the first one from o
+-- the bindings are instances below the root; the first name comes after o, and each other name
+-- after the one before it
 abbrev pub AreRowsFrom : (root o : List ℕ) → List VarBind → Type 0
 AreRowsFrom root o [] = Unit {0}
 AreRowsFrom root o (b ∷ more) = IsInside root b × Precedes o b.name × AreRowsFrom root b.name more

@@ -10,7 +10,7 @@ pub record Traffic : Type 0 where
   pub sent : List (List ℕ)
   -- What the next receives deliver, in order: nothing, or the reply to the k-th datagram sent,
   -- counted from 1. After these, each receive delivers the reply to the latest datagram. Nothing is
-  -- delivered where that datagram doesn't exist or has no reply.
+  -- delivered if the datagram doesn't exist or has no reply.
   pub ahead : List (Option ℕ)
 
 -- the k-th datagram sent, counted from 1; none if k is 0 or greater than their number
@@ -44,12 +44,12 @@ Receives agents sent (None ∷ next) reply left = (left ≡ next) × (reply ≡ 
 Receives agents sent (Some k ∷ next) reply left = (left ≡ next)
     × Gives agents (datagram_at sent k) reply
 
--- this delivery delivers nothing
+-- this delivery can deliver nothing
 abbrev pub IsNothing : Agents → List (List ℕ) → Option ℕ → Type 0
 IsNothing agents sent None = Unit {0}
 IsNothing agents sent (Some k) = Gives agents (datagram_at sent k) None
 
--- this delivery delivers the reply to another datagram than q
+-- this delivery can deliver a reply to another datagram than q
 abbrev pub IsOther : Agents → List (List ℕ) → List ℕ → Option ℕ → Type 0
 IsOther agents sent q None = ⊥
 IsOther agents sent q (Some k) =
@@ -61,7 +61,7 @@ abbrev pub resent : List (List ℕ) → List ℕ → ℕ → List (List ℕ)
 resent sent q zero = sent
 resent sent q (suc t) = sent ++ q ∷ []
 
--- The deliveries are used up by exactly `tries` tries of the request q, and deliver no reply to
+-- Exactly `tries` tries of the request q can use up these deliveries without receiving a reply to
 -- it. The first of these tries has already received `count` other replies. Each try ends with a
 -- receive that returns nothing, or with its 64th receive.
 abbrev pub Lost : Agents → List (List ℕ) → List ℕ → List (Option ℕ) → (tries count : ℕ) → Type 0

@@ -18,7 +18,7 @@ pub record WalkState : Type 0 where
   pub asked : List ℕ
   -- the id of the waiting request
   pub id : ℕ
-  -- the number of bindings passed on
+  -- the number of bindings passed on before the waiting request
   pub count : ℕ
 
 -- if the method is GetBulk, its max-repetitions is at least 1

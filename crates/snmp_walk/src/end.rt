@@ -6,7 +6,7 @@ use thiserror::Error;
 /// How a walk or a Get ended.
 #[derive(Debug, Drop, PartialEq)]
 pub enum WalkEnd {
-    /// The walk or the Get is complete. Holds the number of its bindings. All were passed on.
+    /// The walk or the Get is complete. Holds the number of bindings passed on.
     Done(u64),
     /// The agent's reply has an error status other than 0. Holds its error-status and its
     /// error-index (RFC 3416, section 3).
@@ -31,7 +31,7 @@ pub enum WalkEnd {
     TooManyRequests,
     /// The request of a Get is longer than a datagram can be.
     RequestTooLong,
-    /// No reply to a request arrived after any of its sends.
+    /// A request was sent as many times as allowed, and its reply wasn't received.
     NoResponse,
     /// The link failed to send or to receive.
     Link,

@@ -20,7 +20,8 @@ use snmp_wire::{
 use std::marker::Model;
 
 /// Gets the instances of `names`: sends one Get of their wire forms, at most `retries + 1` times,
-/// and passes the bindings of its reply to the sink in order (RFC 3416, section 4.2.1).
+/// and passes the bindings of its reply to the sink in order (RFC 3416, section 4.2.1). The wire
+/// form of a name is the name, padded with zeros to two numbers.
 ///
 /// The caller must pass names whose wire forms have an encoding (X.690, 8.19.4), a community of at
 /// most 255 octets and an id of at most 2147483647.
@@ -28,25 +29,27 @@ use std::marker::Model;
 /// Without names, sends nothing and returns `Done(0)`. Returns `RequestTooLong`, and sends
 /// nothing, if the request has more than 65507 octets.
 ///
-/// The clause `ran` says that the sink was passed some bindings, and perhaps refused one more
+/// The clause `ran` says that the sink took bindings, perhaps none, and perhaps refused one more
 /// (`IsRun`). What is known of these bindings and of the end are the fields of `IsGotOver`
 /// (`specs/RunResult.antt`). Over any link:
 ///
 /// - `named`: the names passed are the first ones of those asked for, in order, and all of them if
 ///   the Get is done.
-/// - `reason`: the end has its reason in what the link delivered.
+/// - `reason`: if the request was sent, the end has its reason in what came of it.
 /// - `unasked`: without names, and if the request is too long, the link is unchanged.
-/// - `moved`: the request is sent at most `retries + 1` times. The link failed if and only if the
-///   end is `Link`.
-/// - `happened.replied`: if all that arrived are replies of some agents, as over a network that
-///   alters nothing (`honest_networks`), the bindings passed are the first ones of what Gets of
-///   the names return, and all of them if the Get is done.
+/// - `moved`: the request is sent at most `retries + 1` times, and there are at most 64 receives
+///   for each send. The link failed if and only if the end is `Link`.
+/// - `happened.replied`: if each message that arrived is a reply of one agent, whose table doesn't
+///   change, as over a network that neither invents nor alters messages (`honest_networks`), the
+///   bindings passed are the first ones of what Gets of the names in that table return, and all of
+///   them if the Get is done.
 /// - `happened.replied_or_failed`: the same if errors may have arrived too, such as genErr.
 ///
-/// Over a link that stores what is sent, `sent` says how many times the request was sent, and
-/// `later` that a later run may begin with the id after this one. Over an honest link, one that
-/// delivers only replies of its agents, `judged` says the same as `happened.replied`, and when the
-/// Get is done. It assumes that the requests sent over the link before have lower ids.
+/// Over a link whose traffic lists what is sent (`Link::records`), `sent` says how many times the
+/// request was sent, and `later` that a later run may begin with the id after this one. Over an
+/// honest link, one that delivers only replies of its agents, `judged` says the same as
+/// `happened.replied`, and when the Get is done. `later` and `judged` assume that the requests
+/// sent over the link before have lower ids.
 // `inline(never)`: its buffer takes 66 KB of stack. Inlined, a caller with several such calls
 // would reserve that for each.
 #[inline(never)]

@@ -1,11 +1,12 @@
-//! Laws of walks: calls that do nothing. Proofs of the crates above call them.
-ghost use Rattle.std.specs.Prelude.{◌≡◌, ◌≤◌, ◌++◌, ◌∷◌, [], ◌↔◌, ◌⊎◌, ℕ, List, length};
+//! Laws of walks: calls that do nothing, and whose contracts proofs use.
+ghost use Rattle.std.specs.Prelude.{◌≡◌, ◌≤◌, ◌++◌, ◌∷◌, [], ◌↔◌, ◌⊎◌, ℕ, List, length, IsTrue};
 ghost use Rattle.snmp_wire.specs.{Canon.canon, Spelling.Spells};
 ghost use Rattle.snmp_oid.specs.Identifier.{IsWire, IsBelow, Precedes, wire};
 ghost use Rattle.snmp_wire.specs.Message.{Message, VarBind};
 ghost use Rattle.snmp_agent.specs.table.Table.{MibView, IsMibView, IsRow, IsGet};
 ghost use Rattle.snmp_agent.specs.table.Listing.{variables};
 ghost use Rattle.snmp_walk.specs.{declared.mode.Mode.Mode, declared.rows.Step.Step};
+ghost use Rattle.snmp_walk.specs.Names.{is_below};
 ghost use Rattle.snmp_walk.specs.{StepRules.Means};
 ghost use Rattle.snmp_walk.specs.{Walk.rows_below, Walk.walk_of, Walk.rest_of, private.Codec.Codec};
 ghost use Rattle.snmp_walk.specs.{Link.Agents, Link.OneOf, Ordered.AreOrdered, Ordered.IsResumable};
@@ -27,8 +28,9 @@ use snmp_wire::{
     strict_is_read,
 };
 
-/// The rows that a walk returns below its root are the table's rows there, in the order of their
-/// names. The rest of the walk after a name is what of them comes after the name.
+/// If the table is a MIB view (`IsMibView`), the rows that a walk returns below its root are the
+/// table's rows there, in the order of their names. The rest of the walk after a name is the rows
+/// among them that come after the name, in the same order.
 ///
 /// A law: the call does nothing, and its caller may use what it ensures.
 pub fn instances_below()
@@ -48,8 +50,15 @@ pub fn instances_below()
     order();
 }
 
-/// After each of its rows, a walk continues with the rest of the walk from that row's name. `got`
-/// is the result of a Get of the root.
+/// The test by which a walk selects names is true if and only if the name is below the root.
+///
+/// A law: the call does nothing, and its caller may use what it ensures.
+pub fn names_below()
+    ensures { (name root : List ℕ) → IsTrue (is_below name root) ↔ IsBelow name root }
+{}
+
+/// After each binding `p` of a walk over a MIB view, the walk continues with the rows below the
+/// root that come after the name of `p`. `got` is the result of a Get of the root.
 ///
 /// A law: the call does nothing, and its caller may use what it ensures.
 pub fn rest_of_a_walk()
@@ -62,14 +71,16 @@ pub fn rest_of_a_walk()
         (prefix more : List VarBind) → IsMibView view
         → rest_of root o (variables view) ≡ prefix ++ p ∷ more
         → more ≡ rest_of root p.name (variables view) }
-    // After each of its names a walk can be resumed.
+    // If the root can be sent, a walk can be resumed after the name of each of its bindings.
     ensures resumable { (view : MibView) (mode : Mode) (root : List ℕ) (got p : VarBind)
         → IsMibView view → IsGet view (wire root) got → IsWire (wire root)
         → OneOf (walk_of mode root got (variables view)) p → IsResumable root p.name }
 {}
 
-/// If a table has no string of more than 700 octets, each of its rows fits into a message of
-/// agents whose messages may have 1472 octets and whose community has at most 30.
+/// If no row of a MIB view has a string of more than 700 octets, each row fits into a message of
+/// agents whose messages may have 1472 octets and whose community has at most 30. So does each
+/// exception for the name that a walk of this community begins from, if the name has at most 128
+/// numbers.
 ///
 /// A law: the call does nothing, and its caller may use what it ensures.
 pub fn short_rows_have_room()
@@ -133,9 +144,9 @@ pub fn messages_mean()
     order();
 }
 
-/// If a network neither invents nor alters datagrams, each message that arrives at a walk is a
-/// reply of one of the agents served at the other end, or another Response that this agent may
-/// send, to a datagram that the walk had sent, or tried to send, before.
+/// If a network neither invents nor alters messages, each message that arrives at a walk is a
+/// reply of one of the agents at the other end, or another Response that one of them may send, to
+/// a datagram that the walk had sent, or tried to send, before.
 ///
 /// The network may lose, repeat, delay and reorder datagrams, as UDP may (RFC 768); other clients
 /// may ask the agents; an agent may be started again, and its table may change. The contracts of
@@ -147,9 +158,9 @@ pub fn honest_networks<E: Endpoint>()
         → IsFaithful walker run → AreServed agents run → AreReplies agents (of_walk run) }
 {}
 
-/// If nothing was sent over a [`LooseLink`] yet, each message received from then on is the agent's
-/// reply to a datagram that was sent before it, or another Response that RFC 3416 lets the agent
-/// send to that datagram, or has an error status.
+/// If nothing was sent over a [`LooseLink`] yet, and its table is a MIB view, each message
+/// received from then on is the agent's reply to a datagram that was passed to a send before it,
+/// or another Response that RFC 3416 lets the agent send to that datagram, or has an error status.
 ///
 /// A law: the call does nothing, and its caller may use what it ensures.
 pub fn loose_replies()

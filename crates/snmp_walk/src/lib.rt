@@ -1,9 +1,9 @@
-//! The walk, which finds all instances below a root by one request after the other (RFC 3416,
+//! The walk, which finds the instances below a root by one request after the other (RFC 3416,
 //! section 4.2), and the Get of several names.
 //!
 //! [`WalkCore`] says which request to send and reads the reply. [`run_walk`] and [`run_get`] send
-//! requests and receive replies over a [`Link`], and pass the bindings that belong to the walk or the
-//! Get to a [`Sink`].
+//! requests and receive replies over a [`Link`], and pass the bindings that belong to the walk or
+//! the Get to a [`Sink`].
 //!
 //! # Examples
 //!
@@ -53,10 +53,11 @@ pub use run::run_walk;
 pub use sink::Sink;
 pub use walk_core::WalkCore;
 
-// Laws, which only proofs call, and walks over networks and agents, which only tests run.
+// Laws, which serve proofs only; and walks over networks and over a `LooseLink`, which only tests
+// run.
 pub use laws::{
     appended_bindings, honest_networks, instances_below, loose_replies, lower_ids, messages_mean,
-    parts_of_lists, requests_are_short, rest_of_a_walk, short_rows_have_room,
+    names_below, parts_of_lists, requests_are_short, rest_of_a_walk, short_rows_have_room,
 };
 pub use loose::{LooseLink, Way, walk_loose};
 pub use memory_network::{Delivery, MemoryNetwork};

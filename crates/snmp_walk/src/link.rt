@@ -21,10 +21,11 @@ pub trait Link {
     /// `honest link`: all that `link` delivers are replies of its agents, as its traffic says.
     ghost honest: { Self → Type 0 };
 
-    /// The agents that may reply.
+    /// The agents that may reply, if the link is honest.
     ghost agents: { Self → Agents };
 
-    /// The datagrams sent, and what the next receives deliver.
+    /// The datagrams sent, if `records` holds, and what the next receives deliver, if the link is
+    /// honest.
     ghost traffic: { Self → Traffic };
 
     /// The number of sends and receives that failed, up to 18446744073709551615.
@@ -57,8 +58,8 @@ pub trait Link {
     /// `refuses_short link`: a receive into a buffer of fewer than 65507 octets fails.
     ghost refuses_short: { Self → Type 0 } = { λ _. ⊥ };
 
-    /// Sends a datagram. An error raises the fault count and leaves agents and traffic as they
-    /// were.
+    /// Sends a datagram. If this fails, the fault is counted, and agents and traffic stay the
+    /// same.
     fn send(&mut self, datagram: &[u8]) -> Result<(), LinkFault>
         ensures sends { OnOk result (sends self.old datagram.now self.new) }
         ensures send_fails { OnErr result (send_fails self.old datagram.now self.new) }
@@ -67,8 +68,8 @@ pub trait Link {
             (datagram.now ∷ []) 0 (IsErr result) self.new };
 
     /// Receives a datagram into the start of `buffer` and returns its length. Returns `None` if
-    /// none arrives in time. An error raises the fault count and leaves agents and traffic as they
-    /// were.
+    /// none arrives in time. If the receive fails, the fault is counted, and agents and traffic
+    /// stay the same.
     fn receive(&mut self, buffer: &mut [u8]) -> Result<Option<usize>, LinkFault>
         ensures length { IfOk result (λ got. IfSome got (λ n. n ≤ length buffer.old)) }
         ensures delivers { IfOk result (λ got. IfSome got

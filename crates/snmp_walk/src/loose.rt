@@ -1,8 +1,8 @@
 //! A walk over an agent in memory that replies in other ways than `snmp_agent`, as RFC 3416
 //! allows.
 //!
-//! A walk must be right over each agent that keeps to the standard: one that fails, one that stops
-//! a GetBulk early, and one that encodes its replies in another form.
+//! A walk must be right over each agent that conforms to the standard, such as one that fails, one
+//! that stops a GetBulk early, and one that encodes its replies in another form.
 ghost use Rattle.std.specs.Prelude.{◌≡◌, ◌≤◌, ◌<◌, ◌<ℤ◌, ◌≤ℤ◌, ◌+◌, ◌↔◌, [], ◌∷◌, ℕ, List, length};
 ghost use Rattle.std.specs.Prelude.{pos, max, take, IfSome, IfNone, IsTrue};
 ghost use Rattle.snmp_wire.specs.declared.kind.Kind.TheVariants as kind;
@@ -413,7 +413,8 @@ impl<'a> Link for LooseLink<'a> {
 }
 
 /// Walks over a link to an agent that also replies in other ways: by errors, with fewer
-/// repetitions than asked for, and in another encoding.
+/// repetitions than asked for, and in another encoding. The caller must pass a link over which
+/// nothing was sent yet, and a core that has taken no reply yet.
 ///
 /// The bindings passed on are a prefix of the walk over its table, and all of it if the walk is
 /// done.
@@ -426,7 +427,7 @@ pub fn walk_loose<S: Sink>(
     requires fresh { IsFresh core }
     requires nothing_sent { last_sent link.old ≡ [] }
     // `ReplyFacts` holds if an error status that ends the walk counts as a failure of the link. If
-    // no way is `GenErr`, it also holds of the end as it is.
+    // no way left is `GenErr`, it also holds of the end as it is.
     ensures { IsRun S.takes sink.old result sink.new (λ rows refused.
         IsWalkedOver ⟦<LooseLink<'static> as Link>⟧ link.old link.new (retries + 1) core rows
         refused result

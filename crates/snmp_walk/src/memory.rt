@@ -8,8 +8,8 @@ use snmp_agent::{Config, Hint, Outcome, Table, answer_near};
 use snmp_wire::MAX_DATAGRAM;
 use std::alloc::{AllocError, Global};
 
-/// A link to an agent in memory, which serves one table, or several that each reply to some of the
-/// datagrams.
+/// A link to an agent in memory. The agent replies to each datagram from its one table, or from
+/// one of several.
 ///
 /// It stores the datagrams that are sent. Each receive uses the next delivery of the list that the
 /// link was made with: `None` delivers nothing, and `Some(k)` the agent's reply to the k-th
@@ -93,7 +93,7 @@ impl<'a> MemoryLink<'a> {
         ensures no_fault { result.fault_count ≡ 0 }
         ensures honest { IsHonest result }
     {
-        // Each table is a MIB view: what the link's honesty rests on.
+        // The link is honest because each table is a MIB view.
         'tables: for table in tables {
             table.is_mib_view();
         }

@@ -115,7 +115,7 @@ impl<'a> MemoryNetwork<'a> {
         }
     }
 
-    /// Raises the fault count, to at most 18446744073709551615.
+    /// Raises the fault count, unless it is 18446744073709551615 already.
     fn count_fault(&mut self)
         ensures counted { HasIncreased self.old.faults self.new.faults }
         ensures ahead { ahead_of self.new ≡ ahead_of self.old }

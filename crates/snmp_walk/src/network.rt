@@ -11,8 +11,8 @@ use snmp_agent::{Config, Endpoint, Table, serve_at};
 
 /// A network between a walk and an agent. The agent's end of it is an endpoint.
 ///
-/// It may lose, repeat, delay and reorder datagrams, as UDP may (RFC 768). It makes no message up
-/// and alters none.
+/// It may lose, repeat, delay and reorder datagrams, as UDP may (RFC 768). It neither invents nor
+/// alters messages.
 pub trait Network: Endpoint {
     ghost use Rattle.std.specs.Prelude.{◌≡◌, ◌≤◌, ◌++◌, ◌∷◌, [], ℕ, List, map, length};
     ghost use Rattle.std.specs.Prelude.{IfOk, IfSome, OnErr, OnOk};
@@ -42,16 +42,15 @@ pub trait Network: Endpoint {
     ghost sent: { Self → List (List ℕ) };
 
     /// `is_prompt network`: the network loses and delays nothing from now on. After the agent's
-    /// turns, each receive of the walk fails, or returns the agent's reply to the datagram that the
-    /// walk sent last. It returns nothing if the agent has no reply to that datagram, or if the
-    /// walk has sent none.
+    /// turns, a receive of the walk returns the agent's reply to the datagram that the walk sent
+    /// last, or nothing if there is none. It may also fail.
     ghost is_prompt: { Self → Type 0 };
 
     /// Returns the number of turns of the agent before the walk's next receive returns.
     fn turns(&self) -> u64
         ensures { result ≡ turn_count self.now };
 
-    /// Sends a datagram of the walk to the agent. An error raises the fault count.
+    /// Sends a datagram of the walk to the agent. If this fails, the fault is counted.
     fn send(&mut self, datagram: &[u8]) -> Result<(), LinkFault>
         ensures carries { carries self.old (at_walk (event_of_send result datagram.now)) self.new }
         ensures count { OnOk result (Self.fault_count self.new ≡ Self.fault_count self.old) }
@@ -59,8 +58,8 @@ pub trait Network: Endpoint {
             (HasIncreased (Self.fault_count self.old) (Self.fault_count self.new)) };
 
     /// Receives a datagram for the walk into the start of `buffer` and returns its length. Returns
-    /// `None` if none arrives in time. Fails if the datagram is longer than the buffer. An error
-    /// raises the fault count.
+    /// `None` if none arrives in time. Fails if the datagram is longer than the buffer. Each fault
+    /// is counted.
     fn receive_reply(&mut self, buffer: &mut [u8]) -> Result<Option<usize>, LinkFault>
         ensures length { IfOk result (λ got. IfSome got (λ n. n ≤ length buffer.old)) }
         ensures carries { carries self.old (at_walk (event_of_got result buffer.new)) self.new }
@@ -72,9 +71,9 @@ pub trait Network: Endpoint {
     ghost at_end: { (old new : Self) (e : Event Self.Peer) → Self.happens old e new
         → carries old (at_agents e) new };
 
-    /// A message that arrives at the walk was passed to a send of the agent before. A datagram that
-    /// arrives at the agent from the walk was passed to a send of the walk before. The send may
-    /// have failed.
+    /// From a new network on, a message that arrives at the walk was passed to a send of the agent
+    /// before. A datagram that arrives at the agent from the walk was passed to a send of the walk
+    /// before. The send may have failed.
     ghost faithful: { (first last : Self) (run : List (Happening Self.Peer)) → is_new first
         → InTurn carries first run last → IsFaithful (walker first) run };
 
@@ -144,8 +143,8 @@ impl<'a, N: Network> Link for NetworkLink<'a, N> {
 
     ghost agents = { agents_at };
 
-    // No deliveries are known ahead: each receive over a prompt network returns the reply to the
-    // latest datagram.
+    // Without deliveries ahead, a receive delivers the reply to the latest datagram, if it has
+    // one, as over a prompt network.
     ghost traffic = { λ link. record { sent = N.sent link.network; ahead = [] } };
 
     ghost fault_count = { λ link. link.faults };
@@ -196,16 +195,17 @@ impl<'a, N: Network> Link for NetworkLink<'a, N> {
     }
 }
 
-/// Walks over a network at whose other end the agent serves a table: both programs run.
+/// Walks over a network at whose other end an agent serves a table. The caller must pass a network
+/// over which nothing was sent yet, and a core that has taken no reply yet.
 ///
 /// What [`run_walk`] promises of any link holds of this one. For example, the walk ends with
 /// `NoResponse` only after it sent one request `retries + 1` times, and the agent had its turns
 /// after each send.
 ///
-/// Whatever the network loses, repeats and delays, the bindings passed on are a prefix of the walk
-/// over that table, and all of it if the walk is done. Over a network that loses and delays
-/// nothing, the walk is done unless the network or the sink fails, if the walk has the agent's
-/// community, each binding fits into a message, and there are enough ids.
+/// Whatever the network loses, repeats, delays and reorders, the bindings passed on are a prefix
+/// of the walk over that table, and all of it if the walk is done. Over a network that loses and
+/// delays nothing, the walk is done unless the network or the sink fails, if the walk has the
+/// agent's community, each binding fits into a message, and there are enough ids.
 pub fn walk_served<'a, N: Network + Drop, S: Sink>(
     link: &mut NetworkLink<'a, N>,
     core: WalkCore,

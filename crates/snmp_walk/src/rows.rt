@@ -6,7 +6,8 @@ use crate::WalkEnd;
 use snmp_wire::{Binding, Bindings};
 use std::marker::Model;
 
-/// The bindings of a reply that a walk or a Get passes on, in order: a prefix of the reply.
+/// An iterator over the bindings of a reply that a walk or a Get passes on: the first ones, in
+/// order.
 #[derive(Drop)]
 pub struct Rows<'a> {
     bindings: Bindings<'a>,

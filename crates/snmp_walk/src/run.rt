@@ -10,29 +10,31 @@ use snmp_wire::MAX_DATAGRAM;
 /// Walks over a link with a core that has taken no reply yet. Each request is sent at most
 /// `retries + 1` times, and each binding of the walk is passed to the sink as it arrives.
 ///
-/// The clause `ran` says that the sink was passed some bindings, and perhaps refused one more
+/// The clause `ran` says that the sink took bindings, perhaps none, and perhaps refused one more
 /// (`IsRun`). What is known of these bindings and of the end are the fields of `IsWalkedOver`
 /// (`specs/RunResult.antt`). Over any link:
 ///
 /// - `part`: each name passed is the root or below it.
 /// - `ends.rising`: the names increase, so that each is passed once.
 /// - `ends.counted`: if the end is `Done(n)`, n bindings were passed.
-/// - `ends.reason`: the end has its reason in what the link delivered. For example, the end is
-///   `NoResponse` only if one request was sent `retries + 1` times, and the receives after each
-///   send, at most 64, didn't return its reply.
-/// - `moved`: the ids of the requests increase by one, and each request is sent 1 to `retries + 1`
-///   times. The link failed if and only if the end is `Link`.
+/// - `ends.reason`: the end has its reason in what came of the last request. For example, the end
+///   is `NoResponse` only if that request was sent `retries + 1` times, and the receives after
+///   each send, at most 64, didn't return its reply.
+/// - `moved`: the ids of the requests increase by one, and each request is passed to
+///   [`Link::send`] 1 to `retries + 1` times. The link failed if and only if the end is `Link`.
+/// - `moved.within`: there are at most 64 receives for each send, failed ones included.
 /// - `few_of_rows`: there is at most one request for each row passed, one more, and a Get.
-/// - `happened.replied`: if all that arrived are replies of some agents, as over a network that
-///   alters nothing (`honest_networks`), the bindings passed are a prefix of the walk over their
-///   table, and all of it if the walk is done.
+/// - `happened.replied`: if each message that arrived is a reply of one agent, whose table doesn't
+///   change, as over a network that neither invents nor alters messages (`honest_networks`), the
+///   bindings passed are a prefix of the walk over that table, and all of it if the walk is done.
 /// - `happened.replied_or_failed`: the same if errors may have arrived too, such as genErr.
 ///
-/// Over a link that stores what is sent:
+/// Over a link whose traffic lists what is sent (`Link::records`):
 ///
 /// - `sent`: which requests were sent, and how many times.
 /// - `moved.few`: there are at most 64 receives for each datagram sent.
-/// - `later`: a later walk over the link may begin with the id after the last id of this one.
+/// - `later`: if the requests sent before have lower ids, a later walk over the link may begin
+///   with the id after the last id of this one.
 ///
 /// Over an honest link, one that delivers only replies of its agents, if the requests sent over it
 /// before have lower ids:

@@ -276,7 +276,7 @@ impl WalkCore {
         self.phase != Phase::Over && is_awaited(self.community.as_slice(), self.id, message)
     }
 
-    /// Passes on `rows` and ends the walk. Writes `why` to `end`.
+    /// Passes on `rows` and ends the walk. Stores `why` in `end`.
     fn stop<'a>(&mut self, rows: Rows<'a>, end: &mut WalkEnd, why: WalkEnd) -> Judgement<'a>
         ensures { (step_of result end.new, self.new) ≡ stops self.old rows.entry why }
     {
@@ -285,9 +285,9 @@ impl WalkCore {
         Judgement::Ends(rows)
     }
 
-    /// Passes on `rows`, whose number is `count`, and waits for the reply to the next request, of
-    /// phase `next`. The name in this request is `last`, the name of the last row, or the same as
-    /// before if `last` is `None`. Ends the walk with `TooManyRequests` if no id is left.
+    /// Passes on `rows`, whose number is `count`. If an id is left, the next request, of phase
+    /// `next`, becomes the waiting one. Its name is `last`, the name of the last row, or the same
+    /// as before if `last` is `None`. Otherwise ends the walk with `TooManyRequests`.
     fn go_on<'a>(
         &mut self,
         next: Phase,
@@ -313,8 +313,8 @@ impl WalkCore {
     }
 
     /// Passes on `rows`, whose number is `count`. After them, no more instances are below the
-    /// root. So a plain walk that has passed on nothing, and has no rows now, goes on with a Get of
-    /// the root, or ends with `TooManyRequests` if no id is left. Any other walk is done.
+    /// root. So a plain walk that has passed on nothing, and has no rows now, continues with a Get
+    /// of the root, or ends with `TooManyRequests` if no id is left. Any other walk is done.
     fn close<'a>(&mut self, rows: Rows<'a>, count: u32, end: &mut WalkEnd) -> Judgement<'a>
         requires count { count ≡ length rows }
         ensures { (step_of result end.new, self.new) ≡ closes self.old rows.entry }
@@ -326,11 +326,11 @@ impl WalkCore {
         self.stop(rows, end, WalkEnd::Done(given))
     }
 
-    /// Finds the rows at the start of `bindings`: the instances below the root whose names
-    /// increase, the first one from the requested name. Sets `last` to the name of the last row,
-    /// if there is one, and `read` to the name of the binding that ends the rows, if one does.
-    /// Returns `None` if there are more bindings than were asked for, or noSuchObject or
-    /// noSuchInstance among them.
+    /// Finds the rows at the start of `bindings`: instances below the root, each with a greater
+    /// name than the one before it, the first with a greater name than the requested one. Sets
+    /// `last` to the name of the last row, if there is one, and `read` to the name of the binding
+    /// that ends the rows, if one does. Returns `None` if there are more bindings than were asked
+    /// for, or noSuchObject or noSuchInstance among them.
     ///
     /// Reads no binding twice. The caller must pass `None` as `last`.
     fn read_rows<'a>(
@@ -437,7 +437,7 @@ impl WalkCore {
     }
 
     /// Reads the reply to the Get of the root that ends a plain walk which has passed on nothing.
-    /// Passes on its binding, with or without a value.
+    /// Passes on its binding, with or without a value, unless the walk ends with `BadReply`.
     fn read_last<'a>(&mut self, message: &MessageRef<'a>, end: &mut WalkEnd) -> Judgement<'a>
         ensures { (step_of result end.new, self.new) ≡ reads_last self.old (got self.old.asked
             message.now.bindings) }
@@ -521,7 +521,7 @@ impl WalkCore {
     }
 
     /// Reads a message. Returns `Stray` and changes nothing if it isn't the reply to the waiting
-    /// request. If it ends the walk, writes how to `end`.
+    /// request. If it ends the walk, stores the reason in `end`.
     fn take_message<'a>(&mut self, message: &MessageRef<'a>, end: &mut WalkEnd) -> Judgement<'a>
         ensures { (step_of result end.new, self.new) ≡ take_of self.old message.now }
     {
@@ -573,9 +573,9 @@ struct RowsRead {
 /// What follows the rows at the start of a reply.
 #[derive(Clone, Copy, PartialEq, Eq)]
 enum Ending {
-    /// Nothing: so far every binding is a row, and the walk continues.
+    /// Nothing: so far every binding is a row.
     GoesOn,
-    /// A binding that isn't an instance below the root: it has endOfMibView, or a name outside.
+    /// A binding that has endOfMibView, or whose name isn't below the root.
     Leaves,
     /// A binding below the root whose name isn't greater than the one before it.
     Falls,

@@ -72,7 +72,8 @@ reads_as reading.leaving w rows = closes w rows
 reads_as (reading.falling name) w rows =
     stops w rows (ending.NotIncreasing (last_name w.asked rows) name)
 
--- what the bindings of a reply with the next instances mean, if none is out of place
+-- what the bindings of a reply with the next instances mean, if there are some, and `is_misplaced`
+-- doesn't hold of them
 abbrev pub reads : WalkState → List VarBind → Step × WalkState
 reads w bindings =
     let prefix = reply_rows w.root w.asked bindings in reads_as prefix.after w prefix.rows
