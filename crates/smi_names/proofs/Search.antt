@@ -1,4 +1,4 @@
--- Each step of the search for the indices whose chains end keeps the invariant `Keeps`. In a ring, or before one, no chain has an end.
+-- The invariant `Keeps` still holds after each step of the search for the indices whose chains end. In a ring, or before one, no chain has an end.
 use Rattle.std.proofs.{lemmas.Grind.common_steps, lemmas.Bool.cases_lt, lemmas.Bool.cases_eq}
 use Rattle.std.proofs.Common.{◌≡◌, ◌≢◌, ℕ, zero, suc, ◌+◌, ◌<◌, ◌⊎◌, inl, inr, Bool, true, false, cond, List, [], ◌∷◌, ◌++◌, length, set, take}
 use Rattle.std.proofs.Common.{Option, Some, None, Contains, refl, sym, ap, ◌∙◌, subst, arith}

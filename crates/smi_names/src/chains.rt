@@ -1,5 +1,6 @@
 //! Chains of names: a name can refer to another, which can refer to a third, and so on. The names
-//! whose chains end are found without recursion, and their identifiers with them.
+//! whose chains end are found without recursion, each after the name that it refers to, and are
+//! resolved in this order.
 //!
 //! Depends only on object identifiers: here a name is represented by its index.
 

@@ -16,7 +16,7 @@ pub worth-digit : (base n c : ℕ) (cs : List ℕ) → worth base n (c ∷ cs) �
 unfolding number_value
 worth-digit base n c cs = grind (arith, common_steps, pow-succ', mul_assoc, mul_comm, add-mul)
 
--- if the digits `cs` follow digits that write `n`, then together they write at least `n`
+-- if the digits `cs` follow digits that write `n`, then together they write at least `n`, in a base above 0
 pub worth-grows : (base n : ℕ) (cs : List ℕ) → 0 < base → n ≤ worth base n cs
 worth-grows base n cs h = grind (arith, common_steps, le-mul_of_pos_right, one-le-pow)
 
@@ -25,7 +25,7 @@ pub worth_step : (base n i : ℕ) (cs : List ℕ) → i < length cs
     → worth base n (drop i cs) ≡ worth base (base * n + digit_value (get_or cs i 0)) (drop (i + 1) cs)
 worth_step base n i cs h = rw (add-one, drop-cons cs i 0) (worth-digit base n (get_or cs i 0) (drop (suc i) cs))
 
--- if the digits up to index `i` write more than `most`, then all digits do, and `up_to most` of their number is None
+-- if the digits up to index `i`, in a base above 0, write more than `most`, then all digits do, and `up_to most` of their number is None
 pub worth_above : (base n i most : ℕ) (cs : List ℕ) → 0 < base → i < length cs → worth base n (drop i cs) ≡ number_value base cs
     → most < base * n + digit_value (get_or cs i 0) → None ≡ up_to most (number_value base cs)
 worth_above base n i most cs pos h e over = grind (arith, common_steps, worth-grows, worth_step, lt-leb)

@@ -19,8 +19,8 @@ unfolding prepend
 prefixes-inv xs None ys rest h = absurd (cc)
 prefixes-inv {A} xs (Some p) ys rest h = grind (arith, common_steps, some-inj)
 
--- if the tokens `ts` begin with the spelling of the parts `xs`, then another part begins, and `many` can be read from `ts`, then it reads `xs`, that part, and
--- perhaps others
+-- The format `f` is lawful, takes a token for each part, and a part may follow another. If tokens `ts` begin with the spelling of the parts `xs`, and with a
+-- token after it that begins a part, and `many f` can be read from `ts`, then it reads `xs`, a part at that token, and perhaps others.
 module _ {A : Type 0} {s : A → List Mark} {f : Format A} (law : Lawful s f) (solid : f.empty ≡ false) (far : apart f.stop f.first ≡ true) where
   begin-again : (xs : List A) (ts mid : List Item) → ItemsMatch (flat_map s xs) ts mid → begins f.first mid ≡ true → begins f.first ts ≡ true
   begin-again [] ts mid h b = ap (begins f.first) h ∙ b

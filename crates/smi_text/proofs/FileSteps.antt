@@ -1,4 +1,4 @@
--- Each step of the loops over definitions and over modules leaves true what the loop says of the parts read so far, and of the names defined so far.
+-- Each step of the loops over definitions and over modules preserves the loop's invariant: what was read so far, and which names are defined so far.
 use Rattle.std.proofs.Common.{arith, ◌≡◌, ℕ, true, false, ◌||◌, List, [], ◌∷◌, ◌++◌, Some, Ok, refl, sym, ◌∙◌, ap, append-nil, ◌<◌, Bool, length}
 use Rattle.std.proofs.Common.{None, Bor}
 use Rattle.std.proofs.{lemmas.Grind.common_steps, lemmas.Grind.flat_map-append, lemmas.Bool.and_parts, lemmas.Bool.and_from, lemmas.Bool.or_parts}

@@ -1,4 +1,4 @@
--- If the lanes of a load that are set are the octets that fail a test, then the lowest of them ends the run of octets that pass.
+-- If the lanes of a load that are set are the octets that fail a test, then the lowest of them, if there is one, ends the run of octets that pass.
 use Rattle.std.proofs.Common.{◌≡◌, ℕ, ◌+◌, ◌%◌, ◌^◌, ◌≤◌, Bool, true, not, List, map, length, get_or, Fits, w8, sym, ap, ◌∙◌, arith}
 use Rattle.std.proofs.{lemmas.Bool.agree_below, lemmas.Bool.agree_below_at, lemmas.Bool.not-true, lemmas.Bool.not-false, lemmas.List.length-map}
 use Rattle.std.proofs.lemmas.Simd.{map-map, mask_l-mod, length-chunk, first_set_mask_l, run_in_chunk_le, run_in_chunk_fails, run_in_chunk_stops}
@@ -6,7 +6,7 @@ use Rattle.std.specs.List.{prefix_len}
 use lib.Lanes.{chunk, mask_l, top}
 use Rattle.smi_text.specs.lexer.LongestMatch.{IsRunIn, first_set}
 
--- if the top bit of each lane is set if and only if its octet fails the test, then the run ends at the lowest lane that is set
+-- if the top bit of each lane is set if and only if its octet fails the test, then the run ends at the lowest lane that is set, or after 16 octets if none is
 pub run_in : (test : ℕ → Bool) (text : List ℕ) (at run : ℕ) (lanes : List ℕ) → at + 16 ≤ length text
     → ((k : ℕ) → Fits w8 (get_or text k 0)) → run ≡ first_set (mask_l (map (top 7) lanes) % 2 ^ 64)
     → (f : ℕ → ℕ) → lanes ≡ map f (chunk at 16 text) → agree_below (λ x. top 7 (f x)) (λ x. not (test x)) 256 ≡ true

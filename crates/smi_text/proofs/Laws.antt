@@ -1,4 +1,5 @@
--- A format is lawful for a spelling if it reads exactly what is spelled. Each way of making a format out of lawful formats makes a lawful one.
+-- A format is lawful for a spelling if it reads exactly what is spelled. Each way of making a format out of lawful formats makes a lawful one, if the
+-- token ahead always decides how to continue.
 use Rattle.std.proofs.lemmas.Grind.{common_steps}
 use Rattle.std.proofs.Common.{◌≡◌, ℕ, zero, suc, Bool, true, false, ◌&&◌, not, List, [], ◌∷◌, ◌++◌, Option, Some, None, if◌then◌else◌, refl}
 use Rattle.std.proofs.Common.{sym, ◌∙◌, ap, subst, arith, inl, inr, ◌⊎◌}

@@ -24,7 +24,7 @@ sign_read k t ts e s l = grind (arith, common_steps, sign_is, and_from, same_kin
 pub name_at : (x : List ℕ) (n : Name) → n.octets ≡ x → name_of x ≡ Some n
 name_at x n e = ap name_of (sym e) ∙ name_of-octets n
 
--- if the token ahead passes the test, then a step that stores its name returns what the format reads
+-- if the token ahead is of kind `k` and passes the test, then a step that stores its name returns what the format reads
 pub gives-name : (cs : List Ahead) (k : TokenKind) (ok : List ℕ → Bool) (t : Lexeme) (ts now rest : List Item) (r : Result Name Stop) → now ≡ Ok t ∷ ts
     → ts ≡ drop 1 now → t.kind ≡ k → ok t.text ≡ true
     → IfOk r (λ x. (name_of t.text ≡ Some x) × (rest ≡ drop 1 now)) → IfErr r (λ e. e ≡ Memory) → ReturnsReading r rest ((name_where cs k ok).read now)

@@ -19,7 +19,7 @@ abbrev zeroed : Mark → Mark
 zeroed (spelled k x ok) = spelled k x ok
 zeroed (on_line n m) = on_line 0 (zeroed m)
 
--- setting each line to 0 in the marks of all elements of a list is setting it in the marks of each element
+-- it makes no difference whether lines are set to 0 in the marks of a whole list, or in the marks of each element before these are joined
 each : {A : Type 0} (f : A → List Mark) (xs : List A) → map zeroed (flat_map f xs) ≡ flat_map (λ x. map zeroed (f x)) xs
 each f [] = refl
 each f (x ∷ xs) = map-append zeroed (f x) (flat_map f xs) ∙ ap (λ ms. map zeroed (f x) ++ ms) (each f xs)

@@ -1,4 +1,4 @@
--- If a format is lawful, then any number of its parts is read as it is spelled.
+-- If a lawful format always takes a token, then `many` of it reads one part after the other, as long as the token ahead begins one.
 use Rattle.std.proofs.lemmas.Grind.{common_steps}
 use Rattle.std.proofs.Common.{◌≡◌, ℕ, zero, suc, ◌+◌, ◌<◌, ◌≤◌, true, false, List, [], ◌∷◌, ◌++◌, length, Some, None, Ok, if◌then◌else◌}
 use Rattle.std.proofs.Common.{option_map, option_and_then, refl, ◌∙◌, ap, arith, append_assoc, append-nil}
@@ -24,7 +24,7 @@ reading-shorter law solid x ts rest h = shorter law solid x ts rest (law.takes t
 abbrev put_one : {A : Type 0} → Format A → ℕ → A × List Item → Parsed (List A)
 put_one f n p = option_map (λ q. (p.0 ∷ q.0, q.1)) (read_many f n p.1)
 
--- if a lawful format always takes a token, and two bounds are at least the number of tokens, then `read_many` reads the same with both
+-- if a lawful format always takes a token, and two bounds are above the number of tokens, then `read_many` reads the same with both
 enough : {A : Type 0} {s : A → List Mark} {f : Format A} → Lawful s f → f.empty ≡ false → (n m : ℕ) (ts : List Item) → length ts ≤ n → length ts ≤ m
     → read_many f (suc n) ts ≡ read_many f (suc m) ts
 unfolding read_many begins

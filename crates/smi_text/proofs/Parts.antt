@@ -94,12 +94,13 @@ literal_unended digits = rw (and-false (list_all is_ascii_hexdigit digits), and-
 literal_unclosed : (s : List ℕ) → list_all (is_other 39) s ≡ true → literal_part s ≡ None
 literal_unclosed s h = rw (literal_open is_ascii_hexdigit is_hex_letter s h, literal_open is_binary_digit is_binary_letter s h) refl
 
--- if the first quote is at index `i`, then a prefix that ends after it is read as a literal from the digits before the quote and the octets after it
+-- The text begins after the first quote. If the second quote is at index `i`, then a prefix that ends after it is read as the rest of a literal by the digits
+-- before that quote and the octets after it.
 literal_long : (k i : ℕ) (text : List ℕ) → IsFirstIndex 39 text (Some i)
     → literal_part (take (i + suc k) text) ≡ literal_after (take i text) (take k (drop (i + 1) text))
 literal_long k i text h = grind (arith, common_steps, take-add, rest_at, literal_reads)
 
--- if the second quote is at index `i`, then each prefix of the text isn't the rest of a literal, or it ends after this quote
+-- if the second quote is at index `i`, then a prefix that is the rest of a literal ends after this quote
 literal_at : (text : List ℕ) (i : ℕ) → IsFirstIndex 39 text (Some i) → (m : ℕ)
     → (literal_part (take m text) ≡ None)
     ⊎ ((k : ℕ) × (m ≡ i + suc k) × (literal_part (take m text) ≡ literal_after (take i text) (take k (drop (i + 1) text))))
@@ -114,7 +115,7 @@ literal_at text i h m =
 pub literal_none : (text : List ℕ) → IsFirstIndex 39 text None → IsLexemePrefix literal_part text None
 literal_none text h kind m is = none_some (lexeme kind) (sym (literal_unclosed (take m text) (list_all-take (is_other 39) m text h)) ∙ is)
 
--- if no letter follows the second quote, then no prefix is a literal
+-- if the text ends with the second quote, then no prefix is the rest of a literal
 pub literal_ends : (text : List ℕ) (i : ℕ) → IsFirstIndex 39 text (Some i) → i + 1 ≡ length text → IsLexemePrefix literal_part text None
 literal_ends text i h last kind m is = grind (arith, common_steps, literal_at, none_some, drop_all, take_all, literal_unended)
 
@@ -125,7 +126,8 @@ literal_letter digits c cs (suc zero) = inr refl
 literal_letter digits c [] (suc (suc k)) = inr refl
 literal_letter digits c (d ∷ ds) (suc (suc k)) = grind (arith, common_steps, and-false, literal_unended)
 
--- if the second quote is at index `i`, then the prefix of `i + 2` octets is the rest of a literal of the kind `found`; if that is None, no prefix is one
+-- If the second quote is at index `i`, and `found` is the kind of a literal with the digits before it and the octet after it, then the longest prefix that is
+-- the rest of a literal has `i + 2` octets. If `found` is None, then no prefix is one.
 pub literal_prefix : (text : List ℕ) (i : ℕ) → IsFirstIndex 39 text (Some i) → i + 1 < length text
     → (digits : List ℕ) → digits ≡ take i text → (found : Option TokenKind) → option_map lexeme found ≡ literal_of digits (get_or text (i + 1) 0)
     → IsLexemePrefix literal_part text (option_map (λ kind. (kind, i + 2)) found)
@@ -135,7 +137,7 @@ literal_prefix text i h next digits prefix found kind_is = by_kind found (rw pre
         ≡ literal_after (take i text) (take k (get_or text (i + 1) 0 ∷ drop ((i + 1) + 1) text))
     rest k = ap (λ s. literal_after (take i text) (take k s)) (rest_at text (i + 1) next)
 
-    -- each prefix isn't the rest of a literal, or it is the prefix of `i + 2` octets
+    -- a prefix that is the rest of a literal is the one of `i + 2` octets
     each : (m : ℕ) → (literal_part (take m text) ≡ None)
         ⊎ ((m ≤ length text → m ≡ i + 2) × (literal_part (take m text) ≡ literal_of (take i text) (get_or text (i + 1) 0)))
     each m =

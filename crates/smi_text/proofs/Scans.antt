@@ -46,7 +46,7 @@ module _ (test : List ℕ → Bool) (text : List ℕ) where
         ap (λ j. test (take j text)) offset ∙ before.same (suc (m - (n + 1))) ∙ stop (m - (n + 1)) (omega arith);
   }
 
-  -- if nothing that begins with an octet passes, then the scan stops before it
+  -- if the empty list passes, and no list that begins with the octet at `n` and goes on as the text does, then the scan stops before that octet
   pub scan_stop : (n : ℕ) → n < length text → test [] ≡ true → ((k : ℕ) → test (get_or text n 0 ∷ take k (drop (n + 1) text)) ≡ false)
       → GoesOn test text n → IsLongestPassing test text n
   scan_stop n here empty stop before =
@@ -77,7 +77,7 @@ goes_on_past test p step (suc n) (c ∷ cs) within pass k =
 
 -- ---- small facts
 
--- if `from` has a property, and each number hands it on to the next, then `to` has it
+-- if `from` has a property, and each number from `from` up to `to` hands it on to the next, then `to` has it
 pub hand_on : (P : ℕ → Type 0) (d from to : ℕ) → from + d ≡ to → ((k : ℕ) → from ≤ k → k < to → P k → P (k + 1)) → P from → P to
 hand_on P zero from to e step p = subst P (let f : from ≡ to = omega (arith, e) in f) p
 hand_on P (suc d) from to e step p = hand_on P d (from + 1) to (omega (arith, e)) (λ k above below. step k (omega arith) below) (step from (omega arith)

@@ -57,7 +57,8 @@ pub record HasDouble (line : ℕ) (text : List ℕ) : Type 0 where
   pub lexed : Lexes [] text items
   pub again : DefinesAgain line (tokens_of items)
 
--- the text has the fault that the error reports; nothing is said of it if memory ran out
+-- The text has the fault that the error reports. For `Syntax`, whatever its line, the text isn't a
+-- spelling of modules. If memory ran out, nothing is said of the text.
 abbrev pub IsCause : ParseError → List ℕ → Type 0
 IsCause (E.Lex fault) text = BreaksOff fault text
 IsCause (E.Syntax line) text = (ms : List Module) → AreSpelledBy ms text → ⊥

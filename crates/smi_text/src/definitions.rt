@@ -290,7 +290,7 @@ impl<'a> Parser<'a> {
         }
     }
 
-    /// Returns whether the token ahead begins a definition.
+    /// Returns whether a definition can begin with the token ahead.
     pub(crate) fn at_definition(&self) -> bool
         ensures { result ≡ begins grammar.definition.first self.now }
     {

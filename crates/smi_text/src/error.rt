@@ -13,7 +13,7 @@ pub enum ParseError {
     /// that line.
     #[error("line {line}: no module goes on like this")]
     Syntax { line: usize },
-    /// The definition on line `line` is of a name that its module has already defined.
+    /// The name of the definition on line `line` was defined before it in the same module.
     #[error("line {line}: a second definition of the name")]
     DoubleName { line: usize },
     /// An allocation was refused.

@@ -25,8 +25,8 @@ use std::alloc::Global;
 use std::collections::BTreeSet;
 
 impl<'a> Parser<'a> {
-    /// Returns the text of the token ahead if it begins a definition; this is the definition's
-    /// name.
+    /// Returns the text of the token ahead if a definition can begin with it. This text is the
+    /// definition's name.
     fn label(&self) -> Option<&'a [u8]>
         ensures { IsLabelAhead result self.now }
     {
@@ -49,8 +49,8 @@ impl<'a> Parser<'a> {
         Ok(Items::new(defs))
     }
 
-    /// Reads the definition of `label`, appends it to `defs`, and adds `label` to `names`. Fails
-    /// if `label` is among the names already.
+    /// Reads the definition ahead, whose name is `label`, appends it to `defs`, and adds `label`
+    /// to `names`. Fails if `label` is among the names already.
     // A definition is large: this function puts it into the list, since to return it would move it
     // again.
     fn new_definition(
@@ -137,8 +137,9 @@ fn cause_of(stop: ParseError, text: &[u8]) -> ParseError
 /// Reads the modules of `text` (RFC 2578, section 3). Returns an empty list for a text that has
 /// nothing but blanks and comments.
 ///
-/// A fault anywhere refuses the whole text. The first fault in the text is reported. If a name is
-/// defined a second time, this counts as a fault at the end of its second definition.
+/// A fault anywhere refuses the whole text. The first fault in the text is reported, unless memory
+/// runs out before. If a name is defined a second time, this counts as a fault at the end of its
+/// second definition.
 pub fn parse_modules(alloc: Global, text: &[u8]) -> Result<Vec<Module>, ParseError>
     // The text is a spelling of the modules returned, and none of them defines a name twice.
     ensures found { IfOk result (λ ms. AreSpelledBy ms.items text.now × HasNoDoubles ms.items) }
@@ -146,9 +147,9 @@ pub fn parse_modules(alloc: Global, text: &[u8]) -> Result<Vec<Module>, ParseErr
     ensures only { (ms : List Tree) → AreSpelledBy ms text.now → HasNoDoubles ms
         → MatchResult result (λ found. found.items ≡ ms) (λ error. error ≡ ParseError.Memory) }
 
-    // Each error is returned only for its cause: the lexer's fault if the lexer stops before the
-    // end, `Syntax` if the text isn't a spelling of modules, and `DoubleName` with the line of the
-    // first definition of a name that its module has already defined.
+    // Each error but `Memory` is returned only for its cause: the lexer's fault if the lexer stops
+    // before the end, `Syntax` if the text isn't a spelling of modules, and `DoubleName` with the
+    // line of the first definition whose name was defined before it in the same module.
     ensures cause { IfErr result (λ error. IsCause error text.now) }
 {
     let mut parser = Parser::new(alloc, text);

@@ -20,7 +20,7 @@ use crate::trees::{Import, Items, Name, Part, TokenText, is_macro, is_reserved};
 pub(crate) struct Head {
     /// The name of the module.
     pub(crate) name: Name,
-    /// The identifier value between the name and DEFINITIONS, if there is one.
+    /// The identifier in braces after the name, if there are braces. It may be empty.
     pub(crate) heading: Option<Items<Part>>,
     /// The FROM clauses, if there is an IMPORTS.
     pub(crate) imports: Option<Items<Import>>,

@@ -21,8 +21,7 @@ use std::alloc::Global;
 use std::collections::BTreeSet;
 use std::marker::Model;
 
-/// What is left of a text: a lexer, and the token that it returned last, which is the next to be
-/// read.
+/// What is left of a text: a lexer, and what it returned last, which is the next to be read.
 #[derive(Drop)]
 pub(crate) struct Parser<'a> {
     /// The allocator of the trees.
@@ -53,7 +52,7 @@ pub(crate) trait Production {
 
     ghost format: { Format Self.Output };
 
-    /// Returns whether the production begins with the token ahead.
+    /// Returns whether the token ahead, by its kind or word, can begin the production.
     fn is_ahead(parser: &Parser<'_>) -> bool
         ensures { result ≡ begins format.first parser.now };
 

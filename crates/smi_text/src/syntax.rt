@@ -263,7 +263,7 @@ impl<'a> Parser<'a> {
         self.and_more::<AfterBar<OneRange>>(first)
     }
 
-    /// Reads ranges of lengths after SIZE.
+    /// Reads SIZE, and the ranges of lengths in parentheses after it.
     fn size(&mut self) -> Result<Items<Range>, Stop>
         ensures { ReturnsReading result self.new (grammar.size.read self.old) }
     {

@@ -67,7 +67,8 @@ abbrev pub IsMeant : {X : Type 0} → List Module → (Def → Option (List ℕ)
 IsMeant ms refers_to means a x =
     Comes ms refers_to means a x ⊎ ((HasEnd (next_name ms refers_to) a → ⊥) × (x ≡ None))
 
--- `found` has at the index of each name what the name means
+-- for each module that is the first of its name, `found` has at the index of each of its names
+-- what that name means
 abbrev pub AreMeant : {X : Type 0} → KnownNames → (Def → Option (List ℕ))
     → (ℕ × ℕ → Def → Option X → Option X) → List (Option X) → Type 0
 AreMeant k refers_to means found =
@@ -93,7 +94,8 @@ IsNext k refers_to p to =
     (λ q. (b : QualifiedName) × (next_name k.modules refers_to a ≡ Some b)
     × (slice_get k.names q ≡ content_named k.modules b))
 
--- `next` has for each name the index of the name that it refers to, if it refers to one
+-- `next` has for each name the index of the name that it refers to, if it refers to one; that
+-- index is past the end if the name there has no meaning
 pub record AreNext (k : KnownNames) (refers_to : Def → Option (List ℕ))
     (next : List (Option ℕ)) : Type 0 where
   pub long : length next ≡ length k.names

@@ -75,8 +75,8 @@ abbrev pub IsEntryOf : Module → ℕ → Entry → Type 0
 IsEntryOf m i e = (e.«module».now ≡ m) × (e.source.0 ≡ i) × IsDefinedAt e
 
 -- `scope` has for each name the entry that `before` has or, if that has none, the entry of what
--- `more` decides, if anything; the entries added belong to module `m`, which has the index `i`;
--- the names are hashed as before
+-- `more` decides, if anything; the entries added belong to module `m`, which has the index `i`,
+-- and `scope` has each of them for its name; the names are hashed as before
 pub record KnowsMore (old : List Entry) (before : NameIndices) (new : List Entry)
     (scope : NameIndices) (m : Module) (i : ℕ) (more : List ℕ
     → Option Decision) : Type 0 where

@@ -28,8 +28,9 @@ pub record ReachesSettled (next : List (Option ℕ)) (order path : List ℕ) : T
   pub refers_to : Follows next path from to
   pub settled : IsSettled next order to
 
--- the invariant of the search: `order` has the indices marked as settled, and `path` each index
--- marked as met whose chain has an end
+-- the invariant of the search: `order` has the indices marked as settled, and only indices whose
+-- chains have an end, each after the index that it refers to; `path` has each index marked as met
+-- whose chain has an end
 pub record Keeps (next : List (Option ℕ)) (marks : List Mark) (order path : List ℕ) : Type 0 where
   pub long : length marks ≡ length next
   pub within : All (λ p. p < length next) order

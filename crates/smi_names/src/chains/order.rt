@@ -30,8 +30,8 @@ struct Search {
 }
 
 /// Returns the indices whose chains end, each after the index that it refers to. Index `i` refers
-/// to `next[i]`; a chain ends at an index that refers to `None` or past the end of `next`. Visits
-/// each index once, without recursion.
+/// to `next[i]`; a chain ends at an index that refers to `None` or past the end of `next`. Follows
+/// the reference of each index at most once, without recursion.
 pub fn topological_order(alloc: Global, next: &[Option<usize>]) -> Result<Vec<usize>, AllocError>
     ensures within { IfOk result (λ order. All (λ p. p < length next.now) order.items) }
     ensures only_ended { IfOk result (λ order. All (HasEnd (next_at next.now)) order.items) }
@@ -141,7 +141,8 @@ impl Search {
             → mark_at self.old.marks.items p ≢ Mark.New
             → mark_at self.new.marks.items p ≢ Mark.New) }
     {
-        // An index that refers to nothing needs no path: it is added to the order at once.
+        // An index that refers to nothing needs no path: it is added to the order at once, unless
+        // the order has it.
         if next[start].is_none() {
             return self.settle(next, start);
         }

@@ -64,12 +64,12 @@ pub(crate) fn reasons(alloc: Global, more: usize) -> Result<Vec<Resolution>, All
     Ok(list)
 }
 
-/// Resolves a name that is defined as another name followed by `numbers`, and returns the index of
-/// its resolution in `list`. `to` is the index of the other name, and `indices[to]` is the index
-/// of its resolution. The two names share that resolution if it isn't an identifier or `numbers`
-/// is empty. Otherwise the new identifier is appended to `list`, unless it is too long: then the
-/// result is the index of `TooLong`. Returns the index of `Unresolved` if `to` is `None` or past
-/// the end of `indices`.
+/// Resolves a name that refers to another: its identifier is the other's, followed by `numbers`.
+/// For an import these are empty. Returns the index of its resolution in `list`. `to` is the index
+/// of the other name, and `indices[to]` is the index of the other's resolution. The two names
+/// share that resolution if it isn't an identifier or `numbers` is empty. Otherwise the new
+/// identifier is appended to `list`, unless it is too long: then the result is the index of
+/// `TooLong`. Returns the index of `Unresolved` if `to` is `None` or past the end of `indices`.
 pub(crate) fn resolve_through(
     alloc: Global,
     list: &mut Vec<Resolution>,

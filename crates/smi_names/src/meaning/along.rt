@@ -19,7 +19,8 @@ pub trait References {
 
 /// A meaning of names. An imported name means what the same name means in the module after FROM
 /// (RFC 2578, section 3.2). A defined name means what its definition does, which can depend on the
-/// meaning of the name that the definition refers to. The name of a root means nothing.
+/// meaning of the name that the definition refers to. Any other name, such as a root's, means
+/// nothing.
 pub trait Meaning: Copy + References {
     /// `means at def far`: what the definition means, if the name that it refers to means `far`.
     ghost means: { ℕ × ℕ → Def → Option Self → Option Self };

@@ -26,8 +26,9 @@ pub(crate) struct Directory<'a> {
     pub(crate) scopes: Vec<NameIndices<'a>>,
     /// What decides each name of each module.
     pub(crate) entries: Vec<Entry<'a>>,
-    /// For each entry, the index of the entry that it refers to for its identifier; empty until
-    /// these are found. An import refers to the same entry for every other meaning.
+    /// For each entry whose name refers to a name for its identifier, the index of that name's
+    /// entry, or the number of entries if it has none. Empty until these are found. An import
+    /// refers to the same entry for every other meaning.
     pub(crate) parents: Vec<Option<usize>>,
 }
 
@@ -36,7 +37,7 @@ pub(crate) struct Directory<'a> {
 struct Found<'a> {
     /// The name of the module.
     home: &'a [u8],
-    /// The index of the first module of that name.
+    /// The index of the first module of that name, if there is one.
     at: Option<usize>,
     /// The name.
     name: &'a [u8],
@@ -145,8 +146,9 @@ impl<'a> Directory<'a> {
         index
     }
 
-    /// Returns the index of the entry that the entry at `index` refers to, if it refers to one.
-    /// `last` is the name that was looked up last.
+    /// If the name of `entry`, which is at `index`, refers to a name, returns the index of that
+    /// name's entry, or the number of entries if it has none. `last` is the name that was looked
+    /// up last.
     fn next<M: References>(
         &self,
         index: usize,
@@ -165,8 +167,8 @@ impl<'a> Directory<'a> {
                 let name = M::reference(def)?;
                 Some(self.cached_index(home, name.as_bytes(), last))
             }
-            // An import refers to the same entry in every meaning. It is looked up only for
-            // parents.
+            // An import refers to the same entry in every meaning. `parents` has the index of that
+            // entry, except while `parents` itself is computed.
             Decider::Import(import) => match self.parents.get(index) {
                 Some(to) => *to,
                 None => Some(self.cached_index(import.source.as_bytes(), entry.name, last)),
@@ -175,8 +177,9 @@ impl<'a> Directory<'a> {
         }
     }
 
-    /// Returns for each entry the index of the entry that it refers to, if it refers to one. The
-    /// indices for identifiers are found first, while `parents` is empty.
+    /// Returns for each entry whose name refers to a name the index of that name's entry, or the
+    /// number of entries if it has none. The indices for identifiers are found first, while
+    /// `parents` is empty.
     pub(crate) fn next_indices<M: References>(
         &self,
         alloc: Global,

@@ -70,7 +70,8 @@ impl<'s, 'a> Entries<'s, 'a> {
     /// Returns what each name means: `None` for a root, for a definition that means nothing, for
     /// an import of a name that means nothing, and for a chain that has no end, as in a ring of
     /// imports.
-    /// Visits each name once, without recursion. Fails only if memory runs out.
+    /// Finds the meaning of each name at most once, without recursion. Fails only if memory runs
+    /// out.
     pub fn along<M: Meaning>(&self, alloc: Global) -> Result<Vec<Option<M>>, AllocError>
         ensures { IfOk result (λ found. AreMeant self.now M.refers_to M.means found.items) }
     {
@@ -84,7 +85,8 @@ impl<'s, 'a> Entries<'s, 'a> {
         Ok(found)
     }
 
-    /// Returns for each name the index of the name that it refers to, if it refers to one.
+    /// Returns for each name the index of the name that it refers to, if it refers to one; that is
+    /// the number of names if the name there has no meaning.
     fn next_indices<M: References>(&self, alloc: Global) -> Result<Vec<Option<usize>>, AllocError>
         ensures { IfOk result (λ next. AreNext self.now M.refers_to next.items) }
     {
@@ -109,7 +111,8 @@ impl<'s, 'a> Entries<'s, 'a> {
 
     /// Returns what each name resolves to.
     ///
-    /// Visits each name once, without recursion: chains may be of any length, and may be rings.
+    /// Resolves each name at most once, without recursion: chains may be of any length, and may be
+    /// rings.
     pub(crate) fn resolutions(&self, alloc: Global) -> Result<Shared, AllocError>
         ensures within { IfOk result (λ s. AreWithin s.list.items s.indices.items) }
         ensures resolved { IfOk result (λ s.
@@ -134,7 +137,7 @@ impl<'s, 'a> Entries<'s, 'a> {
     }
 
     /// Returns for each name the index of the name that it refers to for its identifier, if it
-    /// refers to one.
+    /// refers to one; that is the number of names if the name there has no meaning.
     #[tactic(auto, using(crate::proofs::ReferenceChains::are_next))]
     fn parents(&self) -> &[Option<usize>]
         ensures { AreNext self.now parent_of result.now }

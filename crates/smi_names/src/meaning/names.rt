@@ -87,8 +87,8 @@ impl<'a> Names<'a> {
     /// there.
     pub fn resolution(&self, home: &'a [u8], name: &'a [u8]) -> Option<&Resolution>
         // The module's own definition decides, otherwise an import, by what the name means in the
-        // module after FROM, otherwise a root. The result is one identifier, or one reason for
-        // none.
+        // module after FROM, otherwise a root. A resolution is an identifier, or the reason why
+        // the name has none.
         ensures { let qualified : QualifiedName = record { home = home.now; name = name.now } in
             MatchOption result (origin self.now.modules qualified ≡ nowhere)
             (λ resolution. ComesTo (origin self.now.modules) qualified resolution.now) }
@@ -102,8 +102,8 @@ impl<'a> Names<'a> {
     /// in it, which should be the one of `name`.
     ///
     /// `from` is a guess at the index of the module's first name. The names of its definitions
-    /// follow one another from there, unless one is defined twice. A wrong guess is corrected, and
-    /// no result depends on it.
+    /// follow one another from there, unless one is defined twice. A wrong guess is replaced by
+    /// another, and no result depends on it.
     pub(crate) fn resolution_of(
         &self,
         source: (usize, usize),

@@ -1,11 +1,11 @@
-//! Warnings about modules that are loaded.
+//! Warnings about modules, imports and definitions.
 
 use smi_text::Text;
 
-/// A warning about a module that is loaded.
+/// A warning: a module is left out, an import isn't found, or a definition has no identifier.
 #[derive(Debug, Drop)]
 pub enum Warning {
-    /// The module of this name is left out, since an earlier one has the name.
+    /// A module of this name is left out, since an earlier one has the name.
     DoubleModule(Text),
     /// A module imports from another, which isn't loaded (RFC 2578, section 3.2). Holds both names.
     MissingModule(Text, Text),

@@ -1,7 +1,7 @@
 -- The lexemes of a module text and what can be between them, each as a relation on octets. SMIv2
--- takes them from ASN.1 (RFC 2578, section 3; X.208, section 8). This lexer accepts more, because
--- texts in use need it: `_` in words, a hyphen before digits as part of the number, and lower-case
--- digits and letters in literals.
+-- takes them from ASN.1 (RFC 2578, section 3; X.208, section 8). This lexer accepts more, as texts
+-- in use need it: among others `_` in words, a hyphen before digits as part of the number, and
+-- lower-case digits and letters in literals.
 use Rattle.std.specs.Prelude.{◌≡◌, ◌≢◌, ℕ, ◌≤◌, Bool, true, false, not, ◌&&◌, ◌||◌, ◌⊎◌, List, []}
 use Rattle.std.specs.Prelude.{◌∷◌, ◌++◌, length, IsTrue, ◌==◌}
 use Rattle.std.specs.List.{list_all}
@@ -107,7 +107,7 @@ is_remark [] = true
 is_remark (c ∷ cs) = not (is_newline c) && not (is_hyphen c && begins is_hyphen cs) && is_remark cs
 
 -- A run of hyphens, a remark (see `is_remark`), and another run of hyphens or nothing. If no other
--- run follows on the line, the longest comment extends to the newline or the end of the text.
+-- run follows on the line, the longest comment ends before the newline, or at the end of the text.
 abbrev pub IsComment : List ℕ → Type 0
 IsComment text = (opening remark closing : List ℕ) × (text ≡ opening ++ remark ++ closing)
     × IsRunOfHyphens opening × IsTrue (is_remark remark) × ((closing ≡ []) ⊎ IsRunOfHyphens closing)

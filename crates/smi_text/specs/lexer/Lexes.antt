@@ -33,8 +33,8 @@ pub record IsLongest (part : Part) (n : ℕ) (text : List ℕ) : Type 0 where
   pub longest : (other : Part) (m : ℕ) → n < m → m ≤ length text → IsPart other (take m text) → ⊥
 
 -- After the octets `before`, the text is a sequence of lexemes and gaps (blank octets and
--- comments), each the longest that can begin there. The items are its tokens, and last a fault if
--- at some octet neither begins.
+-- comments), each the longest that can begin there, up to its end or to an octet at which neither
+-- begins. The items are its tokens, and then the fault at such an octet.
 pub data Lexes : List ℕ → List ℕ → List Item → Type 0 where
   ends : {before : List ℕ} → Lexes before [] []
   passes : {before text : List ℕ} {items : List Item} (n : ℕ) → IsLongest gap n text
@@ -48,7 +48,7 @@ pub data Lexes : List ℕ → List ℕ → List Item → Type 0 where
       → IsPart part (take m (c ∷ cs)) → ⊥)
       → Lexes before (c ∷ cs) (Err (fault_on (line_after before) (c ∷ cs)) ∷ [])
 
--- from offset `from` on, each token comes after the one before it, isn't empty, and has the
+-- from offset `from` on, the tokens are in order without overlap, and each isn't empty and has the
 -- source's octets in its span as its text
 abbrev pub AreInOrder : List ℕ → ℕ → List Lexeme → Type 0
 AreInOrder source from [] = Unit {0}

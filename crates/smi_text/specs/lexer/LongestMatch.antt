@@ -1,7 +1,7 @@
 -- The tokens of a text, computed in the plain, slow way: every prefix of what is left is tried,
 -- the longest first. A part is a prefix that is a lexeme or a gap (a blank octet or a comment).
--- Contracts see a `Lexer` as the list of its items. The law that this agrees with `Lexes` is in
--- proofs/.
+-- Contracts see a `Lexer` as the list of its items. The proof that these are the items of `Lexes`
+-- is in proofs/.
 use Rattle.std.specs.Prelude.{◌≡◌, ℕ, zero, suc, pred, ◌+◌, ◌<◌, ◌≤◌, ◌⊎◌, not, get_or, Bool, true}
 use Rattle.std.specs.Prelude.{false, if◌then◌else◌, ◌&&◌, ◌||◌, ◌==◌, Option, Some, None, Ok, Err}
 use Rattle.std.specs.Prelude.{List, [], ◌∷◌, length, take, drop, count_by}
@@ -147,8 +147,8 @@ abbrev pub part_items : ℕ → ℕ → Part → List ℕ → List Item → List
 part_items at lines gap octets rest = rest
 part_items at lines (lexeme kind) octets rest = Ok (lexeme_at at lines kind octets) ∷ rest
 
--- the items of a text whose longest prefix that is a part is this one, followed by the items
--- `rest`; or only the fault, if no prefix is a part
+-- the items of a text, by its longest prefix that is a part and the items `rest` after that: the
+-- prefix, if it is a lexeme, and `rest`; if no prefix is a part, only the fault
 abbrev pub prefix_items : ℕ → ℕ → List ℕ → Option (Part × ℕ) → List Item → List Item
 prefix_items at lines text None rest = Err (fault_on (lines + 1) text) ∷ []
 prefix_items at lines text (Some prefix) rest =
@@ -205,7 +205,8 @@ abbrev pub IsLexemePrefix : (List ℕ → Option Part) → List ℕ → Option (
 IsLexemePrefix reading text None = HasNoLexeme reading text
 IsLexemePrefix reading text (Some prefix) = IsPartPrefix reading text (lexeme prefix.0) prefix.1
 
--- the first n octets, with `lines` newlines among them, add no item
+-- the first n octets add no item, and for the lines of the items after them they count as `lines`
+-- newlines
 abbrev pub Skips : List ℕ → ℕ → ℕ → Type 0
 Skips text n lines = (at before : ℕ)
     → items_at 0 at before text ≡ items_at 0 (at + n) (before + lines) (drop n text)

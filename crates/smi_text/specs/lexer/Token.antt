@@ -14,7 +14,7 @@ pub record Lexeme : Type 0 where
 abbrev pub lexeme_of : Token → Lexeme
 lexeme_of t = record { kind = t.kind; span = t.span; text = t.text.now; line = t.line }
 
--- what one call of a lexer returns: a token, or the fault if it can't read one
+-- an item of a lexer: a token, or the fault if it can't read one
 abbrev pub Item : Type 0
 Item = Result Lexeme LexError
 
@@ -22,7 +22,7 @@ abbrev pub item_of : Result Token LexError → Item
 item_of (Ok token) = Ok (lexeme_of token)
 item_of (Err fault) = Err fault
 
--- the tokens before the first fault
+-- the tokens before the first fault, or all of them if there is none
 abbrev pub tokens_of : List Item → List Lexeme
 tokens_of [] = []
 tokens_of (Ok token ∷ items) = token ∷ tokens_of items

@@ -209,7 +209,7 @@ some_of f g = record {
   empty = (pair f (many g)).empty;
 }
 
--- parts with a sign between them
+-- one part, or several with a sign between them
 unfoldable pub separated : {A : Type 0} → TokenKind → Format A → Format (List A)
 separated k f = some_of f (preceded (token k) f)
 

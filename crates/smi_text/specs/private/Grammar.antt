@@ -1,5 +1,5 @@
--- The productions of the grammar as formats: each reads back the part of a module tree that its
--- case in `Spelling.antt` writes.
+-- The productions of the grammar as formats: they read back the parts of a module tree that
+-- `Spelling.antt` writes.
 use Rattle.std.specs.Prelude.{ℕ, ◌+◌, ◌-◌, ◌==◌, Bool, true, false, ◌&&◌, not, List, [], ◌∷◌, ◌++◌}
 use Rattle.std.specs.Prelude.{length, Option, Some, None, Ok, Err, codes, map, if◌then◌else◌}
 use Rattle.std.specs.Prelude.{option_and_then, option_map}

@@ -37,7 +37,7 @@ error_of Memory = E.Memory
 abbrev pub text_ahead : List Item → List ℕ
 text_ahead items = unwrap_or (option_map (λ t. t.text) (token_ahead items)) []
 
--- the result is the text of the token ahead if that begins a definition, otherwise None
+-- the result is the text of the token ahead if a definition can begin with it, otherwise None
 abbrev pub IsLabelAhead : Option (Bor (List ℕ)) → List Item → Type 0
 IsLabelAhead None tokens = begins definition.first tokens ≡ false
 IsLabelAhead (Some x) tokens = (begins definition.first tokens ≡ true) × (x.now ≡ text_ahead tokens)
@@ -106,8 +106,8 @@ IsLexFault (E.Lex fault) text = BreaksOff fault text
 IsLexFault (E.Syntax line) text = Unit {0}
 IsLexFault _ text = ⊥
 
--- `error` may be reported if the parser stopped with this error: a fault of the lexer as above,
--- and any other error as it is
+-- `error` may be reported if the parser stopped with `stop`: for a fault of the lexer an error as
+-- `IsLexFault` says, and for any other only `stop` itself
 abbrev pub IsCauseOf : ParseError → ParseError → List ℕ → Type 0
 IsCauseOf (E.Lex fault) error text = IsLexFault error text
 IsCauseOf stop error text = error ≡ stop

@@ -1,5 +1,5 @@
--- The reserved words: those in quotes in the grammar. A name can't be one of them, unless it names
--- a macro.
+-- The reserved words: the words of the grammar. A name can't be one of them, unless it names a
+-- macro.
 use Rattle.std.specs.Prelude.{ℕ, Bool, List, [], ◌∷◌, codes}
 use Rattle.std.specs.List.{list_any}
 use Rattle.smi_text.specs.trees.Mark.{same_text}

@@ -1,6 +1,7 @@
 -- The spelling of a list of module trees, as marks: each describes one token. There is one case
--- for each production of the grammar. In the comments a word stands for itself, and UPPER, LOWER,
--- NUM, HEX, BIN and STR for a token of that kind (RFC 2578, sections 3 to 8; RFC 2579; RFC 2580).
+-- for each production of the grammar. In the comments a word or sign in quotes stands for itself,
+-- UPPER, LOWER, NUM, HEX, BIN and STR for a token of that kind, [ x ] for x or nothing, and { x }
+-- for x any number of times (RFC 2578, sections 3 to 8; RFC 2579; RFC 2580).
 use Rattle.std.specs.Prelude.{ℕ, Bool, true, false, ◌&&◌, not, List, [], ◌∷◌, ◌++◌, Option, Some}
 use Rattle.std.specs.Prelude.{None, codes, map, if◌then◌else◌}
 use Rattle.std.specs.List.{flat_map}
@@ -60,7 +61,7 @@ arc x = spelled K.Number x (is_arc x)
 abbrev pub number : List ℕ → Mark
 number x = spelled K.Number x (is_number x)
 
--- NUM, HEX or BIN
+-- NUM outside identifiers, or HEX or BIN with a value up to 18446744073709551615
 abbrev pub bound : TokenText → Mark
 bound x = spelled x.kind x.text (is_bound x.kind x.text)
 

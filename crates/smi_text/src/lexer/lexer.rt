@@ -12,9 +12,9 @@ use std::marker::Model;
 /// at an octet, it returns the fault there, and then ends. It doesn't allocate.
 #[derive(Drop)]
 pub struct Lexer<'a> {
-    /// The octets that aren't read yet.
+    /// The octets that are still to be read; none after a fault.
     rest: &'a [u8],
-    /// The number of octets before `rest`, unless that is empty.
+    /// The number of octets before `rest`, unless `rest` is empty.
     at: usize,
     /// The number of newlines among those octets.
     lines: usize,
@@ -105,7 +105,7 @@ fn fault_at(text: &[u8], line: usize) -> LexError
     }
 }
 
-/// A text has only one list of items: its tokens, and perhaps a fault.
+/// After the same octets, a text has at most one list of items: its tokens, and perhaps a fault.
 ///
 /// A law: the call does nothing, and its caller may use what it ensures.
 #[tactic(auto, using(crate::proofs::LexerLaws::one_list))]

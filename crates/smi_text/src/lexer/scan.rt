@@ -77,7 +77,7 @@ fn part_end(text: &[u8], from: usize) -> usize
     requires { from ≤ length text.now }
     ensures { IsRunBetween is_word_octet text.now from result }
 {
-    // A run of one octet before the next hyphen needs no load, which would take twice as long.
+    // A run of one octet before the next hyphen needs no vector load, which would take longer.
     if from + 1 < text.len() && text[from + 1] == b'-' && is_word_octet(text[from]) {
         return from + 1;
     }
@@ -181,7 +181,7 @@ fn literal_kind(digits: &[u8], letter: u8) -> Option<TokenKind>
 }
 
 /// Returns the kind and the length of the rest of a literal, its letter included. `text` begins
-/// after the opening quote. Returns `None` if it isn't the rest of a literal.
+/// after the opening quote. Returns `None` if `text` doesn't begin with the rest of a literal.
 fn literal_rest(text: &[u8]) -> Option<(TokenKind, usize)>
     ensures { IsLexemePrefix literal_part text.now result }
 {
@@ -207,8 +207,8 @@ fn number_rest(text: &[u8]) -> Option<(TokenKind, usize)>
     }
 }
 
-/// Returns the longest symbol that begins with the symbol `kind`, and how many octets of `text`
-/// belong to it. `text` begins after that symbol.
+/// Returns the longest symbol that the symbol `kind` makes, by itself or with octets after it, and
+/// how many octets of `text` belong to it. `text` begins after the symbol `kind`.
 fn symbol_rest(kind: TokenKind, text: &[u8]) -> (TokenKind, usize)
     ensures { IsPartPrefix (symbol_part kind) text.now (lexeme result.0) result.1 }
 {
@@ -253,8 +253,8 @@ fn blanks_end(text: &[u8], from: usize) -> usize
     requires { from ≤ length text.now }
     ensures { ArePassedBetween is_space_or_tab text.now from result }
 {
-    // After a single space mostly a lexeme follows, and a load would skip nothing; after a newline
-    // mostly more spaces follow.
+    // The caller has skipped one space. If another octet than a space follows, as mostly between
+    // two lexemes of a line, a load would skip little or nothing.
     if from < text.len() && text[from] != b' ' {
         return from;
     }
@@ -297,7 +297,8 @@ pub fn gaps_at(text: &[u8]) -> (usize, usize)
     (n, lines)
 }
 
-/// Returns how many lines end in `octets`, a lexeme of this kind. A line can end only in a string.
+/// Returns how many lines end in `octets`, a lexeme of this kind. Of all lexemes, only strings can
+/// contain a newline.
 #[tactic(auto, using(crate::proofs::PartLaws::one_line))]
 pub fn lines_in(kind: TokenKind, octets: &[u8]) -> usize
     ensures count { IsLexeme kind octets.now → result ≡ newlines octets.now }

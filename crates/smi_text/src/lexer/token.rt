@@ -74,7 +74,7 @@ pub struct Token<'a> {
     pub ghost lexical: { ∥ IsLexeme kind text.now ∥₁ },
 }
 
-/// Why the lexer stopped. `line` is the line, from 1, on which the faulty lexeme begins.
+/// Why the lexer stopped. `line` is the line, from 1, of the octet at which it stopped.
 #[derive(Clone, Copy, Debug, PartialEq, Eq, Error)]
 pub enum LexError {
     /// An octet isn't blank and begins neither a lexeme nor a comment. It may be the first `'` of

@@ -104,8 +104,9 @@ fn literal(base: u64, text: &[u8]) -> Option<u64>
     value_up_to(base, digits, u64::MAX)
 }
 
-/// Returns the value of an end of a range: a number token, or a literal up to 18446744073709551615
-/// (RFC 2578, section 7.1.1). Returns `None` if the token can't be one.
+/// Returns the value of an end of a range: what [`number`] returns for a number token, or the
+/// value of a literal up to 18446744073709551615 (RFC 2578, section 7.1.1). Returns `None` for any
+/// other token.
 #[tactic(auto, unfolding(crate::specs::trees::Number::is_bound))]
 pub fn bound(kind: TokenKind, text: &[u8]) -> Option<i128>
     ensures { result ≡ number.bound_in kind text.now }

@@ -1,5 +1,5 @@
-//! The reserved words: those in quotes in the grammar. A name can't be one of them, unless it
-//! names a macro.
+//! The reserved words: the words of the grammar. A name can't be one of them, unless it names a
+//! macro.
 #![tactic(auto, unfolding(crate::specs::trees::Reserved::is_reserved, crate::specs::trees::Number::is_macro))]
 
 ghost use Rattle.std.specs.Prelude.{◌≡◌, get_or, map};

@@ -161,7 +161,8 @@ impl Def {
     }
 }
 
-/// A part of an identifier value (RFC 2578, section 7.10).
+/// A part of an identifier value (RFC 2578, section 7.10), or of the identifier after a module's
+/// name.
 #[derive(Debug, Drop)]
 pub enum Part {
     /// A number from 0 to 4294967295.
@@ -203,7 +204,7 @@ pub struct ModuleIdentity {
     pub value: Items<Part>,
 }
 
-/// A REVISION with its DESCRIPTION (RFC 2578, sections 5.5 and 5.6).
+/// A REVISION with its DESCRIPTION (RFC 2578, sections 5.5 and 5.5.1).
 #[derive(Debug, Drop)]
 pub struct Revision {
     pub date: Text,
