@@ -3,7 +3,7 @@ use Rattle.std.proofs.{lemmas.Grind.common_steps, lemmas.Fmt.decimal_digit, lemm
 use Rattle.std.proofs.Common.{◌≡◌, ℕ, ◌+◌, ◌/◌, ◌%◌, ◌^◌, ◌<◌, ◌≤◌, List, [], ◌∷◌, ◌++◌, decimal, refl, append_assoc, arith}
 use Rattle.smi_show.specs.private.index.Digits.{three_digits}
 
--- a number of four or more digits is written as its thousands and then three digits
+-- a number of four or more digits, below 2^64, is written as its thousands and then three digits
 pub last_three : (n : ℕ) → 1000 ≤ n → n < 2 ^ 64 → decimal n ≡ decimal (n / 1000) ++ three_digits (n % 1000)
 last_three n long small = grind (arith, common_steps, decimal_step, append_assoc)
 
@@ -13,7 +13,7 @@ two_digits n above below = rw (decimal_step n above (omega arith), decimal_digit
 pub digits_of_three : (n : ℕ) → 100 ≤ n → n < 1000 → decimal n ≡ (48 + n / 10 / 10) ∷ (48 + n / 10 % 10) ∷ (48 + n % 10) ∷ []
 digits_of_three n above below = grind (arith, common_steps, decimal_step, two_digits)
 
--- if `x` is `a`, a dot and the thousands of `n`, then `x` and the last three digits of `n` are `a`, a dot and `n`
+-- if `n`, below 2^64, has four or more digits, and `x` is `a`, a dot and its thousands, then `x` and the last three digits of `n` are `a`, a dot and `n`
 pub after : (a x y : List ℕ) (n : ℕ) → 1000 ≤ n → n < 2 ^ 64 → x ≡ a ++ 46 ∷ decimal (n / 1000) → y ≡ x ++ three_digits (n % 1000)
     → y ≡ a ++ 46 ∷ decimal n
 after a x y n long small prefix end = grind (arith, common_steps, last_three, append_assoc)

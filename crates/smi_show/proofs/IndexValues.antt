@@ -58,7 +58,7 @@ either_only : (octets : Bool) (read : Option Pair) (value rest : List ℕ) → r
 either_only true read value rest is are = ap of_octets is ∙ rw are refl
 either_only false read value rest is are = is
 
--- `numbers` are an encoding of `value` in this extent, and then `rest`
+-- `numbers` are an encoding of `value` in this extent, and then `rest`, which is empty if the extent is `Implied`
 pub record IsSplit (extent : Extent) (numbers value rest : List ℕ) : Type 0 where
   pub here : List ℕ
   pub whole : numbers ≡ here ++ rest

@@ -1,4 +1,4 @@
--- A number written in decimal digits is read back, and nothing else is read.
+-- A number below 2^32 that is written in decimal digits is read back, and nothing else is read as a number.
 use Rattle.std.proofs.{lemmas.Grind.common_steps, lemmas.Bool.ltb-true, lemmas.Bool.lt-ltb}
 use Rattle.std.proofs.Common.{◌≡◌, ◌≢◌, ℕ, ◌<◌, ◌^◌, Bool, true, false, ◌&&◌, cond, ltb, List, [], IfSome, IfNone, Option, Some, None, refl, sym, ap}
 use Rattle.std.proofs.Common.{arith, decimal, length}
@@ -35,7 +35,7 @@ at_tests part false small digits is some none = refl
 pub no_numeral : (part : List ℕ) → part ≢ [] → ((n : ℕ) → IsNumeral part n → ⊥) → numeral_of part ≡ None
 no_numeral part some none = at_tests part (all_ascii_digits part) (ltb (decimal_value part) 4294967296) refl refl some none
 
--- if `read` is the number of `part`, or None if `part` isn't a number in digits, then it is what `numeral_of` computes
+-- if `part` isn't empty, and `read` is its number, or None if it isn't a number in digits, then `read` is what `numeral_of` computes
 pub numeral_read : (part : List ℕ) (read : Option ℕ) → part ≢ [] → IfSome read (IsNumeral part) → IfNone read ((n : ℕ) → IsNumeral part n → ⊥)
     → read ≡ numeral_of part
 numeral_read part (Some n) some found none = sym (numeral_is part n found)

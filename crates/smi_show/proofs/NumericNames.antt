@@ -1,4 +1,4 @@
--- A text that consists of numbers means these numbers, whatever nodes the tree has.
+-- A text that consists of at most 128 numbers means these numbers, whatever nodes the tree has.
 use Rattle.std.proofs.{lemmas.Grind.common_steps, lemmas.Bool.and_parts, lemmas.Bool.le-leb, lemmas.Bool.ne_eqb, lemmas.List.append-nil}
 use Rattle.std.proofs.Common.{◌≡◌, ◌≢◌, ℕ, ◌≤◌, true, false, eqb, List, [], ◌∷◌, ◌++◌, length, inl, inr, Option, Some, None, Result, Ok, refl, sym}
 use Rattle.std.proofs.Common.{◌∙◌, ap, subst, append_assoc, arith, length-append}

@@ -20,8 +20,8 @@ nothing : (octet : ℕ) (before after : List ℕ) → [] ≡ before ++ octet ∷
 nothing octet [] after e = cc
 nothing octet (o ∷ before) after e = cc
 
--- if `P` holds wherever `stop` occurs outside quotes in `text`, then `Q` holds wherever it does in `octet` and `text`: `P before` implies `Q` with the octet
--- more, and `Q []` holds if `stop` begins at `octet`
+-- if `P` holds wherever `stop` occurs outside quotes in `text`, `P before` implies `Q` of `octet` followed by `before`, and `Q []` holds if `stop` begins at
+-- `octet` outside quotes, then `Q` holds wherever `stop` occurs outside quotes in `octet` followed by `text`
 later : (stop : List ℕ) (quote : Option ℕ) (octet : ℕ) (text : List ℕ) (P Q : List ℕ → Type 0)
     → ((after : List ℕ) → octet ∷ text ≡ stop ++ after → quote ≡ None → Q []) → ((before : List ℕ) → P before → Q (octet ∷ before))
     → Wherever stop (open_after quote octet) text P → Wherever stop quote (octet ∷ text) Q

@@ -1,5 +1,5 @@
--- The pieces that show numbers stand for exactly these numbers (`whole`), and each may be a part of a name (`each`). `next_value` says what one more value of
--- an index adds to the text.
+-- The pieces that show numbers stand for exactly these numbers (`whole`), and each may be a part of a name if the numbers are below 2^32 (`each`).
+-- `next_value` says what one more value of an index adds to the text.
 use Rattle.std.proofs.Common.{arith, ◌≡◌, ◌≢◌, ℕ, ◌+◌, ◌<◌, ◌^◌, Bool, true, false, not, cond, nat_eq, List, [], ◌∷◌, ◌++◌, length, drop, get_or}
 use Rattle.std.proofs.Common.{Option, Some, None, option_map, unwrap_or, All, inl, inr, refl, sym, ◌∙◌, ap, subst}
 use Rattle.std.proofs.{lemmas.Grind.common_steps, lemmas.Grind.flat_map-append, lemmas.List.at_drop_more, lemmas.List.append-nil}
@@ -15,7 +15,7 @@ use Rattle.smi_show.specs.index.Pieces.{Piece, plain_number, is_quotable, is_sho
 use Rattle.smi_show.specs.index.Pieces.{as_numbers, as_text, extent_numbers, value_numbers, value_pieces, index_pieces, AreInstancePieces}
 use Rattle.smi_show.proofs.IndexValues.{all_found, all_only, first_value}
 
--- `value`, a value of part `i`, is the first of the values `ahead`, and the parts after it read the other ones from `rest`
+-- the text of the values `ahead`, the first one of part `i`, is the text of `value` and then the text of `more`, which the parts after `i` read from `rest`
 pub record IsNextValue (parts : List IndexPart) (i : ℕ) (value rest : List ℕ) (ahead : List (List ℕ)) : Type 0 where
   pub more : List (List ℕ)
   pub left : values_of (drop (i + 1) parts) rest ≡ Some more

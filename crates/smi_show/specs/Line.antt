@@ -29,8 +29,8 @@ pub record IsValueText (tree : Contents) (letters : Letters) (name : List ℕ) (
   pub are_names : (o : List ℕ) → IsName tree letters.names letters.numeric_index o (names o)
   pub shows : ShowsValue names letters (nearest_syntax tree name) value text
 
--- `text` is the line of a binding by `letters`: name and separator, unless with the letter `v`,
--- then `value`, and a newline
+-- `text` is the line of a binding by `letters`: name, separator, value and a newline, but only the
+-- value and the newline with the letter `v`
 pub record IsLine (tree : Contents) (letters : Letters) (name : List ℕ) (value : Datum)
     (text : List ℕ) : Type 0 where
   pub shown_name : List ℕ

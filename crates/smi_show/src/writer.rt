@@ -17,13 +17,13 @@ use std::marker::Model;
 /// Writes the lines of bindings by one tree, one after the other.
 ///
 /// A writer stores what the tree found for the last name. This is used for the next name too if it
-/// holds for that name: most lines follow a line of the same column. In contracts, a writer is its
-/// tree.
+/// is known to hold for that name: most lines follow a line of the same column. In contracts, a
+/// writer is its tree.
 #[derive(Drop)]
 pub struct LineWriter<'t> {
     tree: &'t Tree,
     near: Near,
-    // What the tree found for the last name.
+    // What the tree found for the last name, if there was one.
     found: Found<'t>,
 }
 

@@ -79,7 +79,8 @@ pub begins_push : (known : List (List ℕ)) (p : List ℕ) (j : ℕ) → IsBegin
 begins_push known p j =
     (length known, drop j p, omega (arith, length_push known p), get_or_push known p [] (length known) refl ∙ sym (take-append-drop j p))
 
--- if the numbers of an identifier reach a branch, and its index is stored there unless one is already, the branches are right for the list with it appended
+-- if branches are right for a list, with the prefixes of one more identifier, whose numbers reach the branch `at`, then they are right for the list with it
+-- appended, once its index is stored at `at`, unless an index is stored there already
 module _ (oids : List (List ℕ)) (p : List ℕ) (bs : List Branch) (at : ℕ) (a : Branch) (s : Option ℕ) (are : AreBranches (oids ++ p ∷ []) oids bs)
     (here : branch_of bs p ≡ Some at) (read : a ≡ get_or bs at a) where
   abbrev new : List Branch

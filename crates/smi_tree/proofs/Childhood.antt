@@ -61,7 +61,8 @@ child_first nodes o label = of_lowest-lowest (child_at nodes o label) (suc (high
 pub child_is : (nodes : List Node) (o label : List ℕ) (r : Option ℕ) → IsFirstChild nodes o label r → r ≡ child_of nodes o label
 child_is nodes o label r is = one_lowest is (child_first nodes o label)
 
--- the node at index `id` has the label `label`, and of the children of `o` with this label whose indices are at least `id`, `child` has the lowest number
+-- the node at index `id` has the label `label`; `child`, if there is one, is a child of `o` with this label, and its number is at most the number of each such
+-- child whose index is at least `id`; if `child` is `None`, there is none from `id` on
 pub record IsLowestFrom (nodes : List Node) (o label : List ℕ) (id : ℕ) (child : Option (ℕ × ℕ)) : Type 0 where
   pub within : id < length nodes
   pub labelled : label_at (labels_of nodes) id ≡ label
@@ -111,7 +112,8 @@ module _ (nodes : List Node) (o label : List ℕ) where
           → IsSomeAnd new (λ d. d.0 ≤ n)
       trans n old new a b = grind (arith, common_steps)
 
-  -- the same for the previous index `p` of the label, after the index `id`
+  -- if `old` has the lowest number from index `id` on, and `p` is the previous index of the label, then the lower one of `old` and the child at index `p` has
+  -- the lowest number from `p` on
   pub search_moves : {id p : ℕ} {old new : Option (ℕ × ℕ)} → IsLowestFrom nodes o label id old → IsPrevious (labels_of nodes) (length nodes) id p
       → IsLowerChild (oids_of nodes) o old p new → IsLowestFrom nodes o label p new
   search_moves {id = id} {p = p} {old = old} {new = new} at next l =

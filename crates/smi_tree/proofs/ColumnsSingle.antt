@@ -13,7 +13,7 @@ use Rattle.smi_tree.specs.columns.Parts.{StatesBound, IsFixedBy, HasExtent, IsPa
 use Rattle.smi_tree.specs.columns.Index.{IsIndexPart, AreParts, IsIndexed, IsIndexOf, IsIndex, AreIndexesOf, index_at, is_implied}
 use Rattle.smi_tree.proofs.{TypesSingle.one_syntax, Lists.get_within, Lists.same_items, Parts.defined_once, IndexesOfNodes.index_once}
 
--- if a SIZE is fixed, it has one bound, and that has one value
+-- a SIZE is fixed to at most one number
 fixed_once : (sizes : Option (List Range)) (n m : ℕ) (a : (bound : TokenText) × IsFixedBy sizes bound × StatesBound bound n)
     (b : (bound : TokenText) × IsFixedBy sizes bound × StatesBound bound m) → n ≡ m
 fixed_once sizes n m a b = grind (arith, common_steps)

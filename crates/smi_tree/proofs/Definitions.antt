@@ -8,7 +8,7 @@ use Rattle.smi_names.specs.meaning.Along.{source_as_meaning}
 use Rattle.smi_tree.specs.columns.Definitions.{IsDefinedBy, own, through}
 use Rattle.smi_tree.specs.private.Named.{IsFoundAt, IsUndefined}
 
--- if an imported name refers to a definition, so does the same name in the module after FROM
+-- if an imported name refers to a definition, the same name in the module after FROM refers to this definition too
 beyond : (ms : List Module) (home : Module) (i : Import) {a : QualifiedName} {m : Module} {d : Def} → IsDefinedBy ms a m d
     → module_named ms a.home ≡ Some home → decision home a.name ≡ Some (imported i)
     → IsDefinedBy ms (record { home = i.source.octets; name = a.name }) m d

@@ -1,4 +1,4 @@
--- The index that is stored of a list of named numbers or bits is the index of that list (`index_right`).
+-- If an index is stored of a list of named numbers or bits, it is the index of that list (`index_right`).
 use Rattle.std.proofs.{lemmas.Grind.common_steps, lemmas.Option.same_Some}
 use Rattle.std.proofs.Common.{◌≡◌, ℕ, Bool, true, false, cond, List, Option, Some, None, refl, subst, sym, ap, ◌∙◌, arith}
 use Rattle.std.specs.{Prelude.IfSome, List.slice_get, Option.option_and_then, Option.option_map, Ordering.nat_cmp}
@@ -31,7 +31,7 @@ index_right ms all are (Some (i, k)) names e = by (slice_get ms i) refl
     by None f = absurd (let none : option_and_then names_of (def_of ms (Some (i, k))) ≡ None = rw f refl in cc)
     by (Some m) f = of m f (slice_get m.defs k) refl
 
--- the index that is stored for a syntax is that of its names
+-- the index that is stored for a syntax, if there is one, is the index of its names
 pub kept_right : (ms : List Module) (all : List (BTreeMap ℕ NumberIndex)) → AreNumbersOfAll ms all → (s : Option KeptSyntax) (f : Facts)
     (names : List NamedNumber) → option_map (facts_at ms) s ≡ Some f → f.names ≡ Some names
     → IfSome (option_and_then (λ (kept : KeptSyntax). index_at all kept.names) s) (IsIndexOf names)
@@ -41,7 +41,7 @@ kept_right ms all are (Some s) f names e h = index_right ms all are s.names name
 same_key : (i k : ℕ) → is_at (nat_cmp i) k ≡ true → i ≡ k
 same_key i k e = grind (arith, common_steps)
 
--- after the index of one more definition is inserted, each index is still that of its definition
+-- if the index of one more definition is inserted, each index still belongs to the definition that its key refers to
 pub inserted : (defs : List Def) (old new : BTreeMap ℕ NumberIndex) (i : ℕ) (def : Def) (index : NumberIndex) → AreNumbersOf defs old
     → slice_get defs i ≡ Some def → IsIndexIn def index → Updates nat_cmp old new i (Some index) → AreNumbersOf defs new
 inserted defs old new i def index are at right updates k d e = rw (updates.0 k) (by (is_at (nat_cmp i) k) refl)

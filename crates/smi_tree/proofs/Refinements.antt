@@ -84,7 +84,7 @@ module _ (ms : List Module) (at : ℕ × ℕ) (d : Def) (there : def_at ms at.0 
       → IsKept ms (origin_of_simple home hint (Some s)) (refined_by at (is_some hint) s far)
   refined_right home far named = by_base home s.base (base_in s.base) refl far named
 
--- if `N` holds for no syntax, and `P` for the facts of a syntax, then the same holds for the syntax that the code returns
+-- a match on the facts of a result (`N` if the result is `None`, otherwise `P` of the facts) is a match on the result
 pub by_facts : (N : Type 0) (P : Facts → Type 0) (r : Option TypeSyntax) → MatchOption (option_map facts_of r) N P → MatchOption r N (λ s. P (facts_of s))
 by_facts N P r h = grind (arith, common_steps)
 

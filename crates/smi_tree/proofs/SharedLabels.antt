@@ -1,4 +1,4 @@
--- If several modules define a label, then the map `others` has the first source in each module (`others-more`).
+-- For the loop that makes the maps of labels: if the map `others` is right for the first sources, it is right with one source more (`others-more`).
 use Rattle.std.proofs.Common.{◌≡◌, ℕ, ◌+◌, ◌<◌, ◌==◌, ◌&&◌, Bool, true, false, cond, List, length, take, get_or, Option, Some, None, unwrap_or, arith}
 use Rattle.std.proofs.Common.{option_map, refl, sym, ◌∙◌}
 use Rattle.std.proofs.{lemmas.Grind.common_steps, lemmas.Bool.eqb-true, Math.Bool.and-false}
@@ -33,7 +33,8 @@ fits (Some key) other = same_key key other
 
 module _ (ms : List Module) (homes : NameIndices) (ss : List Source) (old new : Others) (k f : ℕ) (d : Source)
     (placed : (x : List ℕ) → index_in homes x ≡ module_index ms x) (inside : k < length ss) where
-  -- if `old` is right for the first `k` sources, and `new` is `old` with the source at index `k` entered by its key, then `new` is right for `k + 1` sources
+  -- if `old` is right for the first `k` sources, and `new` is `old` with `k` at the key of the source at index `k`, if this has a key and `old` has nothing at
+  -- it, then `new` is right for `k + 1` sources
   pub others-more : position_from (has_label ms (label_from ms (get_or ss k d))) 0 ss ≡ Some f
       → ((y : ℕ × ℕ) → get same_key new y ≡ or_else (get same_key old y) (cond (fits (key_of ms homes (get_or ss k d) f k) y) (Some k) None))
       → AreOthers ms ss old (take k ss) → AreOthers ms ss new (take (k + 1) ss)

@@ -23,10 +23,11 @@ contents ms ss os types indexes = record {
   indexes = indexes;
 }
 
--- what a `Tree` stores is the tree of its modules, `ms`; its maps have the index of the first
--- module of each name, and the indices of the first sources with each label; `of_previous` has, for
--- each source, the last one before it with the same label; for a label's first source, the last one
--- with this label
+-- what a `Tree` stores is the tree of its modules, `ms`; `of_homes` has the index of the first
+-- module of each name, `of_labels` the index of the first source with each label, and `of_others`
+-- the index of the first one in each other module, if there is one; `of_previous` has, for each
+-- source, the last one before it with the same label; for a label's first source, the last one
+-- with this label; the indexes of named numbers or bits in `types` belong to the lists in `ms`
 pub record IsTreeKept (ms : List Module) (ss : List Source) (os : List (List ℕ)) (types : Types)
     (indexes : List (Option (List IndexPart))) (of_homes of_labels : NameIndices)
     (of_others : Others) (of_previous : List ℕ) : Type 0 where

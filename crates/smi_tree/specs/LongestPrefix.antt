@@ -13,14 +13,15 @@ abbrev pub at_depth : ℕ → Option ℕ → Option Longest
 at_depth depth None = None
 at_depth depth (Some id) = Some (record { id = id; depth = depth })
 
--- The longest prefix of `o` of at most `j` numbers that is in the list. It is computed; the law
--- `look_ups` describes it by `IsDeepestAt`.
+-- The longest prefix of `o` of at most `j` numbers that is in the list, if `j` is at most the
+-- length of `o`.
 unfoldable pub longest_up_to : List (List ℕ) → List ℕ → ℕ → Option Longest
 longest_up_to oids o zero = at_depth 0 (first_index oids [])
 longest_up_to oids o (suc j) =
     or_else (at_depth (suc j) (first_index oids (take (suc j) o))) (longest_up_to oids o j)
 
--- the node of the longest prefix of `o` that has one, or `None` if no prefix has one
+-- the node of the longest prefix of `o` that has one, or `None` if no prefix has one; it is
+-- computed, and the law `look_ups` describes it by `IsDeepestAt`
 abbrev pub longest : List Node → List ℕ → Option Longest
 longest nodes o = longest_up_to (oids_of nodes) o (length o)
 

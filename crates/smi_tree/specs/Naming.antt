@@ -93,8 +93,8 @@ LabelRefersTo tree (Some home) label o =
     (is_word home ≡ true) × (is_module_loaded tree home ≡ true)
     × (oid_in_module tree home label ≡ Some o)
 
--- if a node is found for an identifier, its label is a word, and a look-up of the label returns
--- the prefix of the identifier that has the node's depth
+-- if a node is found for an identifier, its depth is at most the length of the identifier, its
+-- label is a word, and a look-up of the label returns the prefix of the identifier with this depth
 pub record IsSound (tree : Contents) : Type 0 where
   pub within : (o : List ℕ) (node : NodeView) → nearest_node tree o ≡ Some node
       → node.depth ≤ length o

@@ -56,7 +56,7 @@ last_number [] = 0
 last_number (n ∷ []) = n
 last_number (n ∷ next ∷ more) = last_number (next ∷ more)
 
--- the highest of the last numbers of identifiers, or 0
+-- the highest of the last numbers of identifiers, or 0 if the list is empty
 abbrev pub highest : List (List ℕ) → ℕ
 highest [] = 0
 highest (o ∷ os) = max (last_number o) (highest os)

@@ -9,16 +9,16 @@ use Rattle.smi_tree.specs.declared.columns.index_part.IndexPart.{IndexPart}
 use Rattle.smi_tree.specs.declared.node.Node.{Node as Seen}
 
 -- the modules that were passed, and the nodes in order of loading, each with the syntax of its
--- object and with its index
+-- object and with its index, if it has them
 pub record Contents : Type 0 where
   pub modules : List Module
   pub nodes : List Node
   pub syntaxes : List (Option Facts)
   pub indexes : List (Option (List IndexPart))
 
--- `tree` has the roots, and then the nodes of `modules`; `warnings` are the warnings about
--- `modules`; the syntax of each node is what its chain of types defines, and its index comes from
--- its row
+-- `tree` has `modules`, the roots, and then the nodes of `modules`; `warnings` are the warnings
+-- about `modules`; each node that is an object has the syntax that its chain of types defines, and
+-- each column the index by the INDEX or AUGMENTS clause of its row, if there are such
 pub record IsTree (modules : List Module) (tree : Contents) (warnings : List Warning)
     : Type 0 where
   pub passed : tree.modules ≡ modules
@@ -28,8 +28,8 @@ pub record IsTree (modules : List Module) (tree : Contents) (warnings : List War
   pub syntaxes : AreSyntaxesOf modules tree.nodes tree.syntaxes
   pub indexes : AreIndexesOf modules tree.nodes tree.indexes
 
--- a tree as it was loaded, with the warnings about its modules, and with the one key by which all
--- maps of names that the load made hash their names
+-- a tree as it was loaded, with the warnings about its modules, and with the key of its maps of
+-- names: all maps of names that the load made have this key
 pub record Load : Type 0 where
   pub tree : Contents
   pub warnings : List Warning

@@ -24,7 +24,7 @@ pub(crate) type Indices = IndexMap<NameBuf, usize, NameHash>;
 /// index as the node.)
 pub(crate) type Others = IndexMap<(usize, usize), usize, NameHash>;
 
-/// The indices of the first sources of labels.
+/// For each label, the indices of the sources with it.
 #[derive(Drop)]
 pub(crate) struct LabelIndices {
     /// For each label, the index of its first source.
@@ -111,7 +111,7 @@ pub(crate) fn labels(
         if let Some(key) = key_of(modules, homes, *source, first, k) {
             insert_if_absent(&mut others, key, k)?;
         }
-        // If there is a source before this one, `previous` has the last of them at `first`.
+        // If sources before this one have its label, `previous` has the last of them at `first`.
         previous.push(k)?;
         previous.swap(first, k);
     }

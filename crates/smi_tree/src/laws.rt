@@ -36,9 +36,9 @@ pub fn bare_tree()
     ensures { IsTree [] bare [] }
 {}
 
-/// `longest` is the longest prefix of an identifier that has a node, and `child_of` is the first
-/// child with a label (RFC 2578, section 3.6). Look-ups of names, definitions and syntaxes find
-/// these.
+/// `longest` is the longest prefix of an identifier that has a node, if one has, and `child_of` is
+/// the first child with a label, if one has it (RFC 2578, section 3.6). Look-ups of names,
+/// definitions and syntaxes find these.
 #[tactic(auto, using(crate::proofs::Childhood::child_first, crate::proofs::LongestPrefix::longest_is))]
 pub fn look_ups()
     ensures longest { (nodes : List Node) (o : List ℕ) → MatchOption (longest nodes o)
@@ -62,7 +62,7 @@ pub fn nodes_have_identifiers()
         → node.oid ≡ oid }
 {}
 
-/// An object has at most one syntax: its chain of types has one end.
+/// An object has at most one syntax: its chain of types has at most one end.
 pub fn one_syntax()
     ensures { (modules : List Module) (object : TypeOrigin QualifiedName) (facts other : Facts)
         → HasSyntax modules object facts → HasSyntax modules object other → facts ≡ other }

@@ -1,4 +1,5 @@
-//! The tree of names: the nodes that loaded modules define, found by name and by identifier.
+//! The tree of names: the built-in roots and the nodes that loaded modules define, found by name
+//! and by identifier.
 //!
 //! Depends on module trees, on what their names mean and on the nodes that they define. Crates
 //! above use it to read the names on a command line, and to show names, values and details.

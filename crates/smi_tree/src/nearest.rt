@@ -28,7 +28,7 @@ impl Near {
 pub struct Found<'a> {
     /// The node of the longest prefix of the identifier that has one.
     pub node: Option<NearestNode<'a>>,
-    /// The syntax of that node, if it is an object whose type is known.
+    /// The syntax of that node, if it is an object that has one.
     pub syntax: Option<ValueSyntax<'a>>,
     /// An identifier such that all identifiers below it have this node and this syntax, if the tree
     /// knows one.

@@ -54,14 +54,14 @@ pub struct Tree {
     /// For each label, the index of the first node with that label.
     labels: Indices,
     /// For each label, and each module other than the module of the label's first node: the index
-    /// of the first node with that label in that module.
+    /// of the first node with that label in that module, if there is one.
     others: Others,
     /// For each node, the last one before it with the same label. For a label's first node, the
     /// last one with this label.
     previous: Vec<NodeId>,
-    /// The syntax of each object.
+    /// The syntaxes of objects.
     types: Types,
-    /// For each node that is a column, what the numbers after its identifier encode (INDEX or
+    /// The indexes of columns: what the numbers after a column's identifier encode (INDEX or
     /// AUGMENTS).
     indexes: Indexes,
 }
@@ -111,8 +111,8 @@ impl Tree {
     }
 
     /// Loads the tree of `modules`, as [`Tree::load`] does, with this key: each map of names that
-    /// the load makes has it. Someone who doesn't know the key can't choose names that make
-    /// look-ups slow.
+    /// the load makes has it. Someone who doesn't know the key can't choose names that all have
+    /// the same hash.
     pub fn load_with_key(
         alloc: Global,
         key: NameHash,
@@ -227,9 +227,9 @@ impl Tree {
     }
 
     /// Returns the syntax of a node's object: what its chain of types defines. The chain is the
-    /// type in its SYNTAX, the type that this one refines, and so on. Returns `None` if the node
-    /// isn't an object, or if that chain is broken, has no end, or ends at something other than a
-    /// type of values (RFC 2578, sections 7.1 and 9).
+    /// type in its SYNTAX, the type that this one refines, and so on. Returns `None` if there is
+    /// no node `id`, if it isn't an object, or if that chain is broken, has no end, or ends at
+    /// something other than a type of values (RFC 2578, sections 7.1 and 9).
     pub fn syntax_of(&self, id: NodeId) -> Option<TypeSyntax<'_>>
         ensures { option_map facts_of result ≡ slice_index_or self.now.syntaxes id None }
     {
@@ -237,8 +237,8 @@ impl Tree {
         syntax(&self.types, &self.modules, *source)
     }
 
-    /// Returns the parts of the index of a node, or `None` if it isn't a column or its index can't
-    /// be read (RFC 2578, sections 7.7 and 7.8).
+    /// Returns the parts of the index of a node. Returns `None` if there is no node `id`, if it
+    /// isn't a column, or if its index can't be read (RFC 2578, sections 7.7 and 7.8).
     pub fn index_of(&self, id: NodeId) -> Option<&[IndexPart]>
         ensures { option_map (λ parts. parts.now) result
             ≡ slice_index_or self.now.indexes id None }
@@ -289,8 +289,8 @@ impl Tree {
         self.nearest_from(oid, &mut Near::new())
     }
 
-    /// Returns what [`Tree::nearest`] returns, faster for a series of identifiers: the search
-    /// begins at the node that was found last, which `near` stores, if `oid` is below it.
+    /// Returns what [`Tree::nearest`] returns, faster if `oid` is below the node that was found
+    /// last: the search then begins at that node, which `near` stores.
     #[tactic(auto, unfolding(crate::specs::Naming::nearest_node))]
     pub fn nearest_from(&self, oid: &Oid, near: &mut Near) -> Option<NearestNode<'_>>
         ensures { option_map view_of result ≡ nearest_node self.now oid.now }
@@ -309,8 +309,8 @@ impl Tree {
         self.definition_of(deepest.id)
     }
 
-    /// Returns the syntax of the node of the longest prefix of `oid` that has a node, if that is
-    /// an object whose type is known.
+    /// Returns the syntax, for showing values, of the node of the longest prefix of `oid` that has
+    /// a node. Returns `None` if there is no such node, or if it isn't an object with a syntax.
     #[tactic(auto, unfolding(crate::specs::Naming::nearest_syntax))]
     pub fn nearest_syntax(&self, oid: &Oid) -> Option<ValueSyntax<'_>>
         ensures { result ≡ nearest_syntax self.now oid.now }
@@ -351,8 +351,8 @@ impl Tree {
     }
 
     /// If a node is found for an identifier, then its label is a word (a letter, and then letters,
-    /// digits, `_`, and single hyphens between them), and a look-up of the label returns the
-    /// identifier of that node.
+    /// digits, `_`, and single hyphens between them), and a look-up of the label, in the node's
+    /// module if it has one, returns the identifier of that node.
     ///
     /// A law: the call does nothing, and its caller may use what it ensures.
     #[tactic(auto, using(crate::proofs::SoundNames::sound_by))]

@@ -41,7 +41,7 @@ pub(crate) struct KeptSyntax {
     sizes: Option<(usize, usize)>,
 }
 
-/// The syntax of each object of modules. The caller stores the modules.
+/// The syntaxes of the objects of modules. The caller stores the modules.
 #[derive(Drop)]
 pub struct Types {
     /// For each definition of each module, its syntax, if it is an object that has one.
@@ -74,7 +74,7 @@ impl Meaning for KeptSyntax {
 }
 
 impl Types {
-    /// Returns the types of `modules`. Visits each name once, without recursion.
+    /// Returns the types of `modules`, without recursion.
     #[tactic(auto, using(crate::proofs::Refinements::are_types))]
     pub fn new<'a>(
         alloc: Global,
@@ -96,9 +96,9 @@ impl Types {
     }
 
     /// Returns the syntax of an OBJECT-TYPE, by the index of its module and its index in the
-    /// module. Returns `None` if it isn't one, or if its chain of types is broken, has no end, or
-    /// ends at something other than a type of values (RFC 2578, sections 7.1 and 9). The caller
-    /// must pass the modules that the types were made from.
+    /// module. Returns `None` if no OBJECT-TYPE has these indices, or if its chain of types is
+    /// broken, has no end, or ends at something other than a type of values (RFC 2578, sections
+    /// 7.1 and 9). The caller must pass the modules that the types were made from.
     #[tactic(auto, using(crate::proofs::Refinements::by_facts))]
     pub fn syntax<'m>(
         &self,
@@ -157,7 +157,7 @@ fn definition(modules: &[Module], at: Option<(usize, usize)>) -> Option<&Def>
 
 /// Returns the syntax of the type in the definition `at`. Its own hint, names and SIZE take
 /// precedence; what it lacks is inherited from `far`, the syntax of the type that it refines. A
-/// type that refines a base type inherits nothing else. `hint` says whether the definition has a
+/// type that refines a base type inherits only this base. `hint` says whether the definition has a
 /// hint. Returns `None` if the type doesn't refine a base type and `far` is `None`.
 #[tactic(auto, using(crate::proofs::Refinements::is_some_copied))]
 fn inherit_syntax(
@@ -192,8 +192,9 @@ fn base_syntax_or(simple: &SimpleType, far: Option<KeptSyntax>) -> Option<KeptSy
     }
 }
 
-/// Returns `at` if `states`, which says that the definition at `at` has its own hint, names or
-/// SIZE. Otherwise returns `far`, the definition that this is inherited from.
+/// Returns the definition that a hint, names or a SIZE comes from. This is `at` if `states`, which
+/// says that the definition at `at` has its own. Otherwise it is `far`, the definition from which
+/// it is inherited, if there is one.
 fn nearer(states: bool, at: (usize, usize), far: Option<(usize, usize)>) -> Option<(usize, usize)>
     ensures { result ≡ (if states then Some at else far) }
 {

@@ -41,7 +41,7 @@ pub written_last : (at base left n digit : ℕ) (text : List ℕ) → 0 < at →
     → (left / base == 0) ≡ true → drop (at - 1) (set text (at - 1) digit) ≡ digits base false n
 written_last at base left n digit text some within h is_digit no_more = grind (arith, common_steps, drop-set, add-one, last_written)
 
--- if n is the value of the first i digits, and d is the next digit, then n * 10 + d is the value of the first i + 1
+-- if n is the value of the first i digits, and d is the value of the next digit, then n * 10 + d is the value of the first i + 1
 pub value_more : (digits : List ℕ) (i n d : ℕ) → i < length digits → IsInRange 48 57 (get_or digits i 0) → n ≡ digits_value 10 (take i digits)
     → d ≡ get_or digits i 0 - 48
     → n * 10 + d ≡ digits_value 10 (take (i + 1) digits)

@@ -130,8 +130,8 @@ pub record AppendsShown (hint octets : List ℕ) (old new : Written) : Type 0 wh
   pub shows : ShowsOctets hint octets text
   pub grows : Grows old text new
 
--- `ahead` is the text of the specs after `spec`; if the groups that `spec` and these cut `left` into are appended from `now` on, then what `hint`
--- shows for `octets` is appended from `old` on
+-- `ahead` is the text of the specs after `spec`, the last of all these specs takes octets, and `spec` isn't too long for its format; if the groups that `spec`
+-- and the specs after it cut `left` into are appended from `now` on, then what `hint` shows for `octets` is appended from `old` on
 pub record GroupsAhead (hint octets : List ℕ) (old : Written) (spec : Spec) (ahead left : List ℕ) (now : Written) : Type 0 where
   pub specs : List Spec
   pub are_specs : AreSpecs ahead specs

@@ -11,7 +11,7 @@ use Rattle.smi_value.specs.{declared.letters.StringForm.StringForm, Texts.is_pri
 use Rattle.smi_value.specs.declared.letters.StringForm.TheVariants as strings
 use Rattle.smi_value.specs.Pieces.{ArePlain, IsShownPlain, is_plain, printable_or_dot}
 
--- if lanes are tested against `y`, with `y` on the left, then the mask has one bit for each lane: the result of its test
+-- if at most 64 lanes are tested against `y`, with `y` on the left, then the mask has one bit for each lane: the result of its test
 left_mask : (t : ℕ → ℕ → Bool) (lanes : List ℕ) (n y : ℕ) → length lanes ≡ n → n ≤ 64
     → mask_l (map (top 7) (zip2 (λ a b. cond (t a b) 255 0) (replicate n y) lanes)) % 2 ^ 64 ≡ mask_l (map (λ x. t y x) lanes)
 left_mask t lanes n y long few =
@@ -46,7 +46,7 @@ lanes_pass octets at n room few low high quote backslash k from to =
     (none_from_empty_mask (λ x. eqb x 34) octets at n 0 room c k from to)
     (none_from_empty_mask (λ x. eqb x 92) octets at n 0 room d k from to)
 
--- if three masks are 0, and a test says that the fourth is 0 too, then the octets are plain
+-- if none of the `n` octets from offset `at` on, at most 64, is below 32, above 126 or `"`, and a test says that none is a backslash, then they are plain
 pub plain_lanes : (octets : List ℕ) (at n : ℕ) → at + n ≤ length octets → n ≤ 64 → mask_below octets at n 32 ≡ 0 → mask_above octets at n 126 ≡ 0
     → mask_equal octets at n 34 ≡ 0 → OnTrue (mask_equal octets at n 92 == 0) (ArePlain octets at (at + n))
 plain_lanes octets at n room few low high quote =

@@ -34,7 +34,8 @@ printable_or_dot octet = if is_printable octet then octet else 46
 abbrev pub quoted : List ℕ → List ℕ
 quoted octets = codes "\"" ++ flat_map (λ octet. escape_octet (printable_or_dot octet)) octets ++ codes "\""
 
--- whether a string that isn't empty is shown as text: if it is printable, or with a; never with x
+-- whether a string that isn't empty is shown as text. The last of x and a decides: with x it
+-- isn't, with a it is; without either, it is if each octet is printable.
 abbrev pub is_text : StringForm → List ℕ → Bool
 is_text strings.Plain octets = list_all is_printable octets
 is_text strings.Hexadecimal octets = false

@@ -34,7 +34,8 @@ impl NumberIndex {
         ensures { IfOk result (IsIndexOf names.now) }
     {
         let mut positions = BTreeMap::new(alloc);
-        // From the last name to the first, which replaces all later ones of its number.
+        // From the last name to the first, so that the first name of a number replaces all later
+        // ones.
         'names: for position in (0..names.len()).rev() {
             if let Some(n) = number(names[position].number.as_bytes()) {
                 positions.insert(n, position)?;
@@ -43,7 +44,8 @@ impl NumberIndex {
         Ok(NumberIndex { positions })
     }
 
-    /// Returns the first of `names` with the number `n`. The index must be that of `names`.
+    /// Returns the first of `names` with the number `n`, if there is one. This must be the index
+    /// of `names`.
     fn first_of<'a>(&self, names: &'a [NamedNumber], n: i128) -> Option<&'a NamedNumber>
         requires { IsIndexOf names.now self.now }
         ensures { option_copied result ≡ find (is_number_of n) names.now }
@@ -51,7 +53,7 @@ impl NumberIndex {
         names.get(*self.positions.get(&n)?)
     }
 
-    /// Returns what [`first_name`] returns. The index must be that of `names`.
+    /// Returns what [`first_name`] returns. This must be the index of `names`.
     fn name_of<'a>(&self, names: &'a [NamedNumber], n: i128) -> Option<&'a [u8]>
         requires { IsIndexOf names.now self.now }
         ensures { option_copied result ≡ name_of_number names.now n }

@@ -132,8 +132,8 @@ impl<'a> ValueSyntax<'a> {
     }
 }
 
-/// Returns the name of the number `n`, if it has one: the first in `names` if it has several. It
-/// reads their numbers one after the other.
+/// Returns the name of the number `n`, if it has one: the first in `names` if it has several.
+/// Reads the numbers of `names` one after the other.
 pub(crate) fn first_name(names: &[NamedNumber], n: i128) -> Option<&[u8]>
     ensures { option_copied result ≡ name_of_number names.now n }
 {

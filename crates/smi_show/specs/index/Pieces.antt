@@ -30,7 +30,8 @@ piece_numbers (plain_number n) = n ∷ []
 piece_numbers (counted_text octets) = length octets ∷ octets
 piece_numbers (plain_text octets) = octets
 
--- the piece may be a part of a name; between single quotes there is at least one octet
+-- the piece may be a part of a name: a number below 2^32, or octets that may appear between
+-- quotes, at least one if the quotes are single ones
 abbrev pub IsPiece : Piece → Type 0
 IsPiece (plain_number n) = n < 2 ^ 32
 IsPiece (counted_text octets) = IsTrue (list_all is_quotable octets)
@@ -72,7 +73,7 @@ abbrev pub is_text : IndexPart → List ℕ → Bool
 is_text (Text extent) value = is_shown_text value
 is_text _ value = false
 
--- the pieces of a value of an index: one text, or its numbers
+-- the pieces of a value of an index: one text, or the numbers that encode it
 abbrev pub value_pieces : IndexPart → List ℕ → List Piece
 value_pieces part value =
     if is_text part value then as_text (extent_of part) value ∷ []

@@ -1,5 +1,5 @@
--- Computes what `Meant` defines, the meaning of a text: for contracts of private functions, and
--- for the law that each text means something.
+-- Computes what `Meant` defines, the meaning of a text: for contracts of private functions, for
+-- the law `meanings_are_computed`, and for definitions that need a function.
 use Rattle.std.specs.Prelude.{ℕ, ◌==◌, nat_le, if◌then◌else◌, List, [], ◌∷◌, ◌++◌, length, Option}
 use Rattle.std.specs.Prelude.{Some, None, Result, Ok, Err}
 use Rattle.smi_show.specs.{index.Pieces.piece_numbers, name.Cutting.name_parts}

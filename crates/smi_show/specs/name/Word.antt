@@ -1,5 +1,5 @@
 -- Computes what a part of a name is: a number, a text in quotes or a label; or why it is none of
--- these. For contracts of private functions.
+-- these. For `Meaning`, and for contracts of private functions.
 use Rattle.std.specs.Prelude.{ℕ, ◌-◌, ◌^◌, ◌&&◌, ◌==◌, nat_lt, if◌then◌else◌, List, [], ◌∷◌, length}
 use Rattle.std.specs.Prelude.{take, slice_index, Option, Some, None, Result, Ok, Err}
 use Rattle.std.specs.{List.list_all, Char.is_ascii_digit, Str.all_ascii_digits}

@@ -16,7 +16,7 @@ use snmp_io::Draft;
 #[tactic(auto, using(crate::proofs::TokenTexts::own_tokens))]
 pub fn syntax_text(syntax: &Syntax, draft: &mut Draft)
     ensures added { Adds draft.old (syntax_text syntax.now) draft.new }
-    // If a module text has the type as `tokens`, then the text is these tokens, with a blank
+    // If `tokens` spell the type in a module text, the text appended is these tokens, with a blank
     // between each two.
     ensures own_tokens { (tokens : List Lexeme) → AreTokensOf syntax.now tokens
         → syntax_text syntax.now ≡ joined_by_blanks tokens }

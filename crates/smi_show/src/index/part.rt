@@ -47,7 +47,8 @@ pub fn one_part_reading()
 {}
 
 /// Returns the numbers of the string at the start of `numbers`, without its length, and the
-/// numbers after it. Returns `None` if `numbers` doesn't begin with a string of this extent.
+/// numbers after it. Returns `None` if there are too few numbers for this extent. Doesn't check
+/// that the numbers are octets.
 fn split_extent<'a>(extent: Extent, numbers: &'a [u32]) -> Option<(&'a [u32], &'a [u32])>
     ensures { option_map (λ r. (r.0.now, r.1.now)) result ≡ in_extent extent numbers.now }
 {

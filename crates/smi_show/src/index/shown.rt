@@ -41,8 +41,8 @@ const SMALL: &[u8] = b"\
     .240.241.242.243.244.245.246.247.248.249.250.251.252.253.254.255\
     ";
 
-/// Appends `numbers`, with a dot before each. This takes 4 % of the instructions of a walk that
-/// prints names in numbers, so the digits are written to a buffer and appended together.
+/// Appends `numbers`, with a dot before each. A walk that prints names in numbers does this for
+/// each row, so the digits are written to a buffer and appended together.
 pub fn numbers_text(numbers: &[u32], draft: &mut Draft)
     ensures { Adds draft.old (shown_pieces (as_numbers numbers.now)) draft.new }
 {
@@ -167,7 +167,7 @@ fn values_text(parts: &[IndexPart], numbers: &[u32], draft: &mut Draft)
     }
 }
 
-/// Appends `value`, a value of `part`: as a text in quotes, or as its numbers.
+/// Appends `value`, a value of `part`: as a text in quotes, or as the numbers that encode it.
 fn value_text(part: IndexPart, value: &[u32], draft: &mut Draft)
     ensures { Adds draft.old (shown_pieces (value_pieces part value.now)) draft.new }
 {
@@ -343,7 +343,8 @@ fn put_small(room: &mut [u8; ROOM], filled: usize, number: u32) -> usize
     ensures within { result ≤ filled + 4 }
     ensures text { take result room.new ≡ take filled room.old ++ (codes "." ++ decimal number) }
 {
-    // All four octets are written; the next number overwrites the blanks.
+    // All four octets are written. The blanks don't count as filled: the next number overwrites
+    // them.
     let at = number as usize * 4;
     let (first, second, third, fourth) = (SMALL[at], SMALL[at + 1], SMALL[at + 2], SMALL[at + 3]);
     put(room, filled, first);
@@ -364,8 +365,8 @@ fn small_len(number: u32) -> usize
     2 + usize::from(number >= 10) + usize::from(number >= 100)
 }
 
-/// Writes `number` as the last three digits of a longer number, and returns how many octets of
-/// `room` are filled then.
+/// Writes `number` as three of the digits of a longer number, with leading zeros, and returns how
+/// many octets of `room` are filled then.
 #[inline(always)]
 fn put_three(room: &mut [u8; ROOM], filled: usize, number: u32) -> usize
     requires room { filled ≤ 125 }

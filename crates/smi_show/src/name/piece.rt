@@ -20,7 +20,7 @@ pub fn push_piece(oid: &mut Oid, piece: Piece<'_>) -> Result<(), NameError>
 }
 
 /// Appends a number.
-// `inline`: called for each number of a name.
+// `inline`: called for each number in a name that doesn't consist of numbers alone.
 #[inline]
 pub fn push_number(oid: &mut Oid, number: u32) -> Result<(), NameError>
     ensures { read_to result oid.new ≡ fitting (oid.old ++ number ∷ []) }

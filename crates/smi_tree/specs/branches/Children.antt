@@ -10,8 +10,8 @@ ids_left c = filter_map (λ e. id_at c.branches.now e.1) c.left
 
 -- ---- for private functions
 
--- `new` is `old`, or the identifier at index `id` as a child of `o`; its number is the lower one.
--- Children have their last numbers and their first indices
+-- `new` is the child of `o` with the lower number: `old`, or the identifier at index `id`, if this
+-- is a child of `o` and `id` is its first index. A child is its last number and its first index
 pub record IsLowerChild (oids : List (List ℕ)) (o : List ℕ) (old : Option (ℕ × ℕ)) (id : ℕ)
     (new : Option (ℕ × ℕ)) : Type 0 where
   pub one : (new ≡ old)

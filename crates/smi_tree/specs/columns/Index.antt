@@ -18,8 +18,9 @@ use Rattle.smi_tree.specs.columns.Definitions.{qualified_name, IsDefinedBy}
 
 -- ---- the objects of an INDEX clause
 
--- `part` is the part for `name` in an INDEX clause of module `m`: the name refers to an object
--- with an identifier and a syntax, whose base type an index can have
+-- `part` is the part for `name`, after IMPLIED or not, in an INDEX clause of module `m`: the name
+-- has an identifier, and refers to an object with a syntax; `part` is the part for the base type
+-- and the SIZE of this syntax
 pub record IsIndexPart (ms : List Module) (m : Module) (name : List ℕ) (implied : Bool)
     (part : IndexPart) : Type 0 where
   pub home : Module

@@ -11,7 +11,8 @@ use Rattle.smi_tree.specs.{Pairwise.ArePairwise, types.Kept.names_of, declared.t
 abbrev pub IsIndexIn : Def → NumberIndex → Type 0
 IsIndexIn d index = IfSome (names_of d) (λ names. IsIndexOf names index)
 
--- each index in `numbers` is that of the definition in `defs` that has it as its key
+-- for each definition in `defs`, `numbers` has the index of its named numbers or bits, or none;
+-- the key is the index of the definition
 abbrev pub AreNumbersOf : List Def → BTreeMap ℕ NumberIndex → Type 0
 AreNumbersOf defs numbers = (k : ℕ) (d : Def) → slice_get defs k ≡ Some d
     → IfSome (get nat_cmp numbers k) (IsIndexIn d)

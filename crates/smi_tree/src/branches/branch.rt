@@ -86,8 +86,8 @@ fn common_prefix_len(a: &[u32], b: &[u32]) -> usize
 /// identifiers before it, and stores `id` at the last of them if no index is stored there.
 ///
 /// `last` is the identifier that was added last, or empty, and `way` has its branches. Successive
-/// identifiers mostly share a prefix, so only the numbers after this prefix are followed.
-/// Afterwards `way` has the branches of the new identifier.
+/// identifiers mostly share a prefix, so only the numbers after this prefix are followed. If the
+/// call succeeds, `way` then has the branches of the new identifier.
 pub(crate) fn add(
     alloc: Global,
     branches: &mut Vec<Branch>,

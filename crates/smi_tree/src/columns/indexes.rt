@@ -13,8 +13,8 @@ use smi_text::Module;
 use std::alloc::{AllocError, Global};
 use std::marker::Model;
 
-/// The index of each node that is a column: what the numbers after its identifier encode (RFC
-/// 2578, sections 7.7 and 7.8).
+/// The indexes of columns: what the numbers after a column's identifier encode (RFC 2578, sections
+/// 7.7 and 7.8).
 ///
 /// The parts of an INDEX clause are stored once, however many columns use it.
 #[derive(Drop)]
@@ -22,8 +22,9 @@ pub struct Indexes {
     /// For each definition of each module, the parts of its INDEX clause, if it has one that can
     /// be read.
     parts: Vec<Vec<Option<Vec<IndexPart>>>>,
-    /// For each node that is a column, the definition whose INDEX clause its row uses, if there is
-    /// one: the index of the module, and the index of the definition in it.
+    /// For each node, the definition whose INDEX clause, if it has one, identifies its rows: the
+    /// index of the module, and the index of the definition in it. `None` if the node isn't a
+    /// column or there is no such definition.
     rows: Vec<Option<(usize, usize)>>,
 }
 

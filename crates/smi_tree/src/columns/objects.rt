@@ -38,7 +38,7 @@ pub(crate) struct Objects<'n, 'a> {
     found: Vec<Option<(usize, usize)>>,
     /// What names resolve to.
     names: &'n Names<'a>,
-    /// The syntax of each object.
+    /// The syntaxes of objects.
     types: &'n Types,
 }
 

@@ -10,7 +10,8 @@ use crate::branches::Identifiers;
 pub(crate) struct LastRow<'i> {
     /// The numbers of its identifier.
     numbers: &'i [u32],
-    /// The first index of that identifier, if it is in the list.
+    /// The first index of that identifier in the list of all identifiers, or `None` if it isn't
+    /// there.
     id: Option<usize>,
 }
 

@@ -13,16 +13,17 @@ use smi_text::Module;
 use std::alloc::{AllocError, Global};
 use std::marker::Model;
 
-/// The nodes that modules define, with their identifiers, syntaxes and indexes, and the warnings.
+/// The roots and the nodes that modules define, with their identifiers, syntaxes and indexes, and
+/// the warnings.
 #[derive(Drop)]
 pub(super) struct Resolved {
     /// Where each node comes from.
     pub(super) sources: Vec<Source>,
     /// The identifier of each node.
     identifiers: Identifiers,
-    /// The syntax of each object.
+    /// The syntaxes of objects.
     types: Types,
-    /// The index of each node that is a column.
+    /// The indexes of columns.
     indexes: Indexes,
     /// The warnings, in order of loading.
     warnings: Vec<Warning>,
@@ -30,7 +31,7 @@ pub(super) struct Resolved {
     key: NameHash,
 }
 
-/// Finds the nodes that `modules` define. The maps of names use the hash `hash`.
+/// Finds the roots and the nodes that `modules` define. The maps of names use the hash `hash`.
 pub(super) fn resolve(
     alloc: Global,
     hash: NameHash,
@@ -76,7 +77,7 @@ pub struct Loaded {
     pub(super) resolved: Resolved,
     /// For each module name, the index of the first module with that name.
     pub(super) homes: Indices,
-    /// For each label, the indices of the first nodes with it, in all modules and in each module.
+    /// For each label, the indices of the nodes with it.
     pub(super) indices: LabelIndices,
 }
 

@@ -46,7 +46,7 @@ pub(crate) fn append_octets(
 }
 
 /// Appends octets one by one, with `mark`, if there is one, before each but the first. An address
-/// of six octets takes 641 instructions this way, and 1,544 by six calls of [`append_group`].
+/// of six octets takes less than half of the instructions of six calls of [`append_group`].
 fn append_singles(draft: &mut Draft, format: OctetFormat, mark: Option<u8>, octets: &[u8])
     ensures { Adds draft.old (singles_text format mark octets.now) draft.new }
 {

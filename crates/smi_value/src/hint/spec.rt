@@ -32,7 +32,8 @@ pub struct Spec {
     pub format: OctetFormat,
     /// The octet shown after an application, if octets remain.
     pub separator: Option<u8>,
-    /// The octet shown instead of the separator after the last application that a `*` counts.
+    /// The octet shown instead of the separator after the last application that a `*` counts, if
+    /// octets remain.
     pub terminator: Option<u8>,
 }
 
@@ -83,7 +84,7 @@ fn split_star(text: &[u8]) -> (bool, &[u8])
 }
 
 /// Returns the format that the first letter of `text` names, and the rest of the text. Returns
-/// `None` if it isn't the letter of a format.
+/// `None` if `text` doesn't begin with the letter of a format.
 fn split_format(text: &[u8]) -> Option<(OctetFormat, &[u8])>
     ensures found { IfSome result
         (λ r. option_and_then format_of (slice_get text.now 0) ≡ Some r.0) }

@@ -1,4 +1,4 @@
--- The last digits of a number, for contracts of private functions.
+-- Three of the digits of a number, for contracts of private functions.
 use Rattle.std.specs.Prelude.{ℕ, ◌+◌, ◌/◌, ◌%◌, List, [], ◌∷◌}
 
 -- the three digits of a number below 1000, with leading zeros

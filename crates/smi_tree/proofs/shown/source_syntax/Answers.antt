@@ -1,4 +1,4 @@
--- The stored index is that of the names in the syntax.
+-- The stored index, if there is one, is the index of the names in the syntax.
 use Rattle.std.proofs.Common.{rules, ◌≡◌, Some, sym, ap}
 use Rattle.std.specs.Option.{option_copied}
 use Rattle.smi_tree.specs.types.Kept.{facts_of, kept_syntax}

@@ -1,4 +1,4 @@
--- An object has its type in its SYNTAX, and no hint.
+-- The type of an object is in its SYNTAX, and its definition has no hint.
 use Rattle.std.proofs.{Common.arith, Common.◌≡◌, Common.None, Common.Some, Common.sym, Common.ap, lemmas.Grind.common_steps}
 use Rattle.smi_tree.specs.types.Types.{origin_of_object, origin_of_simple}
 use Rattle.smi_tree.proofs.{TypeChains.no_syntax, Refinements.object_states, Refinements.refined_right}

@@ -1,4 +1,4 @@
--- If the row that was looked up last has these numbers, its index is the result.
+-- If the row that was looked up last has these numbers, the index that was found for it is the result.
 use Rattle.std.proofs.Common.{rules, ◌≡◌, ℕ, ◌∷◌, [], ◌++◌, List, MatchOption, Option, Some, None, sym, ◌∙◌}
 use Rattle.std.proofs.lemmas.List.{same_from_push}
 use Rattle.smi_tree.specs.branches.FirstIndex.{oid_at, first_index}

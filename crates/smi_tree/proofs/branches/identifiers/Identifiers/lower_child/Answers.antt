@@ -1,4 +1,4 @@
--- A child that is kept has the lower number, or the identifier at the index isn't a child at its first index.
+-- Which of the two children is the result: `child`, if its number is at most that of the identifier at index `id`, or if that isn't a child at its first index; otherwise that one.
 use Rattle.std.proofs.Common.{rules, ◌≡◌, ℕ, List, [], ◌∷◌, ◌++◌, Option, Some, None, IfSome, IsSomeAnd, ◌≤◌, inl, inr, refl, sym, ◌∙◌, arith}
 use Rattle.std.proofs.Common.{ap, length, length-append}
 use Rattle.std.proofs.lemmas.{List.same_from_push, Grind.common_steps}
@@ -10,7 +10,7 @@ use Rattle.smi_tree.proofs.branches.identifiers.Identifiers.lower_child.Goals.{t
 use Rattle.smi_tree.proofs.branches.identifiers.Identifiers.lower_child.Goals.{in_default-child-via-in-Some-child+else-lower-number}
 use Rattle.smi_tree.proofs.branches.identifiers.Identifiers.lower_child.Goals.{in_default-child-via-in_default-child}
 
--- if the number of `child` is at most that of each child of `o` with the first index `id`, `child` is the lower one
+-- if the number of `child` is at most the number of each child of `o` with the first index `id`, `child` is the lower one
 kept : (oids : List (List ℕ)) (o : List ℕ) (child : Option (ℕ × ℕ)) (id : ℕ)
     → ((n : ℕ) → first_index oids (oid_at oids id) ≡ Some id → oid_at oids id ≡ o ++ n ∷ [] → IsSomeAnd child (λ d. d.0 ≤ n))
     → IsLowerChild oids o child id child
@@ -28,7 +28,7 @@ kept oids o child id lower = record {
 same-number : (oids : List (List ℕ)) (o : List ℕ) (id n m : ℕ) → first_index oids (o ++ n ∷ []) ≡ Some id → first_index oids (o ++ m ∷ []) ≡ Some id → n ≡ m
 same-number oids o id n m e f = (same_from_push o o n m (sym (index_found oids (o ++ n ∷ []) id e).1 ∙ (index_found oids (o ++ m ∷ []) id f).1)).1
 
--- if `number` is at most that of `child`, the child at index `id` with this number is the lower one
+-- if `number` is at most the number of `child`, or `child` is None, the child at index `id` with this number is the lower one
 taken : (oids : List (List ℕ)) (o : List ℕ) (child : Option (ℕ × ℕ)) (id number : ℕ) → first_index oids (o ++ number ∷ []) ≡ Some id
     → IfSome child (λ c. number ≤ c.0) → IsLowerChild oids o child id (Some (number, id))
 taken oids o child id number e lower = record { one = inr (refl, e); of_old = lower; of_id = λ n f. omega (arith, same-number oids o id number n e f) }

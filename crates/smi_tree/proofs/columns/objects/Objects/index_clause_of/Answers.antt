@@ -1,4 +1,4 @@
--- The INDEX clause belongs to the definition itself, or to the object that its AUGMENTS clause names.
+-- The INDEX clause belongs to the definition itself, or to the definition that its AUGMENTS clause names.
 use Rattle.std.proofs.Common.{refl, sym, ◌∙◌}
 use Rattle.smi_tree.proofs.Rows.{uses_own, uses_named}
 use Rattle.smi_tree.proofs.columns.objects.Objects.index_clause_of.Goals as goal
