@@ -1,4 +1,5 @@
--- What a MIB view answers has a value that a reply can have (`get_value`, `next_value`), and a name with an encoding (`next_name`).
+-- What a MIB view answers has a value that a reply can have (`get_value`, `next_value`). If the name asked for has an encoding, then so has the name that a
+-- GetNext returns (`next_name`).
 use Rattle.std.proofs.{Common.arith, Common.◌≡◌, Common.ℕ, Common.zero, Common.suc, Common.List, Common.sym, Common.subst, lemmas.Grind.common_steps}
 use Rattle.snmp_oid.specs.Identifier.{IsWire}
 use Rattle.snmp_wire.specs.{Message.Datum, Message.VarBind, Message.Datum.end_of_mib_view}

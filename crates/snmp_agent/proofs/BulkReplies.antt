@@ -12,7 +12,7 @@ no_octets : (bindings : List VarBind) → length (canon_bindings bindings) ≡ 0
 no_octets [] none = refl
 no_octets (p ∷ more) none = absurd (omega (arith, none, longer_by [] more p, some_octets p))
 
--- if the next binding has no room, then no prefix that fits is longer than `added`
+-- if the binding after `added`, if any, has no room, then no prefix that fits is longer than `added`
 is_longest : MessageSizes → (q : Message) (limit room : ℕ) → IsRoom (response q no_error (pos 0) []) limit room → (all added more : List VarBind) (total : ℕ)
     → all ≡ added ++ more → total ≡ length (canon_bindings added) → HasNoRoom room total more → (ahead rest : List VarBind) → all ≡ ahead ++ rest
     → Fits limit (response q no_error (pos 0) ahead) → length ahead ≤ length added
@@ -29,7 +29,7 @@ is_longest sizes q limit room is_room all added (p ∷ more) total prefix size n
     (λ short. short)
     (cases_lt (length added) (length ahead))
 
--- if a prefix of the bindings of a GetBulk was written, and the next one, if any, had no room, then the Response with this prefix is the one to send
+-- if a prefix of the bindings of a GetBulk was written, and the next one, if any, had no room, then the Response with this prefix is the Response to it
 pub bulk_response : MessageSizes → (view : MibView) (limit room : ℕ) (q m : Message) (all : List VarBind) (end : Held) → q.kind ≡ kind.GetBulkRequest
     → IsBulk view q all → m ≡ response q no_error (pos 0) [] → IsRoom m limit room → (here : HoldsPrefix room [] all end)
     → IsResponse view limit q (response q no_error (pos 0) here.added)

@@ -1,5 +1,5 @@
--- If a row is inserted among others or removed, then the entries change as `put` and `without_name` say, and the view stays a MIB view (`put_good`,
--- `removed_good`).
+-- If a row is inserted among others or removed, then the entries change as `put` and `without_name` say. A MIB view stays one if a variable with a name and
+-- a value of an instance is put (`put_good`), or if an instance is removed (`removed_good`).
 use Rattle.std.proofs.{lemmas.Grind.common_steps, lemmas.Option.slice_get-get_or, lemmas.Option.slice_get_within}
 use Rattle.std.proofs.Common.{◌≡◌, ℕ, suc, ◌-◌, Bool, true, false, not, cond, is_some, List, [], ◌∷◌, ◌++◌, length, take, drop, Some, slice_index_or}
 use Rattle.std.proofs.Common.{None, slice_set, refl, sym, ◌∙◌, ap, subst, arith, Ordering, Less, Result, Ok, Err, IfOk, IfErr}
@@ -108,7 +108,7 @@ has_name_at rows index o row rising h last name =
 neither : (o p : List ℕ) → (cmp o p ≡ Less → ⊥) → (p ≡ o → ⊥) → cmp p o ≡ Less
 neither o p before same = grind (arith, common_steps, same_name, turned)
 
--- a name that comes before none of the rows, and isn't the name of the last one, comes after all
+-- if the names of rows increase, then a name that comes before none of them, and isn't the name of the last one, comes after all
 after_prefix : (o : List ℕ) (rows : List VarBind) → IsIncreasing rows → IsBeforeNone o (entries_of rows) → ((row : VarBind) → IsLast rows row → row.name ≡ o
     → ⊥)
     → IsAfterAll o (entries_of rows)
@@ -258,7 +258,7 @@ module _ (view : MibView) (good : IsMibView view) (o : List ℕ) where
     objects = good.objects;
   }
 
--- no row has a name without an encoding
+-- no row of a MIB view has a name without an encoding
 pub unnamed : (view : MibView) → IsMibView view → (o : List ℕ) → (IsWire o → ⊥) → None ≡ get view.rows o
 unnamed view good o never =
     elim (get view.rows o) as (λ found. get view.rows o ≡ found → None ≡ found) [
@@ -266,7 +266,7 @@ unnamed view good o never =
       | Some v ↦ λ is. absurd (never (good.names (record { name = o; value = v }) is).wire)
     ] refl
 
--- a table stays a MIB view if a row is put, or if an error leaves it unchanged
+-- a table stays a MIB view if a row with a name and a value of an instance is put, or if an error leaves it unchanged
 pub put_either : (result : Result Bool AllocError) (old new : FinMap cmp Datum) (objects : List (List ℕ)) (o : List ℕ) (v : Datum)
     → IfOk result (λ _. new ≡ insert old o v) → IfErr result (λ _. new ≡ old) → IsInstanceName o → IsInstanceValue v → IsMibView (view_of old objects)
     → IsMibView (view_of new objects)

@@ -1,4 +1,4 @@
--- A string has only one first bar (`same_cut`), and a name ends at only one bar (`same_end`).
+-- A string has at most one first bar (`same_cut`), and a name ends at most at one bar (`same_end`).
 use Rattle.std.proofs.Common.{◌≡◌, ◌≢◌, ℕ, ◌<◌, List, ◌∷◌, ◌++◌, length, refl, sym, arith}
 use Rattle.std.specs.List.{All}
 use Rattle.std.proofs.{lemmas.List.append_cancel_left, lemmas.List.Elements.All-contains, lemmas.List.Elements.Contains-append_right}

@@ -24,7 +24,7 @@ halts_weaker : (P Q : TableError → Type 0) (exact : Bool)
     → HaltsBy Q exact e
 halts_weaker P Q exact f e k = grind (arith, common_steps)
 
--- if the reading stops because memory ran out, then it stops by `HaltsBy P` for any `P`, since it stops at a fault of no line
+-- if the reading stops without a fault, then it stops by `HaltsBy P` for any `P`
 pub full : (P : TableError → Type 0) (exact : Bool) (e : Halt) → IsFull exact e
     → HaltsBy P exact e
 full P exact = halts_weaker (λ _. ⊥) P exact (λ fault none. absurd none)
@@ -42,7 +42,7 @@ module _ (format : Format) (before : List (List ℕ)) (line : List ℕ) (number 
         (IsPermutation-append_left (entry_of row ∷ []) h.0 (draft_entries old) h.2) moved,
   )
 
-  -- if no two rows have the same name, the lines define a table
+  -- if no two entries of the draft have the same name, the lines before this one define a table
   table_before : AreDistinct (draft_entries old) → AreTable format before
   table_before distinct = good_lines format before h.0 (draft_objects old) h.1
       (distinct_moved h.0 (draft_entries old) h.2 distinct)
@@ -64,7 +64,7 @@ module _ (format : Format) (before : List (List ℕ)) (line : List ℕ) (number 
             (refl, double format before line h.0 (draft_objects old) h.1 row k.2 states there),
       ))
 
-  -- if the reading stops at the fault `wrong` of the line, after rows that differ in name, then it stops at this faulty line
+  -- if the reading stops at the fault `wrong` of the line, after entries that differ in name, then it stops at this faulty line
   pub stopped : (wrong : TableError) → IsFaultAfter format before line number wrong → (e : Halt)
       → IsStop (draft_entries old) old.exact wrong e
       → IsHalt format before line number old.exact e
@@ -80,7 +80,7 @@ settled_distinct old new moved none =
 
 -- ---- the lines of a text
 
--- the draft stores what the first lines of the text define, and the other lines are left
+-- the draft stores what the first `number` lines of the text define, `rest` has the other lines, and the first ones take at least `number` octets
 pub record IsReadTo (format : Format) (text rest : List ℕ) (draft : TableBuilder) (number : ℕ)
     : Type 0 where
   pub done : List (List ℕ)
@@ -115,7 +115,7 @@ module _ (format : Format) (text rest line after : List ℕ) (old : TableBuilder
     few = let before : number + length rest ≤ length text = h.few in omega arith;
   }
 
-  -- if the reading stops at the next line, then it stops at the first line of the text that isn't good, or because memory ran out
+  -- if the reading stops at the next line, then it stops at the first faulty line of the text, or without a fault
   pub halted_at : (stop : Halt)
       → IsHalt format h.done line (number + 1) old.exact stop
       → IsFirstHalt format (lines text) old.exact stop

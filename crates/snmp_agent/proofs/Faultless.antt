@@ -1,4 +1,4 @@
--- Lines that define a table have no fault.
+-- Lines that define a table have no fault: reading them fails only if memory runs out.
 use Rattle.std.proofs.{lemmas.Grind.common_steps, Math.ListN.get_or-append, Math.Seq.get_or-append_seam}
 use Rattle.std.proofs.Common.{◌≡◌, inl, inr, ℕ, List, ◌∷◌, ◌++◌, length, length-append, ◌<◌, refl, subst, arith}
 use Rattle.std.specs.List.{All, AllPairs, Contains}
@@ -38,7 +38,7 @@ pub line_good : (format : Format) (prefix : List (List ℕ)) (line : List ℕ) (
 line_good format prefix line back h =
     All-contains (IsGoodLine format) (prefix ++ line ∷ back) line h (Contains-append_right prefix (line ∷ back) line (0, omega arith, refl))
 
--- a line differs in name from each line before it
+-- if no two lines are rows of the same name, then a line differs in name from each line before it
 pub earlier_differs : (format : Format) (prefix : List (List ℕ)) (line : List ℕ) (back : List (List ℕ)) (other : List ℕ)
     → AllPairs (DifferInName format) (prefix ++ line ∷ back)
     → Contains prefix other → DifferInName format other line

@@ -1,5 +1,5 @@
--- The rows of a table after others were inserted are a permutation of those that were there and
--- those that were inserted.
+-- If rows whose names are new are inserted into a table, then its rows are a permutation of the old
+-- rows and the inserted ones.
 use Rattle.std.proofs.Common.{arith, ◌≡◌, ℕ, Bool, true, false, List, [], ◌∷◌, ◌++◌, sym, ◌∙◌, ap, append_assoc, append-nil, is_some}
 use Rattle.std.proofs.lemmas.Grind.{common_steps}
 use Rattle.std.specs.{List.Sorted.IsPermutation, List.Contains, Ordering.nat_cmp, Cmp.Lexicographic.slice_cmp, Cmp.Lexicographic.nat_list_cmp_total}
@@ -27,7 +27,7 @@ entries_are es m rising is = ap entries (sym is) ∙ entries-from_sorted (slice_
 
 -- ---- lists in another order
 
--- an entry among the last ones moves to the end of the first ones
+-- if an entry is moved from the later ones to the end of the earlier ones, then all are the same in another order
 to_first : (xs ys zs : Entries) (e : List ℕ × Datum) → IsPermutation (xs ++ (ys ++ e ∷ zs)) ((xs ++ e ∷ []) ++ (ys ++ zs))
 to_first xs ys zs e = grind (arith, common_steps, append_assoc, IsPermutation-append_right, IsPermutation-middle)
 

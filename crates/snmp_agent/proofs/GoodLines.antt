@@ -13,7 +13,7 @@ use Rattle.snmp_agent.proofs.{Faultless.earlier_differs, Faultless.line_good, Va
 use Rattle.snmp_agent.proofs.OneStatement.{StatesOnly, states_only}
 use Rattle.snmp_agent.proofs.TableDrafts.{holds_instance, holds_no_lines, holds_nothing, holds_object, put_moves, whole}
 
--- there are entries `es` and object prefixes that the lines define, and `fs` are these entries in the order of names
+-- there are entries `es` and object prefixes that the lines define, and `fs` are these entries by increasing names
 abbrev HasDraft : Format → List (List ℕ) → Type 0
 HasDraft format lines = (es : List (List ℕ × Datum)) × (fs : List (List ℕ × Datum))
     × (objects : List (List ℕ)) × HoldsLines format lines es objects × IsPermutation es fs

@@ -1,4 +1,4 @@
--- The lengths of messages: with more octets of bindings, a message is longer.
+-- The lengths of messages: with more octets of bindings, a message isn't shorter.
 use Rattle.std.proofs.{lemmas.Grind.common_steps, Common.ℕ, Common.◌≢◌, Common.◌+◌, Common.◌≤◌, Common.◌<◌, Common.length, Common.arith}
 use Rattle.snmp_wire.specs.{Canon.canon_head, Canon.canon_header, Message.Message, Sizes.MessageSizes}
 use Rattle.snmp_agent.specs.private.Answering.{whole_size, IsRoom}

@@ -77,8 +77,8 @@ module _ (order : IsOrder) where
         nearest_in p back q (before_later prefix back p apart.rising) (later_listed view o prefix (p ∷ back) apart q row after);
   }
 
-  -- a GetNext of the name of the last of `rounds` entries after `o` returns what `rounds + 1`
-  -- GetNexts from `o` do
+  -- if a GetNext of the name of the last of the first `rounds` entries after `o`, or of `o` if there are none, returns `q`, then so do `rounds + 1` GetNexts
+  -- from `o`
   pub asked_past : (view : MibView) (rounds : ℕ) (o : List ℕ) (prefix back : List (List ℕ × Datum)) → IsSplitAt view.rows o prefix back → (q : VarBind)
       → IsNext view (last_name o (take rounds back)) q → IsNextAfter view rounds o q
   asked_past view zero o prefix back apart q next = next

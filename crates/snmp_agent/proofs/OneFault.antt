@@ -1,4 +1,4 @@
--- Lines have at most one first fault.
+-- Lines have at most one first fault, apart from a lack of memory.
 use Rattle.std.proofs.{lemmas.Grind.common_steps, lemmas.List.append_cancel_left}
 use Rattle.std.proofs.Common.{arith, ◌≡◌, ◌≢◌, inl, inr, ℕ, List, ◌∷◌, ◌++◌, refl, sym, ◌∙◌, ap, length, ◌<◌}
 use Rattle.snmp_agent.specs.{declared.table.error.TableError.TableError, table.Text.IsGoodLine, table.Text.a_row, table.Format.Format}

@@ -124,7 +124,7 @@ page_between o xs ys page index there passed ahead room = subst (λ (k : ℕ). I
 
 -- ---- two pages that replace one
 
--- the list of pages after page `index` was replaced by two pages
+-- the pages with `first` and `second` instead of the page at `index`
 abbrev pub divided : List Page → ℕ → Page → Page → List Page
 divided pages index first second = insert_at (slice_set pages index first) (index + 1) second
 
@@ -192,7 +192,7 @@ after_all o pages page row rising some last last_row less =
     ∙ rw rows (simp (append_assoc, append-nil)) in
     subst (IsAfterAll o) (sym whole) (after_last o early (entry_of row) (subst IsSorted whole rising) less)
 
--- if a row is appended to the last page, then its entry comes after all others
+-- if a row is appended to the last page, then its entry is appended to the entries of all pages
 pub appended : (pages : List Page) (index : ℕ) (found new : Page) (row : VarBind) → length pages ≡ index + 1 → found ≡ slice_index_or pages index found
     → new.rows.items ≡ found.rows.items ++ row ∷ [] → entries_in (slice_set pages index new) ≡ entries_in pages ++ entry_of row ∷ []
 appended pages index found new row long read same =
@@ -201,15 +201,15 @@ appended pages index found new row long read same =
     spliced pages index new _ low (ap entries_of same ∙ rows-append found.rows.items (row ∷ []))
     ∙ rw (parts pages index found (slice_get_read pages (length pages) index found refl low read), none) (simp (append_assoc, append-nil))
 
--- if a page of one row is appended, then the entry of this row comes after all others
+-- if a page of one row is appended, then the entry of this row is appended to the entries of all pages
 pub appended_page : (old new : List Page) (page : Page) (row : VarBind) → new ≡ old ++ page ∷ [] → page.rows.items ≡ row ∷ []
     → entries_in new ≡ entries_in old ++ entry_of row ∷ []
 appended_page old new page row pushed rows = grind (arith, common_steps, pages-append)
 
 -- ---- the rows after one
 
--- if a name is between the rows before and after an index of a page, the rows of the page from
--- that index on and the pages after it are the rows after the name
+-- if the row before an index of a page has the name `o`, or `o` is between that row and the next one, then the rows of the page from that index on and the
+-- pages after it are the rows after `o`
 pub apart_between : (o : List ℕ) (pages : List Page) (index : ℕ) (page : Page) (k : ℕ) → ArePages pages → slice_get pages index ≡ Some page
     → SplitsAt o (take k page.rows.items) (drop k page.rows.items)
     → (early : List (List ℕ × Datum))

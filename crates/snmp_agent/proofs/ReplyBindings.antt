@@ -51,8 +51,8 @@ abbrev pub HasNoRoom : ℕ → ℕ → List VarBind → Type 0
 HasNoRoom room total [] = Unit {0}
 HasNoRoom room total (p ∷ more) = room < total + length (canon_binding p)
 
--- a prefix of the bindings was written: all of them, unless the next one had no room, and then no
--- room is left
+-- after `start`, a prefix of the bindings was written. If it is all of them, then `end.left` octets of `room` are left; otherwise the next binding had no
+-- room, and no room is left.
 pub record HoldsPrefix (room : ℕ) (start : List ℕ) (all : List VarBind) (end : Held) : Type 0 where
   pub added : List VarBind
   pub more : List VarBind

@@ -14,12 +14,12 @@ use Rattle.snmp_agent.specs.Reply.{IsServed, AreAnswers, IsWhole, got, got_next,
 use Rattle.snmp_agent.specs.private.Answering.{IsWritten, answer_to, answers_to, whole_size, whole_status, whole_index}
 use Rattle.snmp_agent.proofs.{Each.is_got, NextEntries.IsOrder, Cursors.returned_there}
 
--- the head of a message doesn't depend on its bindings
+-- for the same `total`, the head of a message doesn't depend on its bindings
 same_head : (m : Message) (total : ℕ) → canon_head (record m { bindings = [] }) total ≡ canon_head m total
 unfolding canon_head canon_prefix canon_opening canon_fields
 same_head m total = refl
 
--- if `f` returns an answer to any binding, then `map f` returns answers to a list of bindings
+-- if `f` returns an answer to each binding, then `map f` returns answers to a list of bindings
 each : (R : VarBind → VarBind → Type 0) (f : VarBind → VarBind) → ((asked : VarBind) → R asked (f asked))
     → (asked : List VarBind) → AreAnswers R asked (map f asked)
 each R f one [] = tt
@@ -56,8 +56,8 @@ response_size sizes q status index returned =
     ap (λ head. length head + length (canon_bindings returned)) (same_head (response q status index returned) (length (canon_bindings returned)))
     ∙ sym (sizes.whole (response q status index returned))
 
--- if the first `total` octets of `out` are the bindings of the message `r`, and its head and these octets are written to the start of `part`, the octets
--- that a message may take, then `r` is written (`is_written`)
+-- `out` begins with the bindings of the message `r`, which take `total` octets, and `part` is the output that a message may take. If the head of `r` and
+-- these bindings are written to the start of `part` whenever they fit, then `r` is written, or it is too long (`is_written`).
 module _ (sizes : MessageSizes) (pieces : HasPieces) (limit total : ℕ) (m r : Message) (out part rest : List ℕ) (parts : m ≡ record r { bindings = [] })
     (octets : take total out ≡ canon_bindings r.bindings) (long : length (take total out) ≡ total) (room : length part ≡ limit) where
   total_size : total ≡ length (canon_bindings r.bindings)
@@ -75,7 +75,7 @@ module _ (sizes : MessageSizes) (pieces : HasPieces) (limit total : ℕ) (m r : 
 
 -- ---- the tests of a request
 
--- if the representation of a number in the code is 1, the number is 1
+-- if `handed` fits in a signed word of 32 bits, and that word is 1, then `z`, which is the same number, is 1
 pub is_one : {handed z : ℤ} → SFits w32 handed → handed ≡ z → of_z w32 handed ≡ 1 → z ≡ pos 1
 is_one {handed} {z} fits e one = sym e ∙ sym (to_z-of_z w32 handed fits) ∙ ap (to_z w32) one
 

@@ -39,7 +39,7 @@ module _ (view : MibView) (names : List VarBind) (repetitions : ℕ) (old : Held
           ∙ fill_both now (bindings_in_round view round names) (joined rest)
           ∙ ap (λ (h : Held). fill h (joined rest)) (sym added)
 
-      -- if no room is left after this round, or no round follows it, then all rounds were appended
+      -- if no room is left after this round, or no round follows it, then appending all rounds to `old` results in the reply after this round
       pub rounds_over : round < repetitions → (new.left ≡ 0) ⊎ (list_all is_over (cursors_of view round names) ≡ true)
           → new ≡ fill old (joined (rounds_from view names 0 repetitions))
       rounds_over below (inl full) =
@@ -82,7 +82,7 @@ module _ (order : IsOrder) (view : MibView) (mib : IsMibView view) (names : List
             (subst (λ (k : ℕ). AreInRound view k names round) cursor there.0, there.1)
       ] rest
 
-  -- if there are fewer rounds than repetitions, the last one is endOfMibView throughout
+  -- there are at most `left` rounds, and if there are fewer, there is a last one, which is endOfMibView throughout
   early : (i left : ℕ) → (length (rounds_from view names i left) ≤ left)
       × (length (rounds_from view names i left) < left
       → (before : List (List VarBind)) × (round : List VarBind) × (rounds_from view names i left ≡ before ++ round ∷ []) × AreEnds round)

@@ -1,5 +1,5 @@
--- If a row is put or removed, then Gets of other names stay the same (`got_elsewhere`, `still_got`); two changes can be exchanged or combined (`two_names`,
--- `put_and_removed`).
+-- If a row is put or removed, then Gets of other names stay the same (`got_elsewhere`, `still_got`). A put and a removal can be exchanged if their names
+-- differ (`two_names`); a put and then a removal of the same name are the removal (`put_and_removed`).
 use Rattle.std.proofs.Common.{◌≡◌, ◌↔◌, ◌∙◌, Bool, true, false, cond, List, ℕ, Some, None, Ordering, refl, sym, ap}
 use Rattle.std.specs.{Ordering.nat_cmp, Ordering.is_eq, Ordering.eq_by_cmp, Cmp.tied_itself, Cmp.Lexicographic.slice_cmp}
 use Rattle.std.specs.Cmp.Lexicographic.{nat_list_cmp_total}

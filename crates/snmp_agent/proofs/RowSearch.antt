@@ -37,7 +37,7 @@ pub list_any-items : (o : List ℕ) (keys : List (Vec ℕ Global))
 list_any-items o [] = refl
 list_any-items o (key ∷ keys) = ap (λ b. is_eq (slice_cmp nat_cmp o key.items) || b) (list_any-items o keys)
 
--- if no prefix of the name is an object prefix, none equals or begins the name
+-- if no prefix of the name is an object prefix, then no object prefix equals or begins the name
 pub no_beginning : (objects : List (List ℕ)) (o : List ℕ) → ((k : ℕ) → k < length o + 1
     → list_any (eq_by_cmp (slice_cmp nat_cmp) (take k o)) objects ≡ false) → HasBeginning objects o → ⊥
 no_beginning objects o never h =

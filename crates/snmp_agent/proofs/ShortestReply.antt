@@ -1,5 +1,5 @@
--- A reply is the shortest encoding of its Response, since all parts of the Response are within
--- their ranges.
+-- If an agent serves a MIB view, with messages of at most 65535 octets, then a reply is the shortest encoding of its Response: all parts of the Response are
+-- within their ranges.
 use Rattle.std.proofs.{lemmas.Grind.common_steps, lemmas.List.take-append-drop}
 use Rattle.std.proofs.Common.{◌≡◌, ℕ, ℤ, pos, zero, suc, ◌+◌, ◌≤◌, List, [], ◌∷◌, ◌++◌, length, take, drop, refl, sym, subst, ◌∙◌, arith}
 use Rattle.std.proofs.Common.{length-append, append_assoc}

@@ -61,7 +61,7 @@ tag_stated format t text _ h = rw h.0 (found _ refl)
 pub row_form : (format : Format) (l : List ℕ) (p : VarBind) (h : IsRowLine format l p) → IsRowForm format l h.name h.tag h.text
 row_form format l p h = grind (arith, common_steps, tag_stated)
 
--- the bar after the name splits a line with a row
+-- the bar after the name splits a line that has the form of a row
 first_cut : (format : Format) (l name tag text : List ℕ) → IsRowForm format l name tag text → l ≡ name ++ bar ∷ (tag ++ bar ∷ text)
 first_cut format l name tag text h = h.parts ∙ append_assoc name (bar ∷ tag) (bar ∷ text)
 
@@ -79,7 +79,7 @@ pub no_row_with_one_bar : (format : Format) (l prefix after name tag text : List
 no_row_with_one_bar format l prefix after name tag text e ends nothing_after h =
     no_cut after tag text nothing_after (sym (cursor_past_first format l prefix after name tag text e ends h).1)
 
--- if the code splits a line with a row at two bars, then the parts are the name, the tag and the text of the row
+-- if the code splits a line that has the form of a row at two bars, then the parts are the name, the tag and the text of the row
 pub same_parts : (format : Format) (l prefix after middle back name tag text : List ℕ) → l ≡ prefix ++ bar ∷ after → EndsAtBar format prefix
     → after ≡ middle ++ bar ∷ back
     → HasNoBar middle → IsRowForm format l name tag text

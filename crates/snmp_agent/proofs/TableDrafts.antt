@@ -1,5 +1,5 @@
--- If a draft stores what some lines define, and one more line is added, then it stores what they define together (`holds_more`). Sorted, its entries are the
--- entries of the table (`whole`).
+-- If a draft stores what some lines define, and one more line is added, then it stores what they define together (`holds_more`). Its entries, if they are
+-- sorted by increasing names, are the entries of the table (`whole`).
 use Rattle.std.proofs.{lemmas.Grind.common_steps, Math.Bool.or-true, lemmas.Bool.or_cases, lemmas.List.Quantifiers.all_pairs_push}
 use Rattle.std.proofs.Common.{◌≡◌, Option, is_some, ℕ, ◌⊎◌, inl, inr, ◌↔◌, true, false, cond, ◌||◌, List, [], ◌∷◌, ◌++◌, map, Some, None, refl}
 use Rattle.std.proofs.Common.{sym, ◌∙◌, T, ap, Less, get_or, Equal, Greater, Vec, Global, ◌+◌, ◌≤◌, arith}
@@ -57,7 +57,7 @@ distinct_sorted (e ∷ es) rising = λ o.
       | false ↦ λ is. let other : has_key o e ≡ 0 = ap (λ b. cond b 1 0) is in omega arith
     ] refl
 
--- inserting an entry with a new name only moves entries
+-- inserting an entry with a new name results in the same entries as appending it, in another order
 pub put_moves : (o : List ℕ) (v : Datum) (es : List (List ℕ × Datum))
     → find (slice_cmp nat_cmp) o es ≡ None
     → IsPermutation (es ++ (o, v) ∷ []) (put (slice_cmp nat_cmp) o v es)
@@ -122,7 +122,8 @@ module _ (format : Format) (before : List (List ℕ)) (line : List ℕ)
     λ is. new.1 (elim (stated_either format before line t is) [ inl earlier ↦ inl (old.1 earlier) | inr now ↦ inr (only.1 t now) ]),
   )
 
-  -- if `fs` and `more` are `es` and `os` with what `line` contains, then they are the entries and the object prefixes of `before` and `line`
+  -- if `fs` and `more` are `es` and `os` with what `line` contains, and the names in `fs` differ only if those in `es` do and the name of a row on `line`
+  -- isn't among these, then `fs` and `more` are the entries and the object prefixes of `before` and `line`
   holds_more : (s : Statement) → StatesOnly format line s → (fs : List (List ℕ × Datum)) (more : List (List ℕ))
       → ((p : VarBind) → Contains fs (entry_of p) ↔ (Contains es (entry_of p) ⊎ (instance p ≡ s)))
       → ((o : List ℕ) → (list_any (eq_by_cmp (slice_cmp nat_cmp) o) more ≡ true)
@@ -207,7 +208,7 @@ pub good_lines : (format : Format) (lines : List (List ℕ)) (es : List (List �
 good_lines format lines es os h distinct =
     record { each = h.each; differ = h.differ distinct }
 
--- entries that lines define, sorted by name, are the entries of the table that the lines define
+-- if the entries that lines define are sorted by increasing names, then the lines define a table with these entries
 pub whole : (format : Format) (lines : List (List ℕ)) (es fs : List (List ℕ × Datum))
     (os : List (List ℕ)) → HoldsLines format lines es os → IsPermutation es fs
     → T (is_sorted (slice_cmp nat_cmp) fs) → HoldsTable format lines fs os

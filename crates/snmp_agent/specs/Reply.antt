@@ -55,7 +55,8 @@ response q status index bindings = record {
   bindings = bindings;
 }
 
--- the second list has an answer to each binding of the first, in the same order
+-- the lists have the same length, and each binding of the second is an answer to the one that the
+-- first has at its index
 abbrev pub AreAnswers : (VarBind → VarBind → Type 0) → List VarBind → List VarBind → Type 0
 AreAnswers IsAnswer [] [] = Unit {0}
 AreAnswers IsAnswer (asked ∷ more) (returned ∷ rest) = IsAnswer asked returned
@@ -79,8 +80,8 @@ failed_index (_ ∷ _) = pos 1
 
 -- `r` is the whole Response to the request `q`, whatever its length. `q` isn't a GetBulk, and `r`
 -- has one binding for each binding of `q`: for a Get the results of a Get (4.2.1), for a GetNext
--- the successors (4.2.2), and for a Set the request's own bindings with an error, since nothing
--- can be written (4.2.5).
+-- the results of a GetNext (4.2.2), and for a Set the request's own bindings with an error, since
+-- nothing can be written (4.2.5).
 pub data IsWhole (view : MibView) (q r : Message) : Type 0 where
   got : (bindings : List VarBind) → q.kind ≡ kind.GetRequest
       → AreAnswers (λ asked returned. IsGet view asked.name returned) q.bindings bindings
@@ -114,8 +115,8 @@ joined (round ∷ more) = round ++ joined more
 
 -- `rounds` are the rounds of a GetBulk for the names that repeat. The round after n others has for
 -- each name the last result of n + 1 GetNexts, the first of the name and each other of the name
--- that the previous one returned: the name's successor number n + 1. There are `repetitions`
--- rounds, or fewer if all of the last round is endOfMibView. No round follows such a round.
+-- that the previous one returned. There are `repetitions` rounds, or fewer if all of the last round
+-- is endOfMibView. No round follows such a round.
 pub record AreRounds (view : MibView) (repetitions : ℕ) (names : List VarBind) (rounds : List
     (List VarBind)) : Type 0 where
   pub few : length rounds ≤ repetitions
@@ -129,9 +130,9 @@ pub record AreRounds (view : MibView) (repetitions : ℕ) (names : List VarBind)
       → (before : List (List VarBind)) × (round : List VarBind) × (rounds ≡ before ++ round ∷ [])
       × AreEnds round
 
--- `bindings` are all that a GetBulk asks for, whatever their length: the successors of its first
--- names, as many as non-repeaters says, or of all if there are fewer, and then the rounds of the
--- other names, at most max-repetitions (`AreRounds`). A negative number counts as 0.
+-- `bindings` are all that a GetBulk asks for, whatever their length: the results of a GetNext of
+-- its first names, as many as non-repeaters says, or of all if there are fewer, and then the rounds
+-- of the other names, at most max-repetitions (`AreRounds`). A negative number counts as 0.
 pub record IsBulk (view : MibView) (q : Message) (bindings : List VarBind) : Type 0 where
   pub singles : List VarBind
   pub rounds : List (List VarBind)
@@ -151,9 +152,10 @@ pub record IsLongestPrefix (max_size : ℕ) (q : Message) (all bindings : List V
 
 -- ---- sizes
 
--- `r` is the Response to send if messages have at most `max_size` octets: the whole one if it
+-- `r` is the Response to `q` if messages have at most `max_size` octets: the whole one if it
 -- fits, otherwise an error without bindings (4.2.1, 4.2.2, 4.2.5); for a GetBulk, as many of its
--- bindings as fit, from the first on (4.2.3).
+-- bindings as fit, from the first on (4.2.3). A Response without bindings may still be longer than
+-- `max_size`.
 pub data IsResponse (view : MibView) (max_size : ℕ) (q r : Message) : Type 0 where
   whole : IsWhole view q r → Fits max_size r → IsResponse view max_size q r
   shortened : (large : Message) → IsWhole view q large → (Fits max_size large → ⊥)

@@ -32,15 +32,15 @@ const NOT_WRITABLE: i32 = 17;
 /// Writes the reply to a datagram to the start of `out`, and returns its length, or why there is
 /// no reply (RFC 3416, sections 4.2.1, 4.2.2, 4.2.3 and 4.2.5).
 ///
-/// The octets of `out` after the reply are unspecified. Allocates nothing.
+/// The other octets of `out` are unspecified. Allocates nothing.
 pub fn answer(
     table: &Table,
     config: &Config<'_>,
     request: &[u8],
     out: &mut [u8; MAX_DATAGRAM],
 ) -> Outcome
-    // The Response to a GetBulk has as many of its bindings as fit. If another Response doesn't
-    // fit, the reply is the error tooBig, if that fits.
+    // The Response to a GetBulk has as many of its bindings as fit. If the Response to another
+    // request doesn't fit, the reply is the error tooBig, if that fits.
     ensures reply { (n : ℕ) → result ≡ Outcome.Reply n
         → IsReply (agent_of table.now config.now) request.now (take n out.new) }
     ensures length { (n : ℕ) → result ≡ Outcome.Reply n → n ≤ config.now.max_size }
@@ -58,8 +58,9 @@ pub fn answer(
 }
 
 /// Does what [`answer`] does, faster for a series of requests: a name whose position is in `hint`
-/// is found without a search. Records in `hint` positions of names that were searched, and mostly
-/// also the position of the last row that a GetNext, or a GetBulk of one name, returned.
+/// is mostly found without a search. Records in `hint` positions of names that were searched, and
+/// mostly also the position of the last row that a GetNext, or a GetBulk with one repeating name,
+/// returned.
 ///
 /// The reply doesn't depend on `hint`, which may even come from another table.
 pub fn answer_near(

@@ -1,6 +1,6 @@
 //! The bindings of the reply to a GetBulk (RFC 3416, section 4.2.3).
 //!
-//! A round is one repetition: a GetNext of each repeating name. The bindings are written to the
+//! A round is one repetition: one binding for each repeating name. The bindings are written to the
 //! start of the output, as for other replies. They end before the first binding that has no room.
 ghost use Rattle.std.specs.Prelude.{◌≡◌, ◌≢◌, ◌⊎◌, ◌≤◌, [], ◌∷◌, ◌++◌, true, false, take, drop};
 ghost use Rattle.std.specs.{Prelude.map, Prelude.length, List.list_all};
@@ -29,7 +29,8 @@ pub fn room_for_bindings(parts: &Parts<'_>, max_size: usize) -> usize
     ensures { IsRoom (parts_message parts.now) max_size result }
 {
     message_sizes();
-    // No head is longer than this one, so the search begins at the result or below it.
+    // No head of a message that fits is longer than this one, so the search begins at the result or
+    // below it.
     let longest = head_size(parts, max_size as u64) as usize;
     let mut room = max_size.saturating_sub(longest);
     'octets: while head_size(parts, room as u64 + 1) as usize + room < max_size {
@@ -113,7 +114,8 @@ fn append_repeaters<'a>(
 
 /// Appends the rounds of a single binding, as a walk requests them. Each round begins at the row
 /// that the previous one returned, so only the first may search. Records the position that it
-/// reaches in `hint`: mostly that of the last row returned. If the rows end, it may record nothing.
+/// reaches in `hint`, mostly the position of the last row returned. If the rows end, it may record
+/// nothing.
 fn append_column<'a>(
     table: &'a Table,
     repetitions: usize,
@@ -148,8 +150,8 @@ fn append_column<'a>(
     reply
 }
 
-/// Appends the rounds of several bindings. The positions of the first [`MAX_CURSORS`] are stored
-/// from one round to the next.
+/// Appends the rounds of any number of bindings. The positions of the first [`MAX_CURSORS`] are
+/// stored from one round to the next.
 fn append_columns<'a>(
     table: &'a Table,
     repetitions: usize,
@@ -189,8 +191,8 @@ fn push_cursors<'a>(
 }
 
 /// Appends the rounds of `bindings`. The first bindings have the positions `cursors`, which each
-/// round moves on, so nothing is searched. The names of the remaining bindings, `others`, are
-/// searched in each round; a reply has room for few of them.
+/// round updates, so their names aren't searched. The names of the remaining bindings, `others`,
+/// are searched in each round.
 fn append_rounds<'a>(
     table: &'a Table,
     repetitions: usize,
@@ -215,10 +217,10 @@ fn append_rounds<'a>(
     reply
 }
 
-/// Appends what a GetNext returns from each of `cursors`, and moves each on. Then appends, for each
-/// of `others`, what a GetNext returns from the position that its name has after `round` rounds.
-/// Stops at the first binding that has no room: the cursors after it aren't moved. Also returns
-/// whether no round follows: no room is left, or no row was left at any position.
+/// Appends what a GetNext returns from each of `cursors`, and moves each past the row returned, if
+/// any. Then appends, for each of `others`, what a GetNext returns from the position that its name
+/// has after `round` rounds. Stops once no room is left: the other cursors aren't moved. Also
+/// returns whether no round follows: no room is left, or no row was left at any position.
 fn append_round<'a>(
     table: &'a Table,
     round: usize,

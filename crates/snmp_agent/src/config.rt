@@ -25,7 +25,7 @@ pub enum Outcome {
 /// Why a datagram has no reply: the first reason that applies.
 #[derive(Clone, Copy, Debug, PartialEq, Eq, thiserror::Error)]
 pub enum DropReason {
-    /// The datagram isn't an SNMP message.
+    /// The datagram can't be decoded.
     #[error("no message")]
     Undecodable,
     /// The version isn't 1, which stands for SNMPv2c.

@@ -10,21 +10,21 @@ use crate::table::{Guesses, Successors, Table};
 use snmp_wire::{Binding, EncodedBinding, EncodedName, MAX_DATAGRAM, Oid, ValueRef};
 use std::marker::Model;
 
-/// What a GetBulk returned for a repeating name in the previous round.
+/// The last row that a GetBulk returned for a repeating name.
 #[derive(Drop)]
 pub enum Previous<'a> {
     /// No name was requested: the default, for arrays of positions. The name of a position always
     /// has an encoding, so the default has the name 0.0.
     Nothing,
-    /// Nothing yet. Holds the name in the request.
+    /// No row yet. Holds the name in the request.
     Asked(EncodedName<'a>),
     /// This row.
     Row(&'a EncodedBinding),
 }
 
 impl Previous<'_> {
-    /// Reads the name into `into`. The calls of `content` show, by its contract, that the name has
-    /// an encoding.
+    /// Reads into `into` the name of the row, or the name in the request, or 0.0 if there is
+    /// neither. The calls of `content` show, by its contract, that the name has an encoding.
     fn read_name(&self, into: &mut Oid)
         ensures name { into.new ≡ name_of self.now }
         ensures wire { IsWire into.new }
@@ -47,7 +47,7 @@ impl Previous<'_> {
 /// The position of a repeating name of a GetBulk among the rows of the table.
 #[derive(Drop)]
 pub struct Cursor<'a> {
-    /// What was returned for the name last.
+    /// The last row that was returned for the name.
     previous: Previous<'a>,
     /// The rows after the row that was returned last, or after the name in the request.
     rows: Successors<'a>,
@@ -155,9 +155,9 @@ impl<'a> Cursor<'a> {
     }
 }
 
-/// Appends the name of what was returned last, with `EndOfMibView`. `inline(never)`: its local
-/// `Binding`, of over a thousand octets, is zeroed when the function begins; inlined, it would be
-/// zeroed for each row that is appended.
+/// Appends the name of the last row returned, or the name in the request if there is none, with
+/// `EndOfMibView`. `inline(never)`: its local `Binding`, of over a thousand octets, is zeroed when
+/// the function begins; inlined, it would be zeroed for each row that is appended.
 #[inline(never)]
 pub fn append_end(
     previous: &Previous<'_>,

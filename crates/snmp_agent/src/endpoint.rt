@@ -26,18 +26,19 @@ pub trait Endpoint {
     ghost fault_count: { Self → ℕ };
 
     /// Receives a datagram into the start of `buffer`, and returns its length and its sender.
-    /// Returns `None` if none arrives in time. An error raises the fault count.
+    /// Returns `None` if none arrives in time. An error raises the fault count, unless it is
+    /// at its maximum.
     ///
-    /// A buffer of 65507 octets has room for any UDP datagram.
+    /// A buffer of 65507 octets has room for any UDP datagram over IPv4.
     fn receive(&mut self, buffer: &mut [u8]) -> Result<Option<(usize, Self::Peer)>, EndpointFault>
         ensures bound { IfOk result (λ received. IfSome received (λ r. r.0 ≤ length buffer.new)) }
-        // If the buffer has room for any UDP datagram, it contains the whole datagram.
+        // A buffer of fewer than 65507 octets may contain only the start of the datagram.
         ensures happens { 65507 ≤ length buffer.old
             → happens self.old (event_of_receive result buffer.new) self.new }
         ensures count { OnOk result (fault_count self.new ≡ fault_count self.old) }
         ensures fault { OnErr result (HasIncreased (fault_count self.old) (fault_count self.new)) };
 
-    /// Sends a reply to `peer`. An error raises the fault count.
+    /// Sends a reply to `peer`. An error raises the fault count, unless it is at its maximum.
     fn reply(&mut self, datagram: &[u8], peer: Self::Peer) -> Result<(), EndpointFault>
         ensures happens { happens self.old (event_of_reply result peer datagram.now) self.new }
         ensures count { OnOk result (fault_count self.new ≡ fault_count self.old) }

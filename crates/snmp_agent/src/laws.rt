@@ -18,7 +18,8 @@ use snmp_wire::{
     element_sizes, encoding_is_of_type, message_sizes, one_shortest_encoding, one_spelling,
 };
 
-/// Lines without a fault define a table, and it is a MIB view.
+/// If each line is good, and no two are rows of the same name (`AreTableBy`), then the lines
+/// define a table, and it is a MIB view.
 pub fn table_of_lines()
     ensures { (names : Names) (lines : List (List ℕ)) → AreTableBy names lines
         → (view : MibView) × IsTableOf names lines view × IsMibView view }
@@ -56,8 +57,8 @@ pub fn unmarked_table()
         → (IsFirstFault names lines fault ↔ IsFirstFaultIn first_format lines fault) }
 {}
 
-/// A name has exactly one value in a reply to a Get, one binding in a reply to a GetNext, and one
-/// in each round of a GetBulk (RFC 3416, sections 4.2.1 to 4.2.3).
+/// A Get of a name has exactly one result, a GetNext of a name has exactly one, and a name has
+/// exactly one in each round of a GetBulk (RFC 3416, sections 4.2.1 to 4.2.3).
 pub fn one_answer()
     ensures get { (view : MibView) (o : List ℕ) → HasOne (IsGet view o) }
     ensures get_next { (view : MibView) (o : List ℕ) → HasOne (IsNext view o) }
@@ -69,8 +70,7 @@ pub fn one_answer()
 
 /// Changes of one row. A Get of a name that was put returns its value, no row has a name that was
 /// removed, and Gets of other names are unchanged (RFC 3416, section 4.2.1). To put a row and then
-/// remove it is to remove its name. A put and a removal of two different names may come in either
-/// order.
+/// remove it is to remove its name. A put and a removal of two different names may be exchanged.
 pub fn changed_rows()
     ensures put { (view : MibView) (o : List ℕ) (v : Datum)
         → IsGet (with_row view o v) o (record { name = o; value = v }) }
@@ -99,9 +99,8 @@ pub fn one_reply()
 
 /// A reply is the shortest encoding of its Response: it is strict (unsigned numbers too are in
 /// two's complement), and every other strict encoding is longer. The agent must serve a MIB view,
-/// as a table is
-/// ([`Table::is_mib_view`](crate::Table::is_mib_view)), with messages of at most 65535 octets; a
-/// configuration allows at most 65507.
+/// as a table is ([`Table::is_mib_view`](crate::Table::is_mib_view)), with messages of at most
+/// 65535 octets; a configuration allows at most 65507.
 pub fn shortest_reply()
     ensures shortest { (agent : Agent) (datagram octets : List ℕ) → IsMibView agent.view
         → agent.max_size ≤ 65535 → (reply : IsReply agent datagram octets)

@@ -52,7 +52,8 @@ impl ReplyBindings {
         }
     }
 
-    /// Appends a row by copying its octets. If there is no room for it, none is left.
+    /// Appends a row by copying its octets, if there is room for it. Otherwise appends nothing, and
+    /// leaves no room for later bindings.
     #[inline]
     pub fn append_row(self, out: &mut [u8; MAX_DATAGRAM], row: &EncodedBinding) -> ReplyBindings
         ensures { held result out.new ≡ add (held self out.old) row.now }
@@ -60,7 +61,8 @@ impl ReplyBindings {
         self.append_octets(out, row.octets())
     }
 
-    /// Appends `octets`. If there is no room for them, none is left.
+    /// Appends `octets` if there is room for them. Otherwise appends nothing, and leaves no room
+    /// for later bindings.
     fn append_octets(self, out: &mut [u8; MAX_DATAGRAM], octets: &[u8]) -> ReplyBindings
         ensures { held result out.new ≡ put (held self out.old) octets.now }
     {
@@ -75,7 +77,8 @@ impl ReplyBindings {
         }
     }
 
-    /// Appends a binding. If there is no room for it, none is left.
+    /// Appends a binding if there is room for it. Otherwise appends nothing, and leaves no room for
+    /// later bindings.
     pub fn append(self, out: &mut [u8; MAX_DATAGRAM], binding: &Binding<'_>) -> ReplyBindings
         requires { IsWritable (var_bind binding.now) }
         ensures { held result out.new ≡ add (held self out.old) (var_bind binding.now) }

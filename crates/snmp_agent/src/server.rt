@@ -33,10 +33,10 @@ pub enum Turn {
     Failed,
 }
 
-/// Serves a table over a UDP socket (RFC 3417, section 3) for `turns` turns. In each turn one
-/// datagram is received, or the socket's time-out passes. The agent's reply goes to the address
-/// that the datagram came from. A turn whose receive or send fails counts only under `faults`, and
-/// the next turn follows.
+/// Serves a table over a UDP socket (RFC 3417, section 3) for `turns` turns. A turn receives one
+/// datagram, or waits until the socket's time-out passes. The agent's reply, if there is one, goes
+/// to the address that the datagram came from. A turn whose receive or send fails counts only under
+/// `faults`, and the next turn follows.
 ///
 /// A socket without a time-out waits for each datagram. Allocates nothing.
 pub fn serve(socket: &UdpSocket, table: &Table, config: &Config<'_>, turns: u64) -> Served
@@ -46,8 +46,8 @@ pub fn serve(socket: &UdpSocket, table: &Table, config: &Config<'_>, turns: u64)
 }
 
 /// Does what [`serve`] does at any endpoint, which receives the datagrams and sends the replies.
-// `inline(never)`: its two buffers are on the stack. Inlined, a caller with several such calls
-// would reserve room for the buffers of each.
+// `inline(never)`: its two buffers are on the stack. If it were inlined, a caller with several such
+// calls would reserve room for the buffers of each.
 #[inline(never)]
 pub fn serve_at<E: Endpoint>(
     endpoint: &mut E,
@@ -62,7 +62,7 @@ pub fn serve_at<E: Endpoint>(
     ensures turns { (events : List (Event E.Peer))
         × AreTurns (agent_of table.now config.now) turns result events
         × InTurn E.happens endpoint.old events endpoint.new }
-    // One receive or send failed in each turn that counts as a fault.
+    // The fault count increased by the number of turns that failed, up to its greatest value.
     ensures faults { HasIncreasedBy result.faults (E.fault_count endpoint.old)
         (E.fault_count endpoint.new) }
 {
@@ -81,7 +81,7 @@ pub fn serve_at<E: Endpoint>(
     served
 }
 
-/// Serves one turn: receives a datagram, and sends the reply if there is one.
+/// Serves one turn: receives a datagram, if one comes in time, and sends its reply, if it has one.
 fn serve_once<E: Endpoint>(
     endpoint: &mut E,
     table: &Table,

@@ -121,8 +121,8 @@ impl Table {
         ensures fault { IfErr result (IsFirstFaultIn (F.format format.now) (lines text.now)) }
     {
         let read = match TableBuilder::read(alloc, text, format, false) {
-            // Memory ran out while rows were collected to be sorted. An exact reading collects
-            // none, and takes less memory.
+            // Memory ran out, perhaps since rows were collected to be sorted. An exact reading
+            // collects none.
             Err(Halt::Again) => TableBuilder::read(alloc, text, format, true),
             read => read,
         };
@@ -145,8 +145,8 @@ impl Table {
         let _ = &self.rows;
     }
 
-    /// Returns the exception that a Get of `name` yields (see [`Table::get`]). No instance may
-    /// have this name.
+    /// Returns the exception that a Get of `name` yields (see [`Table::get`]). The table must have
+    /// no instance of this name.
     #[tactic(auto, using(crate::proofs::RowSearch::get_no_instance, crate::proofs::RowSearch::get_no_object))]
     pub(crate) fn exception(&self, name: &Oid) -> ValueRef<'_>
         requires { get self.now.rows name.now ≡ None }

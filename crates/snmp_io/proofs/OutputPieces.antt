@@ -16,7 +16,7 @@ extended_take before now after w n text first more =
     ∙ ap (λ rest. stream_after before (take w text ++ take n rest)) (rest_whole w text)
     ∙ ap (stream_after before) (sym (take-add w n text))
 
--- if w octets of the text were taken and then a write failed, then the text failed after a prefix
+-- if w octets of the text were taken and then a write failed, then a write failed after a prefix of the text (`FailsWithin`)
 pub fails_after_prefix : (before now after : Stream) (w : ℕ) (text : List ℕ) → now ≡ stream_after before (take w text)
     → after.taken ≡ now.taken → HasIncreased now.faults after.faults → FailsWithin before text after
 fails_after_prefix before now after w text is nothing risen = record {

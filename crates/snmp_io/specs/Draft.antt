@@ -24,10 +24,10 @@ pub record Adds (old : Written) (octets : List ℕ) (new : Written) : Type 0 whe
   pub goes_on : (first : Written) (text : List ℕ)
       → Grows first text old → Grows first (text ++ octets) new
 
--- the upper-case hexadecimal digit of n
+-- the upper-case hexadecimal digit of n, which is below 16
 abbrev pub upper_digit : ℕ → ℕ
 upper_digit n = if nat_lt n 10 then 48 + n else 55 + n
 
--- an octet as two hexadecimal digits
+-- an octet as two upper-case hexadecimal digits
 abbrev pub hexadecimal_octet : ℕ → List ℕ
 hexadecimal_octet octet = upper_digit (octet / 16) ∷ upper_digit (octet % 16) ∷ []

@@ -10,7 +10,7 @@ use Rattle.std.proofs.lemmas.Bool.{eq-eqb, eqb-false, eqb-true, ne_eqb}
 use Rattle.std.proofs.lemmas.List.Elements.{All-cons, All-head, All-nil, All-tail}
 use Rattle.snmp_io.specs.Quotes.{is_quote, open_after, HasNoneOutside, IsClosed, IsCut, IsPiece}
 
--- the quote that is open after the octets, if any; `quote` is the one that is open before them
+-- the quote that is open after the octets, if any; `quote` is the one open before them, if any
 abbrev pub quote_after : Option ℕ → List ℕ → Option ℕ
 quote_after quote [] = quote
 quote_after quote (octet ∷ more) = quote_after (open_after quote octet) more
@@ -109,7 +109,7 @@ closed_after (Some quote) (octet ∷ more) at_end =
 pub is_closed : (text : List ℕ) → quote_after None text ≡ None → IsClosed text
 is_closed text none = closed_after None text none
 
--- a quote is open before each `stop` in the text; `quote` is the one that is open before the text
+-- a quote is open before each `stop` in the text; `quote` is the one open before the text, if any
 abbrev pub HasNoneAfter : (stop : ℕ) → Option ℕ → List ℕ → Type 0
 HasNoneAfter stop quote text = (before after : List ℕ) → text ≡ before ++ stop ∷ after
     → quote_after quote before ≢ None

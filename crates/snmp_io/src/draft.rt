@@ -1,5 +1,4 @@
-//! Text that is appended to a vector whole or not at all. The crates above append names, values,
-//! lines and details with it.
+//! Text that is appended to a vector whole or not at all.
 ghost use Rattle.std.specs.Prelude.{◌≡◌, ◌<◌, ◌≤◌, ◌↔◌, [], ◌∷◌, ◌++◌, length, take, drop, decimal};
 ghost use Rattle.std.specs.Prelude.{if◌then◌else◌, Some, None, OnOk, OnErr, IsOk, IsSome, IfSome};
 ghost use Rattle.std.specs.Fmt.{signed_decimal};
@@ -13,9 +12,9 @@ use std::mem;
 
 /// A text that is being appended to a `Vec<u8>`, which is left unchanged if memory runs out.
 ///
-/// Each call appends a piece and returns no error: if memory runs out, the draft remembers it,
-/// appends nothing more, and [`Draft::finish`] reports it. A draft must be finished: until then
-/// the octets of the vector are in the draft.
+/// The calls that append return no error: if memory runs out, the draft remembers it, appends
+/// nothing more, and [`Draft::finish`] reports it. A draft must be finished: until then the octets
+/// of the vector are in the draft.
 pub struct Draft {
     octets: Vec<u8>,
     start: usize,
@@ -34,8 +33,8 @@ impl Model for Draft {
 }
 
 impl Draft {
-    /// Begins a text after the octets of `out`. Until [`Draft::finish`] moves them back, `out` is
-    /// empty. Doesn't allocate.
+    /// Begins a text after the octets of `out`, which is empty afterwards: [`Draft::finish`] moves
+    /// the octets back. Doesn't allocate.
     #[inline]
     pub fn after(out: &mut Vec<u8>) -> Draft
         ensures { result ≡ empty_text_after out.old.items }
@@ -118,8 +117,8 @@ impl Draft {
         self.octets(&[upper_digit(octet / 16), upper_digit(octet % 16), next]);
     }
 
-    /// Moves the octets back into `out`, with the text after them. If memory ran out, fails, and
-    /// `out` has the octets that it had before the text began.
+    /// Sets `out` to the octets that precede the text, with the text after them. If memory ran out,
+    /// fails, and sets `out` to only the octets that precede the text.
     pub fn finish(self, out: &mut Vec<u8>) -> Result<(), AllocError>
         ensures ok { OnOk result (IfSome self.added (λ text. out.new.items ≡ self.before ++ text)) }
         ensures unchanged_on_error { OnErr result (out.new.items ≡ self.before) }

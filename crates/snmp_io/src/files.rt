@@ -43,8 +43,8 @@ pub trait Files {
     }
 }
 
-/// Files, and a key: maps hash the names from the files with it. Nobody who doesn't know the key
-/// can choose names that a map would store in one long chain.
+/// Files, and a key: maps hash the names from the files with it. It is hard to choose names that a
+/// map would store in one long chain without knowing the key.
 #[derive(Drop)]
 pub struct KeyedFiles<F> {
     /// The files without a key.

@@ -1,7 +1,7 @@
 //! What the tools use of the machine, as traits: outputs, which take octets, and files, which are
-//! read by their paths. Contracts are stated with the ghost facts of the traits. Of the machine's
-//! own outputs and files, only the number of failed writes is known; of those in memory, all is
-//! known.
+//! read by their paths. Contracts speak of both by the ghost functions of the traits. Of the
+//! machine's own outputs and files, only the number of failed writes is known; of outputs and files
+//! in memory, all is known.
 //!
 //! Also here: [`Draft`], a text that is appended whole or not at all, and [`split_unquoted`],
 //! which cuts a text at an octet outside quotes.

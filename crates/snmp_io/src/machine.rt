@@ -11,13 +11,13 @@ use std::io::{ErrorKind, Read, Write};
 use std::marker::Model;
 use std::{io, rt};
 
-/// The most octets that a file may have. One with more, or without an end, is unreadable.
+/// The most octets that a file may have. A read of one with more, or without an end, fails.
 const MOST_OCTETS: usize = 268_435_456;
 
-/// How many times a write is tried if signals interrupt it.
+/// How many times, at most, a write is tried if signals interrupt it.
 const TRIES: u8 = 100;
 
-/// An output of the machine, such as standard output. It has no buffer.
+/// An output of the machine, such as standard output. It adds no buffer to its writer.
 #[derive(Drop)]
 pub struct MachineOutput<W> {
     to: W,
@@ -97,9 +97,9 @@ impl<R: rt::Files> Files for MachineFiles<R> {
 /// Why a file or another reader couldn't be read.
 #[derive(Clone, Copy, Debug)]
 pub enum ReadError {
-    /// The reader has more than 268435456 octets left.
+    /// The reader had more than 268435456 octets left.
     TooLong,
-    /// Opening or reading the file failed, or memory for its octets ran out.
+    /// Opening the file failed, or reading failed, or memory for the octets ran out.
     Failed(io::Error),
 }
 
@@ -120,8 +120,8 @@ impl ReadError {
     }
 }
 
-/// Returns all octets that `from` has left. Fails with `TooLong` if there are more than 268435456,
-/// and with `Failed` if reading fails or memory runs out.
+/// Returns all octets that `from` has left. Fails with `Failed` if reading fails or memory runs
+/// out, and otherwise with `TooLong` if there are more than 268435456.
 pub fn read_whole<R: Read + Drop>(alloc: Global, from: R) -> Result<Vec<u8>, ReadError>
     ensures whole { IfOk result (λ text.
         IfSome (R.remaining from) (λ octets. text.items ≡ octets)) }

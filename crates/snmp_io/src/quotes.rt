@@ -11,7 +11,7 @@ pub fn split_unquoted(text: &[u8], stop: u8) -> Option<(&[u8], &[u8])>
     ensures { MatchOption result (HasNoneOutside stop text.now)
         (λ parts. IsCut stop text.now parts.0.now parts.1.now) }
 {
-    // Hot: runs for each line of a table. Most lines have no quote, and until the first one this
+    // Hot: may run for each line of a table. Most lines have no quote, and until the first one this
     // loop needn't track which quote is open.
     'octets: for (at, octet) in text.iter().enumerate() {
         if *octet == stop {

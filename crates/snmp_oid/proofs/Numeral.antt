@@ -8,7 +8,7 @@ use Rattle.std.proofs.lemmas.Str.Parse.{IsNumeralModel, numerals_by_weight, tell
 use Rattle.std.specs.{Char.is_ascii_digit, Str.all_ascii_digits}
 use Rattle.snmp_oid.specs.Numeric.{decimal_value, IsNumeral}
 
--- `left` is the end of the part that is still to be read, and `number` is the value of the digits before it
+-- `left` is the end of the part that is still to be read, and `number`, of 32 bits, is the value of the digits before it
 pub record IsReadTo (part left : List ℕ) (number : ℕ) : Type 0 where
   pub value : number * 10 ^ length left + decimal_value left ≡ decimal_value part
   pub digits : all_ascii_digits left ≡ all_ascii_digits part
@@ -23,7 +23,7 @@ value_more : (part rest : List ℕ) (digit number : ℕ) → IsReadTo part (digi
 value_more part rest digit number h =
     shifted number (digit - 48) (10 ^ length rest) (decimal_value rest) ∙ rw (pow-suc 10 (length rest)) at h.value
 
--- if the number stays below 2^32 with the next digit appended, then this digit can be read
+-- if the number stays below 2^32 with the next digit appended, then the part is read up to the octet after this digit
 pub read_more : (part rest : List ℕ) (digit number : ℕ) → is_ascii_digit digit ≡ true → number * 10 + (digit - 48) < 2 ^ 32
     → IsReadTo part (digit ∷ rest) number → IsReadTo part rest (number * 10 + (digit - 48))
 read_more part rest digit number is_digit small h = grind (arith, common_steps, value_more)
@@ -53,7 +53,7 @@ read_large_at part count number low large h =
     read_large part (drop (count + 1) part) (get_or part count 0) number large
     (rw (prefix_at part count low) at h)
 
--- the first `count` octets of the text are digits that write `number`, whatever follows them
+-- the first `count` octets of the text are digits that write `number`, of 32 bits, whatever follows them
 pub record IsLeadingNumber (text : List ℕ) (count number : ℕ) : Type 0 where
   pub within : count ≤ length text
   pub read : (rest : List ℕ) → IsReadTo (take count text ++ rest) rest number

@@ -21,8 +21,8 @@ abbrev pub IsPositionOf : List ℕ → Option (List ℕ) → ℕ → Type 0
 IsPositionOf text None at = at ≡ length text + 1
 IsPositionOf text (Some here) at = (drop at text ≡ here) × (at + length here ≡ length text) × BeginsPart text at
 
--- the text is read up to `left`, or to its end if `left` is None: the parts before it are numerals (of `numbers`); `kept` is the first 128 of these numbers,
--- and `too_long` says whether there are more
+-- the text, which isn't a single dot, is read up to `left`, or to its end if `left` is None: the parts before it are numerals (of `numbers`); `kept` is the
+-- first 128 of these numbers, and `too_long` says whether there are more
 pub record IsParsedTo (text : List ℕ) (left : Option (List ℕ)) (kept : List ℕ) (too_long : Bool) : Type 0 where
   pub more : text ≢ dot ∷ []
   pub dotted : List ℕ
@@ -277,7 +277,8 @@ parts_after : (text part : List ℕ) (after : Option (List ℕ)) → text ≡ pa
 parts_after text part None e = e ∙ append-nil part
 parts_after text part (Some rest) e = e
 
--- the digits at the start of a text, before a dot or the end, are its first part and a numeral
+-- if one or more digits at the start of a text write `number` (`IsLeadingNumber`), and a dot or the end follows, they are the first part of the text, which
+-- is a numeral of `number`
 pub part_is_read : (text : List ℕ) (count number : ℕ) (after : Option (List ℕ)) → 0 < count → IsLeadingNumber text count number
     → drop count text ≡ dot_and_rest after → IsPartRead text (Some number) after
 part_is_read text count number after some h suffix =

@@ -35,7 +35,7 @@ IsWire (x ∷ y ∷ _) = (x ≤ 2) × (x < 2 → y < 40)
 IsWire (_ ∷ []) = ⊥
 IsWire [] = ⊥
 
--- the identifier padded with zeros to two numbers
+-- the identifier, padded with zeros to two numbers if it has fewer
 abbrev pub wire : List ℕ → List ℕ
 wire [] = 0 ∷ 0 ∷ []
 wire (x ∷ []) = x ∷ 0 ∷ []

@@ -156,10 +156,11 @@ fn read_other_part(text: &[u8]) -> (Option<u32>, Option<&[u8]>)
     (number, after)
 }
 
-/// Reads the number before the first dot of `text`. Returns it with the text after the dot, or
-/// with `None` if `text` has no dot. Each numeral below 4000000000 is read, fastest if it is one
-/// digit before a dot. A result of `None` says nothing about `text`.
-// Hot: runs for each number of a name that is read by itself.
+/// Reads the number that `text` has before its first dot, or that is all of `text` if it has no
+/// dot. Returns it with the text after the dot, or with `None` if there is no dot. Each numeral
+/// below 4000000000 is read, fastest if it is one digit before a dot. A result of `None` says
+/// nothing about `text`.
+// Hot: runs for each number of a name that `read_three` leaves.
 #[inline(always)]
 pub fn leading_number(text: &[u8]) -> Option<(u32, Option<&[u8]>)>
     ensures { IfSome result
@@ -307,7 +308,7 @@ pub const LONGEST_TEXT: usize = 1408;
 /// Writes the numeric text of `oid` to the start of `out` and returns its length in octets, at
 /// most 1408. The text has a dot before each number, or is a single dot if there are none.
 ///
-/// Returns `None`, and leaves `out` unchanged, only if `out` is shorter than the text.
+/// Returns `None`, and leaves `out` unchanged, if and only if `out` is shorter than the text.
 pub fn write_numeric(oid: &Oid, out: &mut [u8]) -> Option<usize>
     ensures some { IfSome result (IsWrittenTo out.new out.old (numeric_text oid.now)) }
     ensures variant { IsSome result ↔ (length (numeric_text oid.now) ≤ length out.old) }

@@ -205,8 +205,8 @@ impl Oid {
         }
     }
 
-    /// Returns the identifier padded with zeros to two numbers. Fails with `NotWire` if the padded
-    /// identifier has no encoding.
+    /// Returns the identifier, padded with zeros to two numbers if it has fewer. Fails with
+    /// `NotWire` if the result would have no encoding.
     pub fn to_wire(&self) -> Result<Oid, OidError>
         ensures ok { IfOk result (λ o. o ≡ wire self.now) }
         ensures variant { IsOk result ↔ IsWire (wire self.now) }
@@ -220,7 +220,7 @@ impl Oid {
         }
     }
 
-    /// Returns the identifier padded with zeros to two numbers.
+    /// Returns the identifier, padded with zeros to two numbers if it has fewer.
     fn pad_to_wire(&self) -> Oid
         ensures { result ≡ wire self.now }
     {
@@ -250,8 +250,8 @@ pub fn order()
     ensures equality { (o p : List ℕ) → IsTrue (⟦<Oid as PartialEq>⟧.eq o p) ↔ (o ≡ p) }
 {}
 
-/// Returns how identifiers of the numbers `o` and `p` compare ([`order`]). Tests the first eight
-/// numbers without a loop, since most names of one table begin with the same eight.
+/// Returns how identifiers of the numbers `o` and `p` compare ([`order`]). Tests without a loop
+/// whether both begin with the same eight numbers, as most names of one table do.
 #[inline]
 #[tactic(auto, using(crate::proofs::Comparisons::first_decides, crate::proofs::Comparisons::one_more_alike, crate::proofs::Comparisons::longer_after))]
 pub fn compare_numbers(o: &[u32], p: &[u32]) -> Ordering
@@ -268,8 +268,7 @@ pub fn compare_numbers(o: &[u32], p: &[u32]) -> Ordering
 }
 
 /// Returns whether `o` and `p` begin with the same eight numbers.
-// `inline(always)`: it runs at each comparison of a search, and a call would cost as much as the
-// body.
+// `inline(always)`: a call would cost as much as the body.
 #[inline(always)]
 #[tactic(auto, using(crate::proofs::Comparisons::eight_alike))]
 fn begin_alike(o: &[u32], p: &[u32]) -> bool
@@ -286,8 +285,7 @@ fn begin_alike(o: &[u32], p: &[u32]) -> bool
 }
 
 /// Returns whether `o` and `p` have the same four numbers from index `from` on.
-// `inline(always)`: it runs at most comparisons of a search, and a call would cost as much as the
-// body.
+// `inline(always)`: a call would cost as much as the body.
 #[inline(always)]
 fn are_same_four(o: &[u32], p: &[u32], from: usize) -> bool
     requires { (from + 4 ≤ length o.now) × (from + 4 ≤ length p.now) }

@@ -1,5 +1,5 @@
--- Numbers and their digits: `number_of` and `digits` are inverse to each other (`digits_value`,
--- `digits_are`).
+-- Numbers and their digits: `number_of` and `digits` are inverse to each other, for numbers that
+-- the digits can write and for digits below the base (`digits_value`, `digits_are`).
 use Rattle.std.proofs.{lemmas.Grind.common_steps, Math.Arith.mod-mul, lemmas.Nat.mul-add-lt, lemmas.List.length_push, lemmas.List.take_more}
 use Rattle.std.proofs.Common.{◌≡◌, ℕ, zero, suc, ◌+◌, ◌*◌, ◌/◌, ◌%◌, ◌^◌, ◌<◌, List, [], ◌∷◌, ◌++◌, length, get_or, take, refl, sym, ap, ◌∙◌, add-one}
 use Rattle.std.proofs.Common.{lit<, arith}

@@ -1,4 +1,4 @@
--- The lengths of headers, elements and values, and how they are written before their contents. For
+-- The lengths of headers, elements and values, and how a header is written before its content. For
 -- proofs about values and messages.
 use Rattle.std.proofs.{lemmas.Grind.common_steps, lemmas.Bool.lt-ltb}
 use Rattle.std.proofs.Common.{◌≡◌, ℕ, ℤ, ◌+◌, ◌-◌, ◌<◌, ◌≤◌, List, [], ◌∷◌, ◌++◌, length, refl, ap, arith, length-append}

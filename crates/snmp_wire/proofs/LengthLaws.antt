@@ -31,7 +31,7 @@ ends_early tag length_field content missing some is_length parts = record {
   whole = record { length_octets = length_field; is_length = is_length; parts = parts };
 }
 
--- a first octet of 129 to 132 and as many digits are a length in the long form
+-- a first octet of 129 to 132, and as many digits as it says, are a length in the long form
 long_form : (first : ℕ) (digits : List ℕ) → 128 < first → first < 133 → length digits ≡ first - 128 → IsLength (first ∷ digits) (unsigned digits)
 long_form first digits low high size = inr (record {
   digits = digits;
@@ -51,7 +51,7 @@ content_short tag length_field after n is_length short =
     ends_early tag length_field (after ++ missing) missing (omega (arith, size)) (subst (IsLength length_field) whole is_length)
     (ap (λ (o : List ℕ). tag ∷ o) (append_assoc length_field after missing))
 
--- an element ends early if its length isn't complete
+-- an element ends early if its length has the long form with one to four digits and isn't complete
 length_short : (tag first : ℕ) (rest : List ℕ)
     → 128 < first → first < 133 → length rest < first - 128 → EndsEarly (tag ∷ first ∷ rest)
 length_short tag first rest low high short =

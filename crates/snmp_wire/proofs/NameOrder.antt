@@ -25,7 +25,7 @@ use Rattle.snmp_wire.proofs.ReadIdentifiers.{identifier_again, identifier_takes}
 
 -- ---- where a subidentifier ends
 
--- the number of octets with the high bit set at the start, which is how many octets follow the first one in its subidentifier
+-- the number of octets with the high bit set at the start; in a content, as many octets follow the first one in its subidentifier
 abbrev pub reach : List ℕ → ℕ
 reach [] = 0
 reach (octet ∷ rest) = cond (ltb octet 128) 0 (suc (reach rest))
@@ -128,8 +128,8 @@ same_prefix content other at h = ext_get_or 0 (take at content) (take at other)
 
 -- ---- which of two numbers is greater
 
--- of two numbers with as many digits, the one with the greater digit at the first difference is
--- greater
+-- of two numbers with the same number of digits, the one with the greater digit at the first
+-- difference is greater
 digits_rise : (base : ℕ) (prefix after suffix : List ℕ) (c d : ℕ) → c < d → length after ≡ length suffix → AreDigits base after
     → number_of base (prefix ++ c ∷ after) < number_of base (prefix ++ d ∷ suffix)
 digits_rise base [] after suffix c d less size small =
@@ -150,8 +150,8 @@ least_of_several (octet ∷ rest) n all is several =
     let positions : length (low_bits rest) ≡ length (octet ∷ rest) - 1 = omega (arith, length-low_bits rest) in
     omega (arith, power, ap (λ k. 128 ^ k) positions, is.value)
 
--- if two octets are followed by as many octets of their subidentifiers, both or neither of them
--- have the high bit, so the smaller octet has the smaller digit
+-- if the same number of octets follow two octets in their subidentifiers, then both or neither of them have the high bit, so the smaller octet has the smaller
+-- digit
 digit_rises : (x y : ℕ) (xs ys : List ℕ) → reach (x ∷ xs) ≡ reach (y ∷ ys) → x < 256 → y < 256 → x < y → x % 128 < y % 128
 digit_rises x y xs ys e small other_small less = elim (cases_lt x 128) [
   | inl low ↦ elim (cases_lt y 128) [
@@ -368,7 +368,7 @@ is_name content ok =
     let name : identifier_in content ≡ read.0 = ap (λ (r : Result (List ℕ) BerError). result_unwrap_or r []) read.1 in
     subst (λ (o : List ℕ). IsObjectId content o) (sym name) (identifier_takes content read.0 read.1)
 
--- a content is the content of at most one name
+-- if a content encodes `name`, then `identifier_in` is this name
 pub identifier_is : (content name : List ℕ) → IsObjectId content name → identifier_in content ≡ name
 identifier_is content name is = ap (λ (r : Result (List ℕ) BerError). result_unwrap_or r []) (identifier_again content name is)
 
@@ -544,7 +544,7 @@ both_go_on {content} {other} {at} {end} {last} e f same =
     let far : reach (octets_from content at) ≡ reach (octets_from other at) = omega (arith, same, end_is content at end e, end_is other at last f) in
     (λ less. inr (far, less), λ more. inr (sym far, more))
 
--- if the octet of `content` at `at` is the last of its subidentifier, and the smaller one, then its subidentifier ends first
+-- if the octet of `content` at `at` is the last of its subidentifier, and the smaller one, then its subidentifier ends first, or both end together
 last_first : (content other : List ℕ) (at : ℕ) → get_or content at 0 < 128 → get_or content at 0 < get_or other at 0
     → EndsFirst (octets_from content at) (octets_from other at)
 last_first content other at last less =

@@ -22,12 +22,12 @@ count_taken base limit more n h = rw (lt-ltb n limit h) refl
 pub count_left : (base limit more n : ℕ) → limit ≤ n → digit_count base limit (suc more) n ≡ 1 + digit_count base (limit * base) more n
 count_left base limit more n h = rw (le-ltb n limit h) refl
 
--- a number has at least one digit
+-- `digit_count` is at least 1
 pub digit_some : (base limit more n : ℕ) → 1 ≤ digit_count base limit more n
 digit_some base limit zero n = omega arith
 digit_some base limit (suc more) n = grind (arith, common_steps, ⊎_elim, count_taken, count_left, cases_lt)
 
--- a number has at most `1 + more` digits
+-- `digit_count` is at most `1 + more`
 pub digit_most : (base limit more n : ℕ) → digit_count base limit more n ≤ 1 + more
 digit_most base limit zero n = omega arith
 digit_most base limit (suc more) n = grind (arith, common_steps, digit_most base (limit * base) more n, ⊎_elim, count_taken, count_left, cases_lt)

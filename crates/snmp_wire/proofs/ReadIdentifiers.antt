@@ -1,6 +1,6 @@
 -- Decoding of identifiers, a subidentifier or a number at a time. A content that is decoded encodes
 -- the identifier that is returned (`identifier_takes`); of any other, the fault is `Content`. A
--- content that encodes an identifier is decoded as this one (`identifier_again`).
+-- content that encodes an identifier is decoded as this identifier (`identifier_again`).
 use Rattle.std.proofs.Common.{◌≡◌, ℕ, ◌+◌, ◌*◌, ◌%◌, ◌^◌, ◌<◌, ◌≤◌, cond, eqb, ltb, List, [], ◌∷◌, length, get_or, drop, Result, Ok, Err, IsOk, refl}
 use Rattle.std.proofs.Common.{sym, ◌∙◌, arith, zero, suc, ◌-◌, ◌++◌, take, All, ap, append_assoc, ◌≢◌, map, lit<, ⊎_elim, inl, inr, is_ok, true}
 use Rattle.std.proofs.lemmas.Bool.{ltb-true, lt-ltb, le-ltb, ltb-false, eqb-false, ne_eqb, cases_lt}
@@ -165,7 +165,7 @@ push_skips prefix (n ∷ ns) rest whole plain so_far =
     let same : (prefix ++ n ∷ []) ++ ns ≡ prefix ++ (n ∷ ns) = append_assoc prefix (n ∷ []) ns in
     (omega (arith, length_push prefix n, all.0), rw same at all.1)
 
--- the four octets from `i` on have no high bit
+-- each of the four octets from `i` on is below 128; a missing octet counts as 0
 abbrev pub AreLow : List ℕ → ℕ → Type 0
 AreLow octets i = (get_or octets i 0 < 128) × (get_or octets (i + 1) 0 < 128) × (get_or octets (i + 2) 0 < 128) × (get_or octets (i + 3) 0 < 128)
 
@@ -246,7 +246,7 @@ digits_give n (octet ∷ rest) =
       small = t.small;
     }) (λ e fault. fault) (digits_give next rest)))
 
--- a further digit doesn't make a number smaller
+-- further digits don't make a number smaller
 value_after_grows : (n : ℕ) (octets : List ℕ) → n ≤ value_after n octets
 value_after_grows n octets = omega (arith, mul-le-mul_left n (one-le-pow (length octets) 128 (lit< tt)))
 

@@ -1,5 +1,6 @@
 -- What is written of numbers, lengths, elements and values encodes them strictly (`spells_value`).
--- No strict encoding is shorter, and none of the same length is another (`value_least`).
+-- No strict encoding of a value is shorter, and one of the same length is the same
+-- (`value_least`).
 use Rattle.std.proofs.{lemmas.Grind.common_steps, lemmas.Int.ints, lemmas.Bool.cases_lt, lemmas.Bool.Decides.nat_tests, lemmas.Nat.mul-add-lt}
 use Rattle.std.proofs.Common.{◌≡◌, ℕ, ℤ, pos, negsuc, ◌+◌, ◌-◌, ◌-ℤ◌, ◌*◌, ◌/◌, ◌%◌, ◌^◌, ◌<◌, ◌≤◌, suc, List, ◌∷◌, length, get_or, sym, ap, subst}
 use Rattle.std.proofs.Common.{◌∙◌, inl, inr, ⊎_elim, lit<, arith, refl, lit≤, [], ◌++◌, length-append}
@@ -150,8 +151,7 @@ pub length-number : (z : ℤ) → length (canon_number z) ≤ 9
 unfolding number_size
 length-number z = omega (arith, length-canon_number z, digit_most 256 128 8 (magnitude_of z))
 
--- the content that is written of a value: it encodes the value strictly, consists of octets, and
--- has at most 65535
+-- the content that is written of a value encodes the value strictly, consists of octets, and has at most 65535 of them
 pub record IsGood (value : Datum) : Type 0 where
   pub is_content : IsContent strict value (canon_content value)
   pub are_octets : Octets (canon_content value)

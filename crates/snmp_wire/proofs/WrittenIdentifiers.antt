@@ -1,4 +1,4 @@
--- How identifiers are written: the lengths of their encodings, that these are strict
+-- How identifiers are written: the lengths of their encodings, that these encode them
 -- (`is_subidentifier`, `is_object_id`), and that a subidentifier has no other encoding of the same
 -- length (`same_subidentifier`).
 use Rattle.std.proofs.{lemmas.Grind.common_steps, lemmas.Grind.flat_map-append, lemmas.Nat.le_or_l, lemmas.Nat.le_or_r}
@@ -72,7 +72,7 @@ pub two_septets : (m : ℕ) → m < 16384 → (128 + m / 128) ∷ (128 + m % 128
 unfolding septets digits
 two_septets m below = grind (arith, common_steps)
 
--- the content of an identifier is a subidentifier that joins its first two numbers, followed by a subidentifier for each other one
+-- the content of an identifier is a subidentifier that joins its first two numbers, followed by a subidentifier for each other number
 pub content_parts : (name : List ℕ) → IsWire name → canon_content (object_id name) ≡ canon_subidentifier (40 * get_or name 0 0 + get_or name 1 0)
     ++ flat_map canon_subidentifier (take (length name - 2) (drop 2 name))
 unfolding canon_content
@@ -238,9 +238,9 @@ not_padded (suc k) m last low high least e =
     let small : m / 128 ^ k < 128 = (div-lt_iff_lt-mul (one-le-pow k 128 (lit< tt))).1 (omega (arith, high, pow-suc 128 k)) in
     omega (arith, e, some, small)
 
--- what is written of a subidentifier encodes it: the last octet has the lowest seven bits, those
--- before it the others with the high bit set, and the first isn't 128, since there are no more
--- octets than needed
+-- what is written of a subidentifier below 2 ^ 35 encodes it: the last octet has the lowest seven
+-- bits, the octets before it have the other bits and the high bit set, and the first isn't 128,
+-- since there are no more octets than needed
 pub is_subidentifier : (n : ℕ) → n < 2 ^ 35 → IsSubidentifier (canon_subidentifier n) n
 unfolding subidentifier_size
 is_subidentifier n h =

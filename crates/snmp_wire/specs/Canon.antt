@@ -33,7 +33,8 @@ canon_fields message =
     canon_value (integer_value message.id) ++ canon_value (integer_value message.a)
     ++ canon_value (integer_value message.b)
 
--- the shortest encoding of a message
+-- the encoding that is written of a message: its shortest one, if the message is in range
+-- (Range.antt)
 unfoldable pub canon : Message → List ℕ
 canon message =
     canon_element sequence_tag (canon_opening message

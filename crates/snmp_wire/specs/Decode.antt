@@ -56,7 +56,7 @@ binding_at octets = do
   binding ← binding_of fields.0
   Ok (binding, fields.1)
 
--- the bindings that the octets encode, one after the other, at most `fuel` of them
+-- the bindings that the octets encode, one after the other; a fault if there are more than `fuel`
 unfoldable pub bindings_within : ℕ → List ℕ → Result (List VarBind) BerError
 bindings_within fuel [] = Ok []
 bindings_within zero (octet ∷ rest) = Err error.Content

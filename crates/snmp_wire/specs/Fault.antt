@@ -83,8 +83,8 @@ abbrev pub Calls : Position → List ℕ → Type 0
 Calls at_binding here = here ≢ []
 Calls position here = Unit {0}
 
--- in the message `octets`, an element of the position is required at the start of `here`, which is
--- what is left of the element around it
+-- `octets` as a message must have an element of the position at the start of `here`, which is what
+-- is left of the element around it, or all of `octets` for the message itself
 pub data Expects (octets : List ℕ) : Position → List ℕ → Type 0 where
   starts : Expects octets at_message octets
   inside : (position next : Position) (here : List ℕ) (tag : ℕ) (content rest : List ℕ)
@@ -112,7 +112,8 @@ pub record HasBadTag (octets : List ℕ) : Type 0 where
   pub parts : here ≡ tag ∷ after
   pub bad : AllowsTag position tag → ⊥
 
--- `octets` have an element with a content that no value with the element's tag has
+-- `octets` have a value with a tag that is allowed at its position, and a content that no value
+-- with this tag has
 pub record HasBadContent (octets : List ℕ) : Type 0 where
   pub position : Position
   pub here : List ℕ

@@ -11,7 +11,8 @@ abbrev pub pdu_size : Message → ℕ → ℕ
 pdu_size message total =
     length (canon_fields message) + length (canon_header sequence_tag total) + total
 
--- the length of each part of a message is the sum of the lengths of its own parts
+-- the length of each part of a message is the sum of the lengths of its own parts; the head isn't
+-- shorter if the bindings take more octets
 pub record MessageSizes : Type 0 where
   -- the part before the PDU: the version and the community
   pub opening : (m : Message)

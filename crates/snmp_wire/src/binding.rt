@@ -226,8 +226,8 @@ pub(crate) fn check_bindings(octets: &[u8]) -> Result<(), BerError>
     Ok(())
 }
 
-/// Returns the fields of the binding at the start of `octets`, and the octets after it. The
-/// contents of the name and the value aren't checked.
+/// Returns the fields of the binding at the start of `octets`, and the octets after it.
+/// Success says nothing of the contents of the name and the value.
 // `inline(always)`: its single caller calls it for each binding that is checked.
 #[inline(always)]
 fn fields_at<'a>(octets: &'a [u8]) -> Result<(Fields<'a>, &'a [u8]), BerError>
@@ -239,8 +239,8 @@ fn fields_at<'a>(octets: &'a [u8]) -> Result<(Fields<'a>, &'a [u8]), BerError>
     }
 }
 
-/// Does what [`fields_at`] does if each of the three lengths has one octet, as most do. If it
-/// returns `None`, that says nothing of the octets.
+/// Returns what [`fields_at`] returns if that succeeds and each of the three lengths has one
+/// octet, as most do. If this returns `None`, that says nothing of the octets.
 // `inline(always)`: called for each binding that is checked or read. Inlined, its result stays in
 // registers.
 #[inline(always)]
@@ -274,7 +274,7 @@ fn short_fields_at<'a>(octets: &'a [u8]) -> Option<(Fields<'a>, &'a [u8])>
 
 /// Does what [`fields_at`] does, for lengths of any form.
 #[tactic(auto, unfolding(crate::specs::Decode::fields_at))]
-// `inline(always)`: called for each binding that is checked and has a length in the long form.
+// `inline(always)`: called for each binding that has a length in the long form.
 #[inline(always)]
 fn any_fields_at<'a>(octets: &'a [u8]) -> Result<(Fields<'a>, &'a [u8]), BerError>
     ensures { AgreesBy (λ x. (reading.fields x.0, x.1.now)) result (reading.fields_at octets.now) }
@@ -382,7 +382,7 @@ fn check_binding(fields: Fields<'_>) -> Result<(), BerError>
 ///
 /// Its name, and its value if that is an identifier, must have an encoding ([`Oid::is_wire`]), and
 /// a string must have at most 65535 octets.
-// `inline(always)`: called for each binding that is written.
+// `inline(always)`: called for each [`Binding`] that is encoded.
 #[inline(always)]
 pub fn binding_size(binding: &Binding<'_>) -> u64
     requires { IsEncodable (var_bind binding.now) }
@@ -395,7 +395,7 @@ pub fn binding_size(binding: &Binding<'_>) -> u64
 }
 
 /// Returns the length, in octets, of the shortest encoding of the binding of `name` and `value`.
-// `inline(always)`: called for each binding that is written.
+// `inline(always)`: called for each binding that is encoded from a name and a value.
 #[inline(always)]
 pub(crate) fn pair_size(name: &Oid, value: &ValueRef<'_>) -> u64
     requires { IsEncodable (record { name = name.now; value = datum value.now }) }
@@ -440,7 +440,7 @@ pub fn encode_binding(binding: &Binding<'_>, out: &mut [u8]) -> Option<usize>
 }
 
 /// Writes a binding before `end`, and returns its offset.
-// `inline(always)`: called for each binding that is written.
+// `inline(always)`: called for each [`Binding`] that is encoded.
 #[inline(always)]
 pub(crate) fn put_binding(out: &mut [u8], end: usize, binding: &Binding<'_>) -> usize
     requires encodable { IsEncodable (var_bind binding.now) }
@@ -452,7 +452,7 @@ pub(crate) fn put_binding(out: &mut [u8], end: usize, binding: &Binding<'_>) -> 
 }
 
 /// Writes the binding of `name` and `value` before `end`, and returns its offset.
-// `inline(always)`: called for each binding that is written.
+// `inline(always)`: called for each binding that is encoded from a name and a value.
 #[inline(always)]
 pub(crate) fn put_pair(out: &mut [u8], end: usize, name: &Oid, value: &ValueRef<'_>) -> usize
     requires encodable { IsEncodable (record { name = name.now; value = datum value.now }) }

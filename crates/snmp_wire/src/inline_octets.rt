@@ -11,8 +11,8 @@ pub const ON_HEAP: u8 = 255;
 
 /// An encoding, stored inline if it has at most [`MAX_INLINE`] octets. Inline, it needs no
 /// allocation, and a search reads it without following a pointer.
-// A struct and not an enum, so that a move copies it whatever it stores, and a move of many is one
-// copy.
+// A struct and not an enum: a move copies all of it, whatever it stores, so that many are moved by
+// one copy.
 #[derive(Drop)]
 pub struct Octets {
     /// All octets, if they are on the heap.

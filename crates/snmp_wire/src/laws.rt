@@ -69,7 +69,8 @@ pub fn pieces()
     ensures { HasPieces }
 {}
 
-/// Says how many octets the shortest encodings of lengths, whole numbers and elements take.
+/// Says how many octets the shortest encodings of lengths, elements and whole numbers from zero on
+/// take, and that an INTEGER of 32 bits takes at most 6.
 #[inline]
 #[tactic(auto, using(std::proofs::lemmas::Grind::common_steps, crate::proofs::NumberSizes::element_lengths))]
 pub fn element_sizes()
@@ -86,7 +87,7 @@ pub fn message_sizes()
 }
 
 /// A request for one name, whatever its kind, has at most 1,000 octets, if its community has at
-/// most 255 octets. An [`Oid`](crate::Oid) has at most 128 numbers.
+/// most 255 octets and the name at most 128 numbers, as each [`Oid`](crate::Oid) has.
 #[inline]
 #[tactic(auto, using(crate::proofs::Requests::short_request))]
 pub fn requests_are_short()

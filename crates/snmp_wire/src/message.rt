@@ -23,8 +23,8 @@ use crate::laws::one_shortest_encoding;
 use crate::{Binding, Bindings, Kind};
 use std::marker::Model;
 
-/// The greatest number of octets in a UDP datagram over IPv4 (RFC 768; RFC 791, section 3.1):
-/// 65535 less the headers of 20 and 8 octets.
+/// The greatest number of octets that a UDP datagram carries over IPv4 (RFC 768; RFC 791, section
+/// 3.1): 65535 less the headers of 20 and 8 octets.
 pub const MAX_DATAGRAM: usize = 65507;
 
 /// A decoded message (RFC 1901, section 3). Its strings are borrowed from the datagram.
@@ -151,7 +151,8 @@ fn message_of<'a>(octets: &'a [u8]) -> Result<MessageRef<'a>, BerError>
     pdu_of(version, community, kind, content)
 }
 
-/// Returns the content of the outermost element, which must be a SEQUENCE with no octets after it.
+/// Returns the content of the outermost element. Fails unless that is a SEQUENCE and no octets
+/// follow it.
 #[tactic(auto, unfolding(crate::specs::Decode::outermost_of))]
 #[inline]
 fn outermost_of(octets: &[u8]) -> Result<&[u8], BerError>
@@ -354,8 +355,8 @@ pub fn seal(parts: &Parts<'_>, at: usize, len: usize, out: &mut [u8]) -> Option<
         (n ≡ length (canon_head (parts_message parts.now) len) + len)
         × (take n out.new
         ≡ canon_head (parts_message parts.now) len ++ take len (drop at out.old))) }
-    // If the `len` octets are the shortest encodings of bindings in range, then a shortest
-    // encoding of the message with these bindings is written.
+    // If the `len` octets are the shortest encodings of bindings in range, then what is written is
+    // a shortest encoding of the message with these bindings.
     ensures shortest { (bindings : List VarBind)
         → AllByRecursion IsBindingInRange bindings
         → take len (drop at out.old) ≡ canon_bindings bindings

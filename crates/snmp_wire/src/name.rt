@@ -76,7 +76,7 @@ impl<'a> EncodedName<'a> {
         EncodedName::of(&written[start..])
     }
 
-    /// Returns the content octets: at most 640, and the only encoding of the name.
+    /// Returns the content octets: at most 640, and the only content of the name.
     #[inline]
     #[tactic(auto, using(crate::proofs::NameOrder::is_name, crate::proofs::NameOrder::canonical, crate::proofs::Digits::octets_by, crate::proofs::NameOrder::content_short))]
     pub fn content(&self) -> &'a [u8]
@@ -131,7 +131,8 @@ impl<'a> EncodedName<'a> {
 }
 
 /// Compares the names of two contents if the shorter content has 8 to 24 octets. Returns `None`
-/// for others, and if the first octets that differ are in subidentifiers that may end apart.
+/// for others, and if both subidentifiers go on after the first octets that differ, unless both
+/// end with the next octet.
 #[inline(always)]
 fn compare_ends(content: &[u8], other: &[u8]) -> Option<Ordering>
     requires this { IsOk (reading.identifier_of content.now) }

@@ -25,12 +25,12 @@ answer_to view _ asked = asked
 abbrev pub answers_to : MibView → Kind → List VarBind → List VarBind
 answers_to view k asked = map (answer_to view k) asked
 
--- the value has an encoding, whatever its length
+-- if the value is an identifier, it has an encoding
 abbrev pub HasEncoding : Datum → Type 0
 HasEncoding (object_id name) = IsWire name
 HasEncoding _ = Unit {0}
 
--- the name and the value of `binding` have encodings
+-- the name of `binding` has an encoding, and so has its value if that is an identifier
 pub record IsWritable (binding : VarBind) : Type 0 where
   pub name : IsWire binding.name
   pub value : HasEncoding binding.value
@@ -45,7 +45,7 @@ IsShortValue (octet_string text) = length text ≤ 65535
 IsShortValue (opaque_octets text) = length text ≤ 65535
 IsShortValue _ = Unit {0}
 
--- the length of a message whose bindings take `total` octets
+-- the length that the message `m` has if its bindings take `total` octets, whatever its own are
 abbrev pub whole_size : Message → ℕ → ℕ
 whole_size m total = length (canon_head m total) + total
 
@@ -59,8 +59,8 @@ abbrev pub whole_index : Kind → List VarBind → ℤ
 whole_index kind.SetRequest bindings = failed_index bindings
 whole_index _ bindings = pos 0
 
--- the result is `Some n` if the message `r` was written to the start of `out`, and its length `n`
--- is at most `limit`; it is `None` if `r` is longer than `limit`
+-- if the result is `Some n`, the message `r` was written to the start of `out`, and its length is
+-- `n`, at most `limit`; if the result is `None`, `r` is longer than `limit`
 abbrev pub IsWritten : ℕ → Message → Option ℕ → List ℕ → Type 0
 IsWritten limit r None out = limit < length (canon r)
 IsWritten limit r (Some n) out =
@@ -94,7 +94,7 @@ put h octets = cond (leb (length octets) h.left)
     (record { octets = h.octets ++ octets; left = h.left - length octets })
     (record { octets = h.octets; left = 0 })
 
--- the bindings `h` with the binding `p` appended, or with no room left
+-- the bindings `h` with `p` appended if there is room for it, otherwise with no room left
 unfoldable pub add : Held → VarBind → Held
 add h p = put h (canon_binding p)
 

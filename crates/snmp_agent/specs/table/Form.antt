@@ -11,8 +11,8 @@ abbrev pub IsTag : List ℕ → Type 0
 IsTag tag = Contains (codes "2" ∷ codes "4" ∷ codes "4x" ∷ codes "6" ∷ codes "64" ∷ codes "65" ∷
     codes "66" ∷ codes "67" ∷ codes "68x" ∷ codes "70" ∷ []) tag
 
--- `line` is `name`, a bar, the known tag `tag`, a bar and `text`, and isn't blank or an object
--- prefix's line
+-- `line` is `name`, the bar that ends it, the known tag `tag`, which has no bar, a bar and `text`.
+-- It isn't blank, and doesn't begin with `object `.
 pub record IsRowForm (format : Format) (line name tag text : List ℕ) : Type 0 where
   pub not_blank : IsBlank line → ⊥
   pub no_object : (object : List ℕ) → line ≢ codes "object " ++ object

@@ -46,8 +46,8 @@ abbrev pub IsNameIn : Format → (text o : List ℕ) → Type 0
 IsNameIn first_format text o = IsName text o
 IsNameIn (second_format names) text o = HasNoneOutside bar text × Means names text o
 
--- `name` can precede the bar that ends a row's name: the first bar, or the first bar outside
--- quotes
+-- `name` can precede the bar that ends a row's name: the first bar, or in the second format the
+-- first bar outside quotes
 abbrev pub EndsAtBar : Format → (name : List ℕ) → Type 0
 EndsAtBar first_format name = All (λ octet. octet ≢ bar) name
 EndsAtBar (second_format names) name = IsClosed name × HasNoneOutside bar name

@@ -25,8 +25,8 @@ IsSorted es = T (is_sorted (slice_cmp nat_cmp) es)
 abbrev pub ArePages : List Page → Type 0
 ArePages pages = IsSorted (entries_in pages)
 
--- the entries of the map `rows` in two parts: `prefix` has the names up to `o`, and `back` those
--- after it
+-- the entries of the map `rows`, by increasing names, in two parts: `prefix` has the names up to
+-- `o`, and `back` those after it
 pub record IsSplitAt (rows : FinMap (slice_cmp nat_cmp) Datum) (o : List ℕ) (prefix back : List
     (List ℕ × Datum)) : Type 0 where
   pub found : (q : List ℕ) → get rows q ≡ find (slice_cmp nat_cmp) q (prefix ++ back)
@@ -34,7 +34,7 @@ pub record IsSplitAt (rows : FinMap (slice_cmp nat_cmp) Datum) (o : List ℕ) (p
   pub passed : IsBeforeNone o prefix
   pub ahead : IsBeforeAll o back
 
--- `back` is the variables of the view after the name `o`
+-- `back` has the variables of the view after the name `o`, by increasing names
 abbrev pub AreAllAfter : MibView → List ℕ → List (List ℕ × Datum) → Type 0
 AreAllAfter view o back = (prefix : List (List ℕ × Datum)) × IsSplitAt view.rows o prefix back
 
@@ -69,7 +69,8 @@ pub record HasNameAt (o : List ℕ) (rows : List VarBind) (index : ℕ) : Type 0
   pub passed : IsAfterAll o (entries_of (take index rows))
   pub ahead : IsBeforeAll o (entries_of (drop (suc index) rows))
 
--- no row has the name `o`: the rows before index `index` come before it, and the others after it
+-- no row has the name `o`: the rows before index `index` have smaller names, and the others
+-- greater ones
 pub record BelongsAt (o : List ℕ) (rows : List VarBind) (index : ℕ) : Type 0 where
   pub bound : index ≤ length rows
   pub passed : IsAfterAll o (entries_of (take index rows))
@@ -104,7 +105,8 @@ abbrev pub IsRowIn : List Page → ℕ → ℕ → Type 0
 IsRowIn pages index row = (page : Page) × (slice_get pages index ≡ Some page)
     × (row < length page.rows.items)
 
--- `es` are the entries of all pages without the row at index `row` of the page at index `index`
+-- if there is a page at index `index`, then `es` are the entries of all pages without the row at
+-- index `row` of that page
 abbrev pub IsWithoutRow : List Page → ℕ → ℕ → List (List ℕ × Datum) → Type 0
 IsWithoutRow pages index row es = (page : Page) → slice_get pages index ≡ Some page
     → es ≡ entries_in (take index pages) ++ (entries_of (remove_at page.rows.items row)

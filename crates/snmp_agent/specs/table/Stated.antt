@@ -48,7 +48,7 @@ number_of (error.Double number) = number
 number_of error.Memory = 0
 
 -- the error says why `lines` of this format don't define a table: what is wrong with the first
--- line that isn't good; `Memory` says nothing of the lines
+-- faulty line; `Memory` says nothing of the lines
 abbrev pub IsFirstFaultIn : Format → List (List ℕ) → TableError → Type 0
 IsFirstFaultIn format lines error.Memory = Unit {0}
 IsFirstFaultIn format lines fault = (prefix : List (List ℕ)) × (line : List ℕ)
@@ -65,7 +65,8 @@ abbrev pub IsTableOf : Names → (lines : List (List ℕ)) → MibView → Type 
 IsTableOf names lines view =
     (format : Format) × IsFormat names lines format × IsTableIn format lines view
 
--- the error says why the lines, in the format that they have, don't define a table
+-- the error says why the lines, in the format that they have, don't define a table; `Memory` says
+-- nothing of them
 abbrev pub IsFirstFault : Names → (lines : List (List ℕ)) → TableError → Type 0
 IsFirstFault names lines error =
     (format : Format) × IsFormat names lines format × IsFirstFaultIn format lines error

@@ -28,8 +28,8 @@ pub record IsInstanceName (o : List ℕ) : Type 0 where
 abbrev pub IsTableString : List ℕ → Type 0
 IsTableString octets = (length octets ≤ 65535) × All (λ octet. octet < 256) octets
 
--- an instance can hold this value: it isn't NULL or an exception, strings have at most 65535
--- octets, and identifiers have an encoding
+-- an instance can hold this value: it isn't NULL or an exception, and is within the range of its
+-- type; strings have at most 65535 octets, and identifiers have an encoding
 abbrev pub IsInstanceValue : Datum → Type 0
 IsInstanceValue (integer_value n) = FitsSigned w32 n
 IsInstanceValue (octet_string octets) = IsTableString octets
@@ -42,8 +42,7 @@ IsInstanceValue (opaque_octets octets) = IsTableString octets
 IsInstanceValue (counter64 n) = n < 2 ^ 64
 IsInstanceValue _ = ⊥
 
--- a reply can have this for a name: a value that an instance can hold, or an exception in place of
--- one
+-- a reply can have this for a name: a value that an instance can hold, or an exception
 abbrev pub IsAnswerValue : Datum → Type 0
 IsAnswerValue no_such_object = Unit {0}
 IsAnswerValue no_such_instance = Unit {0}
@@ -68,8 +67,8 @@ HasObject view o = (object : List ℕ) × (rest : List ℕ) × (contains view.ob
     × (o ≡ object ++ rest)
 
 -- a Get of the name `o` returns `p` (RFC 3416, section 4.2.1): the variable of that name. If there
--- is none, this is noSuchInstance if an object prefix of the view equals or begins the name, and
--- otherwise noSuchObject
+-- is none, `p` is the name with noSuchInstance if an object prefix of the view equals or begins
+-- it, and otherwise the name with noSuchObject
 pub data IsGet (view : MibView) (o : List ℕ) (p : VarBind) : Type 0 where
   variable : p.name ≡ o → IsRow view p → IsGet view o p
   unknown_object : get view.rows o ≡ None → (HasObject view o → ⊥)

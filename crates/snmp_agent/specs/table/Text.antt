@@ -1,5 +1,5 @@
 -- The text of a table, in a format of this project's own. Each line is empty, a comment, an object
--- prefix (`object OID`), or a row (`OID|TAG|VALUE`). If the first line is `#snmptab 2`, the text
+-- prefix (`object NAME`), or a row (`NAME|TAG|VALUE`). If the first line is `#snmptab 2`, the text
 -- has the second format. Lines end with LF, with CR LF or at the end of the text, as the lines of
 -- Rust's `str::lines` do: a CR that isn't followed by LF belongs to its line.
 use Rattle.std.specs.Prelude.{◌≡◌, ◌≢◌, ℕ, ℤ, pos, ◌^◌, ◌<◌, ◌⊎◌, true, List, [], ◌∷◌, ◌++◌, length}
@@ -62,7 +62,7 @@ IsPrefixLine format line object =
     (text : List ℕ) × (line ≡ codes "object " ++ text) × IsNameIn format text object
     × (object ≢ [])
 
--- the line contains this row, and is neither blank nor an object prefix's. It has the name of an
+-- the line contains this row: it isn't blank, doesn't begin with `object `, and has the name of an
 -- instance, a tag, and the text of a value, which may have more bars
 pub record IsRowLine (format : Format) (line : List ℕ) (row : VarBind) : Type 0 where
   pub not_blank : IsBlank line → ⊥

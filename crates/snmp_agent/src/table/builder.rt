@@ -21,9 +21,9 @@ use std::mem;
 /// that there are as many as the pages have room for, they are sorted and inserted together.
 ///
 /// While rows are collected, a name that occurs twice is found at its second line, by hashes of
-/// the names. If the hash of a row's name isn't new, the collected rows and then this row are
-/// inserted, which shows whether the name is new. If it is, rows are inserted at once from then
-/// on, so that names with equal hashes can't make this happen again and again.
+/// the names. If the hash of a row's name isn't new, or can't be stored, the collected rows and
+/// then this row are inserted, which shows whether the name is new. If it is, rows are inserted at
+/// once from then on, so that names with equal hashes can't make this happen again and again.
 #[derive(Drop)]
 pub struct TableBuilder {
     /// The rows that were inserted.
@@ -34,15 +34,17 @@ pub struct TableBuilder {
     pub objects: BTreeSet<Vec<u32>>,
     /// Whether each row is inserted at once.
     exact: bool,
-    /// Whether a row is collected unless it comes after all others.
+    /// Whether a row is collected unless it comes after all inserted ones.
     gathers: bool,
-    /// While rows are collected, the hashes of the names of all rows but the last few inserted
-    /// ones.
+    /// While rows are collected, the hashes of the names of all rows but the last `unhashed`
+    /// inserted ones.
     hashes: Hashes,
-    /// The number of the last inserted rows whose names aren't hashed yet. A row after all others
-    /// has a new name, which is hashed only when another row is collected.
+    /// While rows are collected, the number of the last inserted rows whose names aren't hashed
+    /// yet, or `usize::MAX` if no name is. A row after all others has a new name, which is hashed
+    /// only when another row is collected.
     unhashed: usize,
-    /// Whether no more rows are collected, since the hash of a new name wasn't new.
+    /// Whether no more rows are collected, since the hash of a new name wasn't new or couldn't be
+    /// stored.
     no_more: bool,
     ghost exactly: { exact ≡ true → gathers ≡ false },
     ghost at_once: { gathers ≡ false → late.items ≡ [] },
@@ -90,7 +92,7 @@ impl TableBuilder {
     }
 
     /// Reads the table that a text of this format defines. An exact reading inserts each row at
-    /// once, so that it takes no memory other than the table's.
+    /// once, so that no collected rows take memory.
     pub fn read<F: LineFormat>(
         alloc: Global,
         text: &[u8],
@@ -201,7 +203,7 @@ impl TableBuilder {
     }
 
     /// Appends a row if it comes after all inserted ones. Otherwise collects it if the hash of its
-    /// name is new, and inserts it if not.
+    /// name is new and was stored, and inserts it if not.
     #[inline(never)]
     #[tactic(auto, using(crate::proofs::GatheredRows::appended_moves))]
     fn gather(&mut self, alloc: Global, row: EncodedBinding, number: usize) -> Result<(), Halt>
@@ -253,8 +255,9 @@ impl TableBuilder {
         }
     }
 
-    /// Begins to collect rows if they come in no order, and inserts the collected rows once there
-    /// are as many as the pages have room for. Returns whether all could be inserted.
+    /// Begins to collect rows if they come in no order and may be collected, and inserts the
+    /// collected rows once there are as many as the pages have room for. Returns `false` if these
+    /// couldn't all be inserted.
     #[inline(always)]
     fn settle_in_time(&mut self, alloc: Global) -> bool
         ensures moved { IsTrue result
@@ -308,7 +311,7 @@ impl TableBuilder {
         }
         let mut late = mem::replace(&mut self.late, Vec::new(alloc));
         let apart = self.rows.put_sorted(alloc, &mut late);
-        // The next rows use the memory of the list again.
+        // Rows that are collected later use the memory of the list again.
         late.clear();
         self.late = late;
         match apart {
@@ -319,7 +322,7 @@ impl TableBuilder {
 }
 
 /// Hashes `name`, and the names of the inserted rows that aren't hashed yet. Returns whether each
-/// hash is new and there is memory for them.
+/// hash is new and was stored.
 fn is_new(
     alloc: Global,
     rows: &Pages,
@@ -338,8 +341,8 @@ fn is_new(
     (count == 0 || rows.insert_last(count, hashes)) && hashes.insert(name)
 }
 
-/// Makes room for more hashes, and hashes the names of the collected rows. Returns whether there
-/// is memory for it and each hash is new.
+/// Removes all hashes, makes room for more, and hashes the names of the collected rows. Returns
+/// whether there is memory for it, and each hash is new and was stored.
 #[inline(never)]
 fn rehash(alloc: Global, rows: &Pages, late: &[PendingRow], hashes: &mut Hashes) -> bool {
     let count = rows.count().saturating_add(late.len());

@@ -5,8 +5,8 @@ use thiserror::Error;
 /// Why no table is read from a text: what is wrong with its first faulty line, or memory ran out.
 #[derive(Clone, Copy, Debug, PartialEq, Eq, Error)]
 pub enum TableError {
-    /// The line is neither empty, a comment nor an object prefix, and hasn't two bars with a known
-    /// tag between them.
+    /// The line is neither empty, a comment nor an object prefix, and has no known tag between its
+    /// first two bars. In the second format, bars within quotes don't count.
     #[error("line {line}: bad line")]
     BadLine {
         /// The number of the line, from 1.
@@ -19,7 +19,7 @@ pub enum TableError {
         /// The number of the line, from 1.
         line: usize,
     },
-    /// The text after the tag isn't a value of that type.
+    /// The text after the tag isn't a value of the tag's type.
     #[error("line {line}: bad value")]
     BadValue {
         /// The number of the line, from 1.

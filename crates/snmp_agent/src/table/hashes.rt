@@ -13,7 +13,7 @@ const FEW_BUCKETS: usize = 32;
 const LOOKS: usize = 16;
 
 /// An odd number. Each bit of its product with another number depends on the same bit of that
-/// number and on all lower bits.
+/// number, and most bits also on lower ones.
 const FACTOR: u64 = 0x9E37_79B9_7F4A_7C15;
 
 /// Hashes of names, which show that a name is new. Only speed depends on them.
@@ -21,8 +21,9 @@ const FACTOR: u64 = 0x9E37_79B9_7F4A_7C15;
 /// They take little memory, since touching a page of memory takes as long as reading several rows.
 #[derive(Drop)]
 pub struct Hashes {
-    /// A power of two of buckets, or none. Each has the high halves of hashes, and then zeros. The
-    /// low bits of a hash select its bucket; if that is full, the hash is in one of the next.
+    /// A power of two of buckets, or none. Each has the high halves of hashes, with 1 instead of 0,
+    /// and then zeros. The low bits of a hash select its bucket; if that is full, the hash is in
+    /// one of the next.
     buckets: Vec<[u32; BUCKET]>,
     /// The number of hashes whose insertion was tried since the last `clear`.
     count: usize,
@@ -79,8 +80,8 @@ fn empty_buckets(alloc: Global, size: usize) -> Result<Vec<[u32; BUCKET]>, Alloc
     vec![in alloc; [0; BUCKET]; size]
 }
 
-/// Inserts a hash into the first bucket that isn't full, from its own on, up to `LOOKS` buckets.
-/// Returns whether the hash is new and there is such a bucket.
+/// Inserts a new hash into the first bucket that isn't full, from its own on, up to `LOOKS`
+/// buckets. Returns whether the hash is new and there is such a bucket.
 #[inline]
 fn put_hash(buckets: &mut [[u32; BUCKET]], hash: u64) -> bool {
     let last = buckets.len().wrapping_sub(1);

@@ -8,7 +8,7 @@ use std::fmt;
 /// of a hash.
 const PAIRS: usize = 512;
 
-// The number of rows that a hint stores fits into 8 bits.
+// A number of rows of a page, as a hint stores it for a name, fits into 8 bits.
 const _: () = prove!(PAGE_ROWS < 256);
 
 /// Where the names of earlier requests are, as guesses for later ones. Later requests mostly ask
@@ -165,9 +165,9 @@ impl<'h> Guesses<'h> {
         pair[0] = page << 16 | row << 8 | guess.hash % 256;
     }
 
-    /// Records the position of the row that was returned last under its name. So walks whose
+    /// Records the position of a row under its name, if the hint stores names. So walks whose
     /// requests alternate each find their row, although another row was returned since.
-    /// `inline(never)`: a single walk doesn't come here.
+    /// `inline(never)`: a single walk mostly doesn't call this.
     #[inline(never)]
     pub(crate) fn keep_passed(&mut self, name: &EncodedName<'_>, page: usize, row: usize) {
         if !self.kept.is_empty() {
@@ -195,11 +195,11 @@ fn pair_index(hash: u32) -> usize {
 }
 
 /// Returns the hash of a name: a number below 131,072. It is computed from the last sixteen
-/// octets, since rows mostly differ in these. For a longer name, it also depends on the second,
-/// third and fourth eight octets, which contain the column of a row with a long index. If fewer
-/// than eight octets precede the last eight, their first four and last four are used, or none if
-/// there are fewer than four; the same holds for a name of fewer than eight octets. Names with the
-/// same hash cost comparisons, and no more.
+/// octets, since rows mostly differ in these. It also depends on the second, third and fourth eight
+/// octets, if these precede the last eight: they contain the column of a row with a long index. If
+/// fewer than eight octets precede the last eight, their first four and last four are used, or none
+/// if there are fewer than four; the same holds for a name of fewer than eight octets. Names with
+/// the same hash cost comparisons, and no more.
 #[inline]
 fn hash_of(content: &[u8]) -> u32 {
     let (prefix, last) = last_word(content);

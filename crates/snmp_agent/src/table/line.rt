@@ -32,7 +32,7 @@ pub enum LineFault {
     /// The name of the line isn't a name of the format, or not one that an object prefix or an
     /// instance may have.
     Name,
-    /// The text after the tag isn't a value of that type.
+    /// The text after the tag isn't a value of the tag's type.
     Value,
     /// Memory ran out.
     Memory,

@@ -74,13 +74,12 @@ impl Page {
     }
 
     /// Splits the page to make room for a row of `name`, and returns its second part. This is half
-    /// of the rows, with two exceptions: if `name` comes after all rows, it is only the last row;
-    /// if `name` comes before all rows, it is all rows but the first. So rows that arrive in
-    /// increasing or decreasing order fill their pages.
+    /// of the rows, with two exceptions: if all rows come before `name`, it is only the last row;
+    /// if no row comes before `name`, it is all rows but the first. So rows that arrive in
+    /// increasing or decreasing order nearly fill their pages.
     ///
     /// With `at_name`, a second part of less than half may begin where `name` belongs. So columns
-    /// that are listed row by row fill their pages too: from then on, no two of them share the
-    /// page.
+    /// that are listed row by row mostly fill their pages too.
     pub fn divide(&mut self, name: &EncodedName<'_>, at_name: bool) -> Result<Page, AllocError>
         requires { 1 < length self.old.rows.items }
         ensures parts { IfOk result (λ back. self.old.rows.items

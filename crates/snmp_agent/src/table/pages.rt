@@ -54,7 +54,8 @@ const NO_GUESS: usize = usize::MAX;
 const SAMPLE: u32 = 128;
 
 /// If the rows of a sample came to this number of pages or more, they are taken to be in no order.
-/// The rows of a conceptual table that is listed row by row come to one page for each column.
+/// The rows of a conceptual table that is listed row by row mostly come to one page for each
+/// column.
 const MANY_PAGES: u32 = 68;
 
 /// The number of successive samples in no order after which all rows are taken to be in no order.
@@ -105,7 +106,8 @@ impl Pages {
     }
 
     /// Returns the row of `name`, if there is one. If the hint is right, nothing is searched;
-    /// otherwise records in it where the name is, if there are rows.
+    /// otherwise the position of the name is recorded in the hint, if that stores names and there
+    /// are rows.
     pub fn find_near(
         &self,
         name: &EncodedName<'_>,
@@ -129,8 +131,8 @@ impl Pages {
     }
 
     /// Returns the rows after `name`, for a walk, which mostly asks from the row that was returned
-    /// last. If the hint is right, nothing is searched; otherwise records in it where the name is,
-    /// if there are rows.
+    /// last. If the hint is right, nothing is searched; otherwise the position of the name is
+    /// recorded in the hint, if that stores names and there are rows.
     // `inline(always)`: called for each request of a walk.
     #[inline(always)]
     pub fn after_last(&self, name: &EncodedName<'_>, hint: &mut Guesses<'_>) -> Successors<'_>
@@ -143,8 +145,8 @@ impl Pages {
     }
 
     /// Returns the rows after `name` if its row is the one that was returned last. If another row
-    /// was, records in the hint the position of that row under its name, since another walk may
-    /// continue from there.
+    /// was, its position is recorded under its name, if the hint stores names, since another walk
+    /// may continue from there.
     #[inline(always)]
     fn after_row(&self, name: &EncodedName<'_>, hint: &mut Guesses<'_>) -> Option<Successors<'_>>
         ensures { IfSome result (λ rows. (prefix : List (List ℕ × Datum))
@@ -168,8 +170,8 @@ impl Pages {
     }
 
     /// Returns the rows after `name`. If the hint's guess of its position is right, nothing is
-    /// searched; otherwise records the position in the hint, if there are rows. `inline(never)`, so
-    /// that the usual path of a walk stays short.
+    /// searched; otherwise the position is recorded in the hint, if that stores names and there
+    /// are rows. `inline(never)`, so that the usual path of a walk stays short.
     #[inline(never)]
     pub fn after_near(&self, name: &EncodedName<'_>, hint: &mut Guesses<'_>) -> Successors<'_>
         ensures { (prefix : List (List ℕ × Datum)) × IsSplitAt self.now name.now prefix result }
@@ -237,7 +239,7 @@ impl Pages {
     }
 
     /// Inserts into `hashes` the hashes of the names of the last `count` rows, or of all rows if
-    /// there are fewer. Returns `false` at the first hash that isn't new.
+    /// there are fewer. Returns `false` at the first hash that isn't new or has no room.
     pub fn insert_last(&self, count: usize, hashes: &mut Hashes) -> bool {
         let mut left = count;
         for page in self.list.iter().rev() {
@@ -307,8 +309,8 @@ impl Pages {
         Ok(true)
     }
 
-    /// Does what [`Pages::put_all`] does, by one pass over all rows, also those that were there
-    /// before. This is faster for many rows if their names decrease.
+    /// Does what [`Pages::put_all`] does, by one pass over `rows` and the rows of all pages. This
+    /// is faster for many rows if their names decrease.
     pub fn merge(&mut self, alloc: Global, rows: &mut Vec<PendingRow>) -> Result<bool, AllocError>
         ensures { IfOk result (λ apart. IsTrue apart
             → IsPermutation (entries self.old ++ entries_of rows.old.items) (entries self.new)) }
@@ -391,7 +393,8 @@ impl Pages {
 }
 
 impl PutOrder {
-    /// Records that a row was inserted into the page with the index `page`.
+    /// Records that a row is put on the page with the index `page`, whether it is new or replaces
+    /// another.
     #[inline]
     fn note(&mut self, page: usize) {
         self.pages |= 1 << (page % 128);
@@ -475,7 +478,7 @@ fn splits_at(name: &EncodedName<'_>, prefix: &[EncodedBinding], rows: &[EncodedB
 }
 
 /// Returns the index of the only page that may have a row of `name`: the last page whose first name
-/// isn't greater than `name`, or the first page if there is none. If the guess is right, nothing is
+/// isn't greater than `name`, or 0 if there is no such page. If the guess is right, nothing is
 /// searched.
 fn page_near(pages: &[Page], name: &EncodedName<'_>, guess: usize) -> usize
     requires { ArePages pages.now }
@@ -604,7 +607,7 @@ impl<'a> Successors<'a> {
 
     /// Sets `binding`, whose name these rows follow, to the result of a GetNext of that name: the
     /// first of the rows, or the name itself with `EndOfMibView` if there is none (RFC 3416,
-    /// section 4.2.2). The rows after it are left.
+    /// section 4.2.2). Removes that row.
     pub fn advance(&mut self, binding: &mut Binding<'a>)
         ensures next { (view : MibView) → AreAllAfter view binding.old.name self.old
             → IsNext view binding.old.name (var_bind binding.new) }

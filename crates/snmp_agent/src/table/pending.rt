@@ -101,7 +101,8 @@ fn sort_by_keys(rows: &mut [PendingRow])
 {
     let alike = octets_alike(rows);
     set_keys(rows, alike);
-    // The sort calls itself at most 2 log2(n) deep for n rows: 86 for all that memory can hold.
+    // The sort calls itself at most 2 log2(n) deep for n rows: less than 100 for as many as memory
+    // can hold.
     rows.sort_unstable_by(|late, other| other.key.cmp(&late.key));
 }
 
@@ -223,9 +224,9 @@ fn sort_key(content: &[u8], alike: usize) -> u128 {
 }
 
 /// Returns what [`sort_key`] returns if there may be a subidentifier of three octets or more. Of
-/// two of these the longer is greater, so its size comes first, as 0xff and then an octet from
-/// 0x80 on. A subidentifier of two octets may begin with 0xff too, but its second octet is below
-/// 0x80.
+/// two such subidentifiers, the longer one is greater, so the size comes first, as 0xff and then an
+/// octet from 0x80 on. A subidentifier of two octets may begin with 0xff too, but its second octet
+/// is below 0x80.
 #[inline(never)]
 fn long_key(octets: &[u8]) -> u128 {
     let mut key = [0; KEY_SIZE];

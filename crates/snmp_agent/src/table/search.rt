@@ -108,7 +108,7 @@ pub fn index_near(rows: &[EncodedBinding], name: &EncodedName<'_>, guess: usize)
     requires { IsIncreasing rows.now }
     ensures { IsIndexAfter name.now rows.now result }
 {
-    // The last row up to the name is at the index before that number.
+    // If `guess` rows are up to `name`, the last of them is at the index `guess - 1`.
     let (passed, end) = near(rows, name, guess.wrapping_sub(1));
     count_between(rows, name, passed, end)
 }

@@ -74,7 +74,7 @@ impl RowText {
     ghost use Rattle.snmp_wire.specs.Message.{datum};
     ghost use Rattle.snmp_agent.specs.private.table.Row.{datum_of, IsShort};
 
-    /// Sets `into` to this value, which it borrows.
+    /// Sets `into` to this value, from which it borrows the octets of a string.
     pub fn read_into<'a>(&'a self, into: &mut ValueRef<'a>)
         requires { IsShort self.now }
         ensures { datum into.new ≡ datum_of self.now }
@@ -91,8 +91,8 @@ impl RowText {
 pub const LONGEST_STRING: usize = 65535;
 
 /// Reads the number or address that `text` represents, or `text` itself as octets, into `into`,
-/// and returns whether it is a value of the tag's type. Returns `None` if such values need memory
-/// of their own.
+/// and returns whether it is a value of the tag's type. Returns `None` if values of the tag need
+/// memory of their own.
 pub fn read_plain<'a>(tag: Tag, text: &'a [u8], into: &mut ValueRef<'a>) -> Option<bool>
     ensures plain { IfSome result (λ found. (format : Format) → IsOnlyThere
         (IsValueText format (tag_text tag) text.now) found (datum into.new)) }

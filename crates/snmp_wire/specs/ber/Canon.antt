@@ -24,24 +24,26 @@ digits base (suc count) n = (n / base ^ count % base) ∷ digits base count n
 abbrev pub octets : ℕ → ℕ → List ℕ
 octets count n = digits 256 count n
 
--- the number of octets, at most 9, that `n` takes in two's complement, whose first bit is the sign
+-- the number of octets that `n` takes in two's complement, whose first bit is the sign, or 9 if
+-- that is less
 unfoldable pub number_size : ℕ → ℕ
 number_size n = digit_count 256 128 8 n
 
--- a whole number in the fewest octets of two's complement (X.690, 8.3)
+-- a whole number in the fewest octets of two's complement, if nine are enough (X.690, 8.3)
 unfoldable pub canon_number : ℤ → List ℕ
 canon_number (pos n) = octets (number_size n) n
 canon_number (negsuc n) = octets (number_size n) (256 ^ number_size n - (n + 1))
 
--- the number of octets, at most 4, that a length takes in the long form after the first octet
+-- the number of octets that a length takes in the long form after the first octet, or 4 if that is
+-- less
 unfoldable pub length_size : ℕ → ℕ
 length_size n = digit_count 256 256 3 n
 
--- the shortest form of a length (X.690, 8.1.3)
+-- the shortest form of a length below 2 ^ 32 (X.690, 8.1.3)
 unfoldable pub canon_length : ℕ → List ℕ
 canon_length n = if nat_lt n 128 then n ∷ [] else (128 + length_size n) ∷ octets (length_size n) n
 
--- the number of octets, at most 5, that a subidentifier takes, of seven bits each
+-- the number of octets that a subidentifier takes, of seven bits each, or 5 if that is less
 unfoldable pub subidentifier_size : ℕ → ℕ
 subidentifier_size n = digit_count 128 128 4 n
 
@@ -50,7 +52,7 @@ subidentifier_size n = digit_count 128 128 4 n
 unfoldable pub septets : ℕ → ℕ → List ℕ
 septets count n = map (λ digit. 128 + digit) (digits 128 count n)
 
--- a subidentifier in the fewest octets (X.690, 8.19.2)
+-- a subidentifier below 2 ^ 35 in the fewest octets (X.690, 8.19.2)
 unfoldable pub canon_subidentifier : ℕ → List ℕ
 canon_subidentifier n = septets (subidentifier_size n - 1) (n / 128) ++ (n % 128) ∷ []
 
@@ -94,7 +96,7 @@ abbrev pub magnitude_of : ℤ → ℕ
 magnitude_of (pos n) = n
 magnitude_of (negsuc n) = n
 
--- the eight numbers from `from` on take one octet each
+-- the eight numbers from index `from` on take one octet each; a missing number counts as 0
 pub record AreShort (numbers : List ℕ) (from : ℕ) : Type 0 where
   pub first : get_or numbers from 0 < 128
   pub second : get_or numbers (from + 1) 0 < 128
@@ -105,7 +107,7 @@ pub record AreShort (numbers : List ℕ) (from : ℕ) : Type 0 where
   pub seventh : get_or numbers (from + 6) 0 < 128
   pub eighth : get_or numbers (from + 7) 0 < 128
 
--- the eight numbers from `from` on
+-- the eight numbers from index `from` on, with 0 for a missing number
 abbrev pub eight_from : List ℕ → ℕ → List ℕ
 eight_from numbers from =
     get_or numbers from 0 ∷ get_or numbers (from + 1) 0

@@ -98,7 +98,7 @@ number_at octets = do
   n ← subidentifier_at octets
   if nat_lt n.0 (2 ^ 32) then Ok n else Err error.Content
 
--- the numbers that the octets encode, one after the other, at most `room` of them
+-- the numbers that the octets encode, one after the other; a fault if there are more than `room`
 unfoldable pub numbers_of : ℕ → List ℕ → Result (List ℕ) BerError
 numbers_of room [] = Ok []
 numbers_of zero (octet ∷ rest) = Err error.Content
@@ -146,8 +146,8 @@ typed_value tag content =
 
 -- ---- for private functions
 
--- a function's `result` is what the definition computes (`read`): the same fault, or the same
--- value, which `view` takes to its value in definitions
+-- a function's `result` agrees with what a definition computes, `read`: both are the same fault,
+-- or the value of `read` is `view` of the value of `result`
 abbrev pub AgreesBy : {X Y : Type 0} → (X → Y) → Result X BerError → Result Y BerError → Type 0
 AgreesBy view (Ok x) read = read ≡ Ok (view x)
 AgreesBy view (Err e) read = read ≡ Err e

@@ -14,8 +14,8 @@ pub enum BerError {
     /// Octets follow the outermost element.
     #[error("octets follow the message")]
     Trailing,
-    /// A length has a forbidden form, or an inner element is missing from the element around it,
-    /// or reaches past the end of that element.
+    /// A length has the indefinite form or more than four octets after its first, or an inner
+    /// element is missing from the element around it, or reaches past the end of that element.
     #[error("a length is wrong")]
     Length,
     /// A tag isn't allowed at its position.

@@ -17,7 +17,7 @@ use snmp_oid::Oid;
 /// The largest subidentifier: the numbers 2 and 4294967295 together make 80 + 4294967295.
 const LARGEST_SUBIDENTIFIER: u64 = 4294967375;
 
-/// The number of numbers that may follow the first two.
+/// The greatest number of numbers after the first two of an identifier.
 const MORE_NUMBERS: usize = 126;
 
 /// Returns the subidentifier at the start of `octets`, and the octets after it.
@@ -39,10 +39,10 @@ fn subidentifier_at(octets: &[u8]) -> Result<(u64, &[u8]), BerError>
     }
 }
 
-/// Returns the number that three base-128 digits write, the lowest seven bits of each octet. The
-/// high bit of `low` must be clear.
-// `inline(always)`: inlined, it is a few instructions for each number of three digits, as most
-// enterprises have.
+/// Returns the number whose base-128 digits are the lowest seven bits of each octet. The high bit
+/// of `low` must be clear.
+// `inline(always)`: inlined, it is a few instructions. The numbers of most enterprises have three
+// digits.
 #[inline(always)]
 fn three_digits(high: u8, mid: u8, low: u8) -> u64
     requires { low < 128 }
@@ -86,7 +86,7 @@ fn number_at(octets: &[u8]) -> Result<(u32, &[u8]), BerError>
 }
 
 /// Does what [`subidentifier_at`] does, for octets that are known to begin with a subidentifier.
-/// One of at most three octets isn't checked again.
+/// A subidentifier of at most three octets isn't checked again.
 #[inline]
 #[tactic(auto, using(std::proofs::lemmas::Grind::common_steps, crate::proofs::ReadIdentifiers::reads_short))]
 fn subidentifier_in(octets: &[u8]) -> (u64, &[u8])
@@ -145,8 +145,7 @@ pub fn check_identifier(content: &[u8]) -> Result<(), BerError>
     check_numbers(rest)
 }
 
-/// Checks that `octets` encode numbers, one after the other, and no more than may follow the first
-/// two.
+/// Checks that `octets` encode numbers, one after the other, at most [`MORE_NUMBERS`] of them.
 // `inline(always)`: this is the loop that checks a name.
 #[inline(always)]
 #[tactic(auto, using(crate::proofs::ReadIdentifiers::counted_numbers))]
@@ -295,7 +294,8 @@ fn second_number(subidentifier: u64) -> u32
     }
 }
 
-/// Appends the numbers that `octets` encode. The octets must have been checked.
+/// Appends the numbers that `octets` encode to `oid`, which must have two numbers. The octets must
+/// have been checked.
 // `inline(always)`: this is the loop that reads a name.
 #[inline(always)]
 #[tactic(auto, using(crate::proofs::ReadIdentifiers::pushed_numbers))]
@@ -354,7 +354,7 @@ fn septets_size(number: u64) -> usize
 }
 
 /// Returns the length, in octets, of the content of an identifier: at most 640.
-// `inline(always)`: called for each binding that is written.
+// `inline(always)`: called for each binding that is encoded from a name and a value.
 #[inline(always)]
 pub fn identifier_size(name: &Oid) -> u64
     requires { IsWire name.now }
@@ -387,7 +387,7 @@ fn first_size(first: u32, second: u32) -> u64
 /// Returns the number of octets that `numbers` take, each as a subidentifier.
 ///
 /// In most names eight short numbers, the column among them, precede the last number.
-// `inline(always)`: its single caller measures each name that is written.
+// `inline(always)`: its single caller is `identifier_size`.
 #[inline(always)]
 #[tactic(auto, using(crate::proofs::WrittenIdentifiers::nine_counted, crate::proofs::WrittenIdentifiers::none_before))]
 fn numbers_size(numbers: &[u32]) -> u64
@@ -407,8 +407,7 @@ fn numbers_size(numbers: &[u32]) -> u64
 }
 
 /// Does what [`numbers_size`] does, for any numbers.
-// This is 2.8 % of the work of an agent that serves tables, so four short numbers are counted at
-// once.
+// Most numbers take one octet, so four such numbers are counted at once.
 #[inline(never)]
 #[tactic(auto, using(crate::proofs::WrittenIdentifiers::subidentifier_sizes))]
 fn other_numbers_size(numbers: &[u32]) -> u64
@@ -480,7 +479,7 @@ fn first_subidentifier(first: u32, second: u32) -> u64
 }
 
 /// Writes the content of an identifier before `end`, and returns its offset.
-// `inline(always)`: called for each binding that is written.
+// `inline(always)`: called for each name that is encoded from its numbers.
 #[inline(always)]
 pub fn put_identifier(out: &mut [u8], end: usize, name: &Oid) -> usize
     requires encodable { IsWire name.now }
@@ -497,7 +496,7 @@ pub fn put_identifier(out: &mut [u8], end: usize, name: &Oid) -> usize
 
 /// Writes `numbers` before `end`, each as a subidentifier, and returns their offset. If eight
 /// numbers of one octet precede the last, as in most names, these are written at once.
-// `inline(always)`: its single caller writes each name.
+// `inline(always)`: its single caller encodes each name from its numbers.
 #[inline(always)]
 #[tactic(auto, using(crate::proofs::WrittenIdentifiers::subidentifier_sizes))]
 fn put_numbers(out: &mut [u8], end: usize, numbers: &[u32]) -> usize
@@ -518,8 +517,7 @@ fn put_numbers(out: &mut [u8], end: usize, numbers: &[u32]) -> usize
 }
 
 /// Does what [`put_numbers`] does, for any numbers.
-// This is 3.9 % of the work of an agent that serves tables, so four short numbers are written at
-// once.
+// Most numbers take one octet, so four such numbers are written at once.
 #[inline(never)]
 fn put_other_numbers(out: &mut [u8], end: usize, numbers: &[u32]) -> usize
     requires room { length (flat_map canon_subidentifier numbers.now) ≤ end }

@@ -9,7 +9,8 @@ use crate::ber::number::{put_octets, unsigned};
 use crate::ber::writing::put_octet;
 
 /// Returns the length that is encoded at the start of `octets`, and the octets after it. Fails
-/// with `cut` if the octets end before the length does.
+/// with [`BerError::Length`] if its form isn't accepted, otherwise with `cut` if the octets end
+/// before the length does.
 #[tactic(auto, unfolding(crate::specs::ber::Decode::length_at))]
 // `inline(always)`: called for many elements of a message. Inlined, its result stays in registers.
 #[inline(always)]
@@ -29,7 +30,7 @@ fn length_at(octets: &[u8], cut: BerError) -> Result<(usize, &[u8]), BerError>
 }
 
 /// Returns the length in the long form whose first octet is `first`, and the octets after it.
-/// `octets` follow the first octet, which says how many octets the length has.
+/// `octets` follow the first octet, which says how many of them belong to the length.
 #[tactic(auto, unfolding(crate::specs::ber::Decode::long_length_at))]
 #[cold]
 fn long_length_at(first: u8, octets: &[u8], cut: BerError) -> Result<(usize, &[u8]), BerError>
@@ -47,7 +48,7 @@ fn long_length_at(first: u8, octets: &[u8], cut: BerError) -> Result<(usize, &[u
 }
 
 /// Returns the content of an element and the octets after it; `octets` follow the element's tag.
-/// Fails with `cut` if the octets end before the content does.
+/// Fails as [`length_at`] does, and with `cut` if the octets end before the content does.
 #[tactic(auto, unfolding(crate::specs::ber::Decode::content_at))]
 // `inline(always)`: called for many elements of a message. Inlined, its result stays in registers.
 #[inline(always)]
@@ -61,8 +62,8 @@ pub fn content_at(octets: &[u8], cut: BerError) -> Result<(&[u8], &[u8]), BerErr
     Ok(rest.split_at(length))
 }
 
-/// Returns the content of the inner element at the start of `octets`, which must have this tag,
-/// and the octets after it.
+/// Returns the content of the inner element at the start of `octets`, and the octets after it.
+/// Fails unless `octets` begin with an element with this tag.
 #[tactic(auto, unfolding(crate::specs::ber::Decode::inner_at))]
 // `inline(always)`: called for many elements of a message. Inlined, its tag is a constant.
 #[inline(always)]
@@ -82,7 +83,7 @@ pub fn inner_at(tag: u8, octets: &[u8]) -> Result<(&[u8], &[u8]), BerError>
 }
 
 /// Returns the tag and the content of the inner element at the start of `octets`, and the octets
-/// after it.
+/// after it. Fails unless `octets` begin with an element.
 #[tactic(auto, unfolding(crate::specs::ber::Decode::element_at))]
 // `inline(always)`: called for many elements of a message. Inlined, its result stays in registers.
 #[inline(always)]

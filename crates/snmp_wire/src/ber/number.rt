@@ -24,14 +24,15 @@ pub(crate) fn unsigned(octets: &[u8]) -> u64
     sum
 }
 
-/// Returns the INTEGER of 32 bits whose two's complement is `content`, of one to four octets.
+/// Returns the INTEGER whose two's complement is `content`. Fails if `content` doesn't have one to
+/// four octets.
 #[tactic(auto, unfolding(crate::specs::ber::Decode::integer_of))]
 // `inline(always)`: called for each value of its type that is read.
 #[inline(always)]
 pub(crate) fn integer_of(content: &[u8]) -> Result<i32, BerError>
     ensures { AgreesBy (λ z. z) result (reading.integer_of content.now) }
 {
-    // The octets before the first have its sign.
+    // Octets that repeat the sign of `a` extend the content to four octets.
     match content {
         [a] => {
             let s = sign_of(*a);
@@ -94,7 +95,7 @@ pub(crate) fn has_width(width: usize, content: &[u8]) -> bool
 }
 
 /// Returns the unsigned number of 32 bits that `content` encodes.
-// `inline(always)`: called for each unsigned value of 32 bits that is read, as most columns have.
+// `inline(always)`: called for each unsigned value of 32 bits that is read.
 #[inline(always)]
 pub(crate) fn unsigned32(content: &[u8]) -> u32
     requires { IsTrue (reading.has_width 4 content.now) }
@@ -115,7 +116,7 @@ pub(crate) fn unsigned64(content: &[u8]) -> u64
     unsigned(without_zero(8, content))
 }
 
-/// Returns `content` without its leading zero octet if it has more than `width` octets.
+/// Returns `content`, without its leading zero octet if it has more than `width` octets.
 #[inline]
 fn without_zero(width: usize, content: &[u8]) -> &[u8]
     requires { IsTrue (reading.has_width width content.now) }
@@ -138,7 +139,7 @@ pub(crate) fn unsigned_size(number: u64) -> usize
     if number < 128 {
         1
     } else {
-        // After the first seven bits, one octet more for each eight bits.
+        // After the first seven bits, one octet more for each eight bits or part of them.
         (number.ilog2() as usize + 9) / 8
     }
 }

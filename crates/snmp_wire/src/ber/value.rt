@@ -22,14 +22,14 @@ use crate::ber::{BerError, tag};
 use snmp_oid::Oid;
 
 /// A value, or an exception in place of one (RFC 3416, section 3). Its strings are borrowed, from
-/// the datagram if it was decoded.
+/// the encoding if it was decoded. Tags are in hexadecimal here.
 #[derive(Debug, Drop, PartialEq)]
 pub enum ValueRef<'a> {
     /// INTEGER, tag 02.
     Integer(i32),
     /// OCTET STRING, tag 04.
     Octets(&'a [u8]),
-    /// NULL, tag 05: no value, as in a request.
+    /// NULL, tag 05: no value, as in a GetRequest.
     Null,
     /// OBJECT IDENTIFIER, tag 06.
     ObjectId(Oid),
@@ -142,9 +142,9 @@ fn set_object_id<'a>(content: &'a [u8], into: &mut ValueRef<'a>)
     *into = ValueRef::ObjectId(identifier_of(content));
 }
 
-/// If `value` already has the type of this tag, as in a column, sets it to the value with this
-/// content and returns `true`. Otherwise, and for the types without a case here, returns `false`.
-/// Setting only the content saves writing all octets of a [`ValueRef`], over 500.
+/// If `value` already has the type of this tag, as when a column is read, sets it to the value
+/// with this content and returns `true`. Otherwise, and for the types without a case here, returns
+/// `false`. Setting only the content saves writing all octets of a [`ValueRef`], over 500.
 #[tactic(auto, unfolding(crate::specs::ber::Decode::typed_value, crate::specs::ber::Decode::unsigned_of))]
 // `inline(always)`: its single caller calls it for each binding that is read.
 #[inline(always)]
@@ -257,7 +257,7 @@ fn address_size(address: [u8; 4]) -> u64
 
 /// Writes a value, with its tag (RFC 3416, section 3) and its length, before `end`, and returns
 /// its offset.
-// `inline(always)`: called for each binding that is written.
+// `inline(always)`: called for each binding that is encoded from a name and a value.
 #[inline(always)]
 #[tactic(auto, unfolding(crate::specs::ber::Canon::canon_value, crate::specs::ber::Canon::canon_content))]
 pub fn put_value(out: &mut [u8], end: usize, value: &ValueRef<'_>) -> usize
@@ -302,8 +302,8 @@ fn put_number(out: &mut [u8], end: usize, tag: u8, number: u32) -> usize
     requires within { end ≤ length out.old }
     ensures { Writes out.old result end (canon_element tag (canon_number (pos number))) out.new }
 {
-    // Large numbers, as most counters are, have four octets, or five if the high bit is set and
-    // needs a zero octet before it.
+    // Numbers from 2^23 on, as many counters are, have four octets, or five if the high bit is set
+    // and needs a zero octet before it.
     if number < 1 << 23 {
         let start = put_unsigned(out, end, u64::from(number));
         return put_short_header(out, start, tag, (end - start) as u64);

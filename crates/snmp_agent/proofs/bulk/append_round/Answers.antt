@@ -16,7 +16,7 @@ use Rattle.snmp_agent.proofs.bulk.append_round.Goals.{else-are_over}
 pub cursors-init : goal.cursors-init
 cursors-init c = record { moved = refl; rest = refl }
 
--- appending the results at all positions is appending those after this position to the reply that has the result at this one
+-- appending the results at all positions to the first reply results in the same as appending the results at the positions after this one to the reply so far
 next : (c : After-append_next-reply) → fill (held c.args.reply c.args.out.now) (map next_at c.args.cursors.now)
     ≡ fill (held c.append_next-reply.result c.append_next-reply.new.out) (map next_at (drop (c.cursors.cursor-index + 1) c.args.cursors.now))
 next c = grind (arith, common_steps, still_there)

@@ -3,7 +3,7 @@ use Rattle.snmp_io.specs.Count.{HasIncreasedBy}
 use Rattle.snmp_agent.specs.{Reply.agent_of, Serving.Event, Serving.InTurn, Serving.AreTurns}
 use Rattle.snmp_agent.proofs.server.serve_at.Given as goal
 
--- `events` happened in the turns so far, and `served` counts these turns
+-- `events` happened in the turns so far, `served` counts these turns, and the endpoint's fault count increased by those that failed
 abbrev pub invariant-turns : goal.invariant-turns
 invariant-turns g l = record {
   sum : l.served.replies + l.served.dropped + l.served.idle + l.served.faults ≡ l.counter;

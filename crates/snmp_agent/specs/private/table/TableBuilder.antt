@@ -36,8 +36,8 @@ has_key o e = cond (eq_by_cmp (slice_cmp nat_cmp) o e.0) 1 0
 abbrev pub AreDistinct : List (List ℕ × Datum) → Type 0
 AreDistinct es = (o : List ℕ) → sum_by (has_key o) es ≤ 1
 
--- the lines are good, except that a name may occur twice; their entries, in any order, and their
--- object prefixes are these
+-- each line is good, but a name may occur more than once; their entries, in any order, and their
+-- object prefixes are these. If the names of these entries differ, so do those of the lines' rows.
 pub record HoldsLines (format : Format) (lines : List (List ℕ)) (es : List (List ℕ × Datum))
     (objects : List (List ℕ)) : Type 0 where
   pub each : All (IsGoodLine format) lines
@@ -64,34 +64,33 @@ IsFaultAfter format before line number fault =
     (number_of fault ≡ number) × IsWrong format before line fault
 
 -- the reading stops for this reason: a fault that satisfies `P`; or, in an exact reading, memory
--- ran out; or, in another reading, the text must be read again, since collected rows may have
--- taken the memory
+-- ran out; or, in another reading, the text must be read again
 abbrev pub HaltsBy : (TableError → Type 0) → (exact : Bool) → Halt → Type 0
 HaltsBy P exact (halt.Fault fault) = P fault
 HaltsBy P exact halt.Memory = exact ≡ true
 HaltsBy P exact halt.Again = exact ≡ false
 
--- the reading stops because memory ran out
+-- the reading stops without a fault, as `HaltsBy` says
 abbrev pub IsFull : (exact : Bool) → Halt → Type 0
 IsFull exact = HaltsBy (λ _. ⊥) exact
 
 -- the reading stops at the fault `wrong`, after the entries `es`, of distinct names; or it stops
--- because memory ran out
+-- without a fault
 abbrev pub IsStop : List (List ℕ × Datum) → (exact : Bool) → TableError → Halt → Type 0
 IsStop es exact wrong = HaltsBy (λ fault. (fault ≡ wrong) × AreDistinct es) exact
 
 -- the reading stops at a row of the name `o`, on the line of this number, since one of the entries
--- `es`, of distinct names, has that name; or it stops because memory ran out
+-- `es`, of distinct names, has that name; or it stops without a fault
 abbrev pub IsHaltAt : List ℕ → List (List ℕ × Datum) → ℕ → (exact : Bool) → Halt → Type 0
 IsHaltAt o es number exact = HaltsBy (λ fault. (fault ≡ error.Double number)
     × AreDistinct es × (v : Datum) × Contains es (o, v)) exact
 
 -- the reading stops at `line`, which has this number and is faulty, after lines that define a
--- table; or it stops because memory ran out
+-- table; or it stops without a fault
 abbrev pub IsHalt : Format → List (List ℕ) → List ℕ → ℕ → (exact : Bool) → Halt → Type 0
 IsHalt format before line number exact =
     HaltsBy (λ fault. AreTable format before × IsFaultAfter format before line number fault) exact
 
--- the reading stops at the first line that isn't good, or because memory ran out
+-- the reading stops at the first faulty line, or without a fault
 abbrev pub IsFirstHalt : Format → List (List ℕ) → (exact : Bool) → Halt → Type 0
 IsFirstHalt format lines exact = HaltsBy (IsFirstFaultIn format lines) exact
