@@ -166,7 +166,7 @@ pub fn check_find(
 /// Checks the look-ups in a loaded tree. Appends for each node the identifiers of the nodes that
 /// are found by its label in its module, by its label in all modules, by its identifier, as its
 /// first child, and by this child's label. Appends a line if the tree has the node's module, one if
-/// the node has a syntax, and one if it has an INDEX.
+/// `syntax_of` returns a syntax, and one if `index_of` returns an index.
 pub fn check_look_ups(alloc: Global, text: &[u8], room: &mut Room<'_>) -> Result<(), Fault> {
     let tree = tree_of(alloc, text)?;
     let _begun = mark(alloc)?;
@@ -262,8 +262,8 @@ pub fn check_resolve_front(
     Ok(())
 }
 
-/// Checks `Letters::parse`. Appends a line if all octets of a text are letters of `-O`, or else the
-/// first that isn't one.
+/// Checks `Letters::parse`. Appends a line if all octets of a text are letters of `-O`, otherwise
+/// the first that isn't one.
 pub fn check_letters(alloc: Global, text: &[u8], room: &mut Room<'_>) -> Result<(), Fault> {
     let _begun = mark(alloc)?;
     let letters = Letters::parse(text);

@@ -2,7 +2,8 @@
 
 use snmp_oid::{Oid, write_numeric};
 
-/// Octets that are appended to a slice, as far as it goes. This doesn't allocate.
+/// A slice with the octets that were appended to it. Octets without room are dropped, and nothing
+/// is allocated.
 #[derive(Drop)]
 pub struct Room<'a> {
     octets: &'a mut [u8],
@@ -38,7 +39,7 @@ impl<'a> Room<'a> {
         self.append_line(text.get(..size).unwrap_or(&[]));
     }
 
-    /// Returns what was appended.
+    /// Returns what was appended, as far as there was room.
     pub fn octets(&self) -> &[u8] {
         self.octets.get(..self.used).unwrap_or(&[])
     }

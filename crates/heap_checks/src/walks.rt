@@ -12,7 +12,7 @@ use std::alloc::Global;
 /// The number of requests of a walk for which memory is reserved.
 const REQUESTS: usize = 320;
 
-/// The number of octets for which memory is reserved, for each request.
+/// The number of octets that are reserved for each request.
 const REQUEST_SIZE: usize = 1000;
 
 /// A sink that appends the name of each binding, and its value if that is a string, as lines.

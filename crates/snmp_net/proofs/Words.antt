@@ -1,4 +1,4 @@
--- Arguments with a colon or a prefix, and what they say.
+-- Arguments with a colon or a prefix, and which host, port or agent they name.
 use Rattle.std.proofs.Common.{◌≡◌, ◌≢◌, ◌<◌, ◌++◌, ◌∷◌, ◌==◌, ◌↔◌, ℕ, Bool, true, false, not, IsTrue, refl, [], List, Bor, Contains, Option, Some}
 use Rattle.std.proofs.Common.{None, IfSome, IfNone, MatchOption, sym, ap, ◌∙◌, length, slice_index, codes, arith, subst, inl, inr}
 use Rattle.std.specs.Str.Pattern.{FindsTextPrefix, StripsPrefix}

@@ -11,7 +11,7 @@ const SNMP_PORT: u16 = 161;
 pub struct UdpAddress<'a> {
     /// The host's name, or its IPv4 address.
     pub host: &'a str,
-    /// The port, from 1 on.
+    /// The port: 1 to 65535 in an address that was read.
     pub port: u16,
 }
 

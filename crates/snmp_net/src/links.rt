@@ -8,11 +8,11 @@ use snmp_walk::{Link, LinkFault};
 
 /// A network: it opens links to agents, and doors, which are the sockets of servers.
 ///
-/// The contract of a walk is stated with the facts of its link. Of the machine's own links, only
-/// the counts of faults are known.
+/// What a walk promises rests on the facts of its link. Of the machine's own links, only the
+/// counts of faults are known.
 pub trait Links {
-    /// A link to an agent. It can't be dropped: the caller of `open` must pass it to `close`, so
-    /// that `closes` says what its last state was.
+    /// A link to an agent. Code for any `Links` can't drop it: the caller of `open` must pass it
+    /// to `close`, so that `closes` says what its last state was.
     type Wire: Link;
 
     /// A door: a server's socket, or what replaces it in memory. A server receives requests from
@@ -40,7 +40,7 @@ pub trait Links {
     /// `fails old new`: a call that fails can change the network's state from `old` to `new`.
     ghost fails: { Self → Self → Type 0 };
 
-    /// The number of calls that failed.
+    /// The number of calls that failed, up to 18446744073709551615.
     ghost fault_count: { Self → ℕ };
 
     /// Opens a link to the agent at the UDP port `port` of `host`. A receive over it waits up to

@@ -9,8 +9,8 @@ use snmp_walk::LinkFault;
 use std::net::{Net, UdpSocket};
 use std::time::Duration;
 
-/// Links to agents, and doors (the sockets of servers), over UDP. Contracts say nothing of them
-/// but the number of calls that failed.
+/// Links to agents, and doors (the sockets of servers), over UDP. Contracts say only how many
+/// calls of `open` and `bind` failed, and that the counts of `serve` add up to its turns.
 #[derive(Drop)]
 pub struct MachineLinks<N> {
     net: N,
@@ -85,15 +85,14 @@ impl<N: Net> Links for MachineLinks<N> {
 }
 
 /// Returns a socket bound to `port` of the first IPv4 address of `host`. A receive from it waits
-/// up to one second. Returns `None` if the host has no such address or the system refuses the
-/// socket.
+/// up to one second. Returns `None` if no such address is found or the system refuses the socket.
 fn bind_socket<N: Net>(net: &N, host: &str, port: u16) -> Option<UdpSocket> {
     let socket = UdpSocket::bind(net, first_address(net, host, port)?).ok()?;
     socket.set_read_timeout(Some(turn_time())).ok()?;
     Some(socket)
 }
 
-/// Returns how long a server waits for a request in a turn at most: one second.
+/// Returns the longest time that a server waits for a request in a turn: one second.
 fn turn_time() -> Duration
     ensures { as_nanos result ≡ 1_000_000_000 }
 {

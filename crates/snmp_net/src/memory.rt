@@ -1,4 +1,4 @@
-//! Links to agents in the same memory, for tests of walks. All is known of them.
+//! Links to agents in memory, and doors in memory, for tests and measurements.
 ghost use Rattle.std.specs.Prelude.{◌≡◌, ◌<◌, ◌≤◌, ℕ, List, Option, IfOk, IfSome, IfNone, length};
 ghost use Rattle.snmp_io.specs.Count.{HasIncreased};
 ghost use Rattle.snmp_net.specs.Memory.{AreServed, BindsAt, OpensTo, agent_at};
@@ -25,8 +25,7 @@ pub struct MemoryAgent<'a> {
     pub deliveries: &'a [Option<usize>],
 }
 
-/// Links to agents in memory, and doors: they replace the sockets of servers, and their requests
-/// come from memory.
+/// Links to agents in memory, and doors in memory, which replace the sockets of servers.
 #[derive(Drop)]
 pub struct MemoryLinks<'a> {
     alloc: Global,

@@ -39,7 +39,7 @@ impl UdpLink {
     /// Opens a link to `port` of the first IPv4 address of `host`. A receive over it waits up to
     /// `seconds` seconds.
     ///
-    /// Fails if the host has no IPv4 address, or if the system refuses a socket.
+    /// Fails if no IPv4 address of the host is found, or if the system refuses a socket.
     pub fn open<N: Net>(net: &N, host: &str, port: u16, seconds: u64) -> Result<UdpLink, LinkFault>
         // The time limit of a receive is at least a second.
         requires { 0 < seconds }
@@ -122,8 +122,8 @@ impl Link for UdpLink {
     }
 }
 
-/// Returns the first IPv4 address of `host` with the port `port`, if the host has one. If `host`
-/// is an IPv4 address in text, the result has this address.
+/// Returns the first IPv4 address of `host` with the port `port`, or `None` if none is among the
+/// first 32 addresses found. If `host` is an IPv4 address in text, the result has this address.
 pub(crate) fn first_address<N: Net>(net: &N, host: &str, port: u16) -> Option<SocketAddr>
     ensures { (ip : IpAddr) → IsIpText host.now ip → is_ipv4 ip ≡ true
         → IfSome result (λ at. IsIpText host.now (socket_ip at) × IsPlainSocket at port) }
@@ -131,7 +131,7 @@ pub(crate) fn first_address<N: Net>(net: &N, host: &str, port: u16) -> Option<So
     first_ipv4((host, port).to_socket_addrs(net).ok()?)
 }
 
-/// Returns the first of `addresses` that is an IPv4 address.
+/// Returns the first of `addresses` that is an IPv4 address, if there is one.
 fn first_ipv4(addresses: Take<array::IntoIter<SocketAddr, 32>>) -> Option<SocketAddr>
     ensures { result ≡ find (λ address. is_ipv4 (socket_ip address)) (host_addrs addresses) }
 {

@@ -1,4 +1,5 @@
--- A walk over one table gives rows of its answer (`walk_rows`), and a run over the agent in memory is as `IsAsked` says (`is_asked`).
+-- The rows that a walk of one table passes on are a prefix of the answer, and all of it if the walk is done (`walk_rows`). What `IsAsked` says holds of a run
+-- over the agent in memory (`is_asked`).
 use Rattle.std.proofs.{lemmas.List.Elements.All-contains, lemmas.List.Elements.filter_passes}
 use Rattle.std.proofs.Common.{◌≡◌, ◌⊎◌, inl, inr, ◌++◌, ◌<◌, ◌≤◌, ℕ, zero, suc, Bool, true, List, [], ◌∷◌, length, Option, Some, None, refl, sym, ◌∙◌}
 use Rattle.std.proofs.Common.{ap, arith, subst}
@@ -31,7 +32,7 @@ own_end (ending.Sink fault) s = tt
 own_end ending.Link s = tt
 own_end end s = absurd s
 
--- if `P` holds of `end`, then it holds of `end_in_memory end`, provided that `P` holds of a lack of memory if it holds of a failed link
+-- if `P` holds of `end`, and `P` of a failed link implies `P` of a lack of memory, then `P` holds of `end_in_memory end`
 in_memory : (P : WalkEnd → Type 0) → (P ending.Link → P (ending.Sink sink.Memory)) → (end : WalkEnd) → P end → P (end_in_memory end)
 in_memory P moved ending.Link h = moved h
 in_memory P moved end h = h
@@ -47,18 +48,18 @@ no_link : (end : WalkEnd) → end_in_memory end ≡ ending.Link → ⊥
 no_link ending.Link h = cc
 no_link end h = cc
 
--- if a walk is done, its end holds the number of rows given
+-- if a walk over the agent in memory is done, its end says how many rows it passed on
 counts_rows : (plan : Plan) (view : MibView) (first : WalkState) (rows : List VarBind) (end : WalkEnd)
     → IsLawfulEnd (agent_over plan view) (HasNone (agent_over plan view)) first rows end → Counts end (length rows)
 counts_rows plan view first rows (ending.Done n) h = h.5.0
 counts_rows plan view first rows end h = tt
 
--- if no deliveries are ahead, none were used
+-- if there were no deliveries to come (`ahead`), none were used
 none_used : (used left : List (Option ℕ)) (ahead : List (Option ℕ)) → ahead ≡ used ++ left → ahead ≡ [] → used ≡ []
 none_used [] left ahead e none = refl
 none_used (d ∷ used) left ahead e none = let no : ⊥ = cc in absurd no
 
--- if a question counts and its run is done, the end holds the number of rows given
+-- if a question asks for the number of bindings, and its run is done, then the end says how many bindings the run passed on
 pub counted : (question : Question) (plan : Plan) (view : MibView) (given : List VarBind) (end : WalkEnd) → HasReason question plan view given end
     → counts_in question ≡ true → Counts end (length given)
 counted (names os) plan view given end reason e = let no : ⊥ = cc in absurd no
@@ -86,13 +87,13 @@ after_wire (a ∷ []) o long (zero ∷ z ∷ rest, some, e) = inl (z ∷ rest, �
 after_wire (a ∷ []) o long (suc k ∷ z ∷ rest, some, e) =
     inr record { prefix = a ∷ []; smaller = 0; larger = suc k; after = []; suffix = z ∷ rest; this = refl; that = e; is_smaller = omega arith }
 
--- `rest_of` has just the rows that are below the root and after the name `o`
+-- for a MIB view, `rest_of` has exactly the rows that are below the root and come after the name `o`
 abbrev pub LeftAreRows : Type 0
 LeftAreRows = (view : MibView) (root o : List ℕ) (p : VarBind) → IsMibView view
     → (OneOf (rest_of root o (variables view)) p → IsRow view p × IsBelow p.name root × Precedes o p.name)
     × (IsRow view p × IsBelow p.name root × Precedes o p.name → OneOf (rest_of root o (variables view)) p)
 
--- the rows given and refused are a prefix of the answer; if the run is done, the rows given are the whole answer
+-- the rows `given` and then `refused` are a prefix of the answer; if the run is done, `given` is the whole answer
 pub record GivesRows (question : Question) (view : MibView) (given refused : List VarBind) (end : WalkEnd) : Type 0 where
   pub prefix : (rows : List VarBind) → AreRowsOf question view rows → (more : List VarBind) × (rows ≡ (given ++ refused) ++ more)
   pub whole : (rows : List VarBind) → AreRowsOf question view rows → IsDone end → given ≡ rows
@@ -115,14 +116,15 @@ module _ (below : BelowAreRows) (left : LeftAreRows) (one_get : (view : MibView)
   from_root mode.Include root got = ap (λ (s : List VarBind). rows_named (wire root) (variables view) ++ s) (rest_is root)
   from_root mode.NoLast root got = rest_is root
 
-  -- if `rows` are the answer to a walk of the table, then a Get of the name that the walk begins from returns some `got`, and `rows` are the rows from there
-  -- on (`walk_at`)
+  -- if `rows` are the answer to a walk of the table, then a Get of the name that the walk begins from returns some `got`, and `rows` are what `walk_at` is for
+  -- this name and `got`
   begun_rows : (after : Option (List ℕ)) (community : List ℕ) (w : Walk) (rows : List VarBind) → AreRowsAfter after w view rows
       → (got : VarBind) × IsGet view (first_after after community w).asked got × (rows ≡ walk_at (first_after after community w) view got)
   begun_rows None community w rows are = (are.0, are.1, are.2 ∙ sym (from_root w.mode w.root are.0))
   begun_rows (Some after) community w rows are = let one = one_get view (wire after) in (one.0, one.1, are)
 
-  -- a walk over agents that have only the table `view` gives rows of its answer from this table, as `GivesRows` says
+  -- if agents have only the table `view`, and each reply that a walk read is theirs, then the rows passed on are a prefix of the answer from this table, as
+  -- `GivesRows` says
   pub walk_rows : (agents : Agents) → agents.tables ≡ view ∷ [] → (Silent : WalkState → Type 0) (community : List ℕ) (w : Walk) (given refused : List VarBind)
       (end : WalkEnd) → ReplyFacts agents Silent (first_of community w) given refused end → GivesRows (subtree w) view given refused end
   walk_rows agents single Silent community w given refused end facts = record {
@@ -193,7 +195,8 @@ module _ (below : BelowAreRows) (left : LeftAreRows) (one_get : (view : MibView)
         complete = λ room. own_end end (facts.done_unless_stopped _ (of_table view refl refl) (in_each room.0) room.1 none);
       }
 
-  -- if a question is asked over an honest link to the agent over `view`, and no deliveries are ahead, then the run is as `IsAsked` says
+  -- If a question is asked with at least one try over an honest link to the agent that serves `view`, nothing was sent over the link before, and there are no
+  -- deliveries to come (`ahead`), then `IsAsked` holds of the run, with its end by `end_in_memory`.
   module _ {W : Type 0} (facts : LinkFacts W) (link after : W) (tries : ℕ) (some : 0 < tries) (plan : Plan)
       (honest : facts.honest link × ((facts.traffic link).sent ≡ [])) (agents : facts.agents link ≡ agent_over plan view)
       (none : (facts.traffic link).ahead ≡ []) (given refused : List VarBind) (end : WalkEnd) where

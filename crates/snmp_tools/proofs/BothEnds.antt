@@ -1,5 +1,4 @@
--- If the network between neither invents nor alters datagrams, then a walk or a Get prints of a table file that snmpd serves what `PrintsServed` says
--- (`prints_served`).
+-- From what is promised of a walk or a Get, and of an snmpd that serves a table file, follows `PrintsServed` (`prints_served`).
 use Rattle.std.proofs.lemmas.Grind.{common_steps}
 use Rattle.std.proofs.Common.{◌≡◌, ◌≢◌, ◌⊎◌, inl, inr, ◌+◌, ◌≤◌, ℕ, Bool, true, false, List, [], ◌∷◌, length, Option, Some, None, refl, sym, ◌∙◌, ap}
 use Rattle.std.proofs.Common.{subst, arith, append-nil}
@@ -46,15 +45,14 @@ module _ (words : ServeWords) (line : List (List ℕ)) (s : StateJob line (snmpd
   abbrev later : ℕ → Option Stated
   later k = stated_among (drop k (readings s.numbers)) (s.command, s.rows)
 
-  -- only arguments of snmpd ask for a service, and its greatest size is read as a number from 1 to
-  -- 65507
+  -- the greatest size that the arguments of snmpd say is at most 65507
   size_fits : words.max_size ≤ 65507
   size_fits = grind (arith, common_steps, picked, number_fits)
 
 -- ---- what a walk or a Get received
 
--- `events` happened at the link, one after the other; if all that arrived are replies of agents that have only the table `view`, then rows of the answer were
--- given (`GivesRows`)
+-- `events` happened at the link, one after the other. If all that arrived are replies of lawful agents that have only the table `view`, then the rows passed
+-- on are a prefix of the answer, as `GivesRows` says. If the number of bindings is asked for, and the run is done, the end has this number.
 record Heard {W : Type 0} (facts : LinkFacts W) (link later : W) (question : Question) (view : MibView) (given refused : List VarBind) (end : WalkEnd)
     (events : List (Event (Unit {0}))) : Type 0 where
   in_turn : InTurn (Happens facts) link events later
@@ -216,7 +214,7 @@ module _ (below : BelowAreRows) (left : LeftAreRows) (one_get : (view : MibView)
     all_written_at_status_0 = λ ends_are zero_status. absurd (ask_not_0 why is zero_status);
   }
 
-  -- if no link was opened and nothing was printed, then what is promised of both ends holds, as nothing was asked
+  -- if no link was opened, nothing was printed, and there is a fault, then what is promised of both ends holds, as nothing was asked
   not_opened : (why : Fault) → (after.links ≡ before.links) ⊎ net.fails before.links after.links → after.out ≡ before.out → run.fault ≡ Some why → Both
   not_opened why left same is = nothing_asked why (λ not_0. ends.not_linked refl left same not_0) same is
 
@@ -237,7 +235,7 @@ module _ (below : BelowAreRows) (left : LeftAreRows) (one_get : (view : MibView)
     rows_are : AreRowsOf plan.question ask.view rows
     rows_are = subst (λ (p : Plan). AreRowsOf p.question ask.view rows) plan_is ask.are_rows
 
-    -- the agent isn't over a table file
+    -- the agent is asked over the network, so it has no table file
     no_file : (path : List ℕ) → plan.agent ≡ table path → ⊥
     no_file path over = let agents : udp ask.host ask.port ≡ table path = sym ask.over ∙ ap (λ (p : Plan). p.agent) plan_is ∙ over in cc
 

@@ -79,7 +79,8 @@ last_more : (letters : List Part) (part : Part) (old new : ℕ) → IsLastNumber
     → ((part.0 ≡ 114) × AreRepetitions part.1 new) ⊎ (((part.0 == 114) ≡ false) × (new ≡ old)) → IsLastNumber (letters ++ part ∷ []) new
 last_more letters part old new last one = grind (arith, common_steps, append_assoc, has_more, or_from)
 
--- if the letters of `prefix` choose `old`, and one letter more with its digits makes `new` of that, then all of these letters choose `new`
+-- if the letters of `prefix` choose `old`, and one letter more, which has a meaning with its digits, makes `new` of that, then all of these letters choose
+-- `new`
 more_chosen : (bulk : Bool) (prefix : List ℕ) (letter : ℕ) (digits : List ℕ) (old new : Choices) → HaveChosen bulk prefix old
     → is_ascii_digit letter ≡ false → list_all is_ascii_digit digits ≡ true → IsKnown bulk (letter, digits) → OneMore (letter, digits) old new
     → HaveChosen bulk (prefix ++ letter ∷ digits) new
@@ -116,7 +117,7 @@ pub record AreReadTo (bulk : Bool) (text : List ℕ) (at : ℕ) (choices : Choic
 pub none_read : (bulk : Bool) (text : List ℕ) → AreReadTo bulk text 0 no_choices
 none_read bulk text = grind (arith, common_steps)
 
--- `text` is read up to the offset `at`; the octet at `at` is the next one, and the `n` octets after it are digits
+-- `text` is read up to the offset `at`; the octet at `at` is the next one, and the `n` octets after it are all the digits that follow it
 module _ (bulk : Bool) (text : List ℕ) (at n : ℕ) (old : Choices) (rest : List ℕ) (low : at < length text)
     (is : rest ≡ take (length text - (at + 1)) (drop (at + 1) text)) (within : n ≤ length rest) (all : list_all is_ascii_digit (take n rest) ≡ true)
     (maximal : n < length rest → is_ascii_digit (slice_index_or rest n 0) ≡ false) (read : AreReadTo bulk text at old) where

@@ -26,8 +26,7 @@ use Rattle.snmp_tools.proofs.Plans.{IsWant, OneList, OneTree, held_is, one_load,
 use Rattle.smi_tree.specs.{Tree.Contents}
 use Rattle.snmp_tools.proofs.Plans.{wants_late}
 
--- the status is 1, and the output failed, or it was reported after the warnings that memory ran
--- out
+-- the status is 1; and the output failed, or the line `Out of memory.` was written after the warnings, or a prefix of it
 abbrev Stops : (before after warned err_after : Stream) → ℕ → Type 0
 Stops before after warned err_after status = (status ≡ 1) × (HasIncreased before.faults after.faults ⊎ IsWritten warned (codes "Out of memory.\n") err_after)
 
@@ -69,7 +68,8 @@ module _ (mib : Contents) (letters : Letters) (agent : List ℕ) (given turned :
   own_reported counts (ending.Sink sink.Output) own printed finish = grind (arith, common_steps, reported_of, counted)
   own_reported counts end own printed finish = absurd own
 
--- if a job printed nothing because of the fault `why`, which for a feasible plan is that memory ran out, then `WritesRows` holds
+-- if a job printed nothing because of the fault `why`, which for a feasible plan is that memory ran out, and standard error took nothing before the report, or
+-- the lines of the warnings as `IsWritten` says, then `WritesRows` holds
 pub not_asked : (words : AskWords) (files : Holdings) (rows : List VarBind) (ask : IsAsk words files rows) (before after err_before warned err_after : Stream)
     (fault : Option Fault) (status : ℕ) (why : Fault) → after ≡ before → fault ≡ Some why → IsReported fault warned err_after status
     → (IsFeasible ask.plan ask.view → IsWant why) → (warned ≡ err_before) ⊎ IsWritten err_before (warning_lines ask.warnings) warned

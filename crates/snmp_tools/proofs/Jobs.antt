@@ -1,4 +1,5 @@
--- If its outcome was reported, then what is promised of a job holds (`job_done`, `undone`). So does what is promised of a command line (`job_is_done`,
+-- If the outcome of a job was reported, then what is promised of the job holds (`job_done`). It also holds if memory ran out before the job did anything
+-- (`undone`). If arguments were read, and the job was done or the error shown, then what is promised of their command line holds (`job_is_done`,
 -- `fault_is_reported`).
 use Rattle.std.proofs.Common.{arith, ◌≡◌, ◌≢◌, ℕ, Bool, true, false, List, [], Option, Some, Result, Ok, Err, IfOk, IfErr, OnOk, refl, sym}
 use Rattle.std.proofs.Common.{subst, inl, inr, codes}

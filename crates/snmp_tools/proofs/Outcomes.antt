@@ -22,7 +22,7 @@ all_prefix : (mib : Contents) (letters : Letters) (before after : Stream) (rows 
     → ((text : List ℕ) × AreLines mib letters rows text × (after ≡ stream_after before text)) → IsPrefixOfTexts mib letters (rows ++ turned) before after
 all_prefix mib letters before after rows turned h = (rows, turned, h.0, refl, h.1, whole_taken before after h.0 h.2)
 
--- what was written is a prefix of the lines of the rows given and refused
+-- what was written is a prefix of the lines of `rows` and then of `turned`, the refused row, if there is one
 pub printed_prefix : (mib : Contents) (letters : Letters) (before after : Stream) (rows turned : List VarBind) (end : WalkEnd)
     → IsPrintedUpTo mib letters before rows turned end after → IsPrefixOfTexts mib letters (rows ++ turned) before after
 printed_prefix mib letters before after rows turned (ending.Sink sink.Output) h = (
@@ -73,7 +73,8 @@ module _ (mib : Contents) (letters : Letters) (agent : List ℕ) (before : Strea
   all_finished counts after fault (text, whole, taken) =
       (prefix_of_all counts after text (inr whole) (whole_taken before after text taken), λ none. (text, whole, taken))
 
-  -- if the run is done and gave all rows, then what was written is as `Finished` says: all of the text if no fault is reported
+  -- if the run is done and passed on all rows, and its count, if that is asked for, is their number, then what was written is as `Finished` says: all of the
+  -- text if no fault is reported
   done_finished : (counts : Bool) (given : List VarBind) (count : ℕ) (between after : Stream) (fault : Option Fault) → given ≡ rows
       → (counts ≡ true → count ≡ length given) → Lines given between → IsFinished agent (ending.Done count) counts between after fault
       → Finished counts after fault

@@ -1,5 +1,5 @@
--- Arguments ask for one plan (`one_plan`), and over a known table file the steps before its
--- question fail only for want of memory (`wants_early`, `wants_late`, `wants_last`).
+-- Arguments ask for at most one plan (`one_plan`). If they ask for a plan over a table file whose text is known, then the steps before its question is asked
+-- fail only because memory ran out (`wants_early`, `wants_late` and, if the question can be sent, `wants_last`).
 use Rattle.std.proofs.{lemmas.Grind.common_steps, lemmas.List.Elements.All-head, lemmas.List.Elements.All-tail}
 use Rattle.std.proofs.Common.{◌≡◌, ◌⊎◌, inl, inr, ℕ, arith, List, [], ◌∷◌, All, map, Option, Some, None, Ok, refl, sym, ◌∙◌, ap, subst}
 use Rattle.std.specs.Str.Lines.{lines}
@@ -92,7 +92,7 @@ one_question one (walk bulk letters after name) choices mib (subtree v) (subtree
     let goes_on = one_after one mib after v.after w.after p.goes_on q.goes_on in
     grind (arith, common_steps, p.mode, q.mode, p.method, q.method, p.counts, q.counts)
 
--- arguments, with names by one tree, ask for at most one plan: a clause determines each field
+-- arguments whose AGENT says one address, with names by one tree, ask for at most one plan: a clause determines each field
 pub one_plan : OneMeaning → (words : AskWords) (mib : Contents) (p q : Plan) → AskFor words mib p → AskFor words mib q
     → HasAgent words.asking.agent q.agent → p ≡ q
 one_plan one words mib p q a b only = grind (arith, common_steps, one_chosen, one_question, one_reading)

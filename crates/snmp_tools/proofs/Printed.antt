@@ -16,7 +16,7 @@ lines_of_both mib letters [] more a b h k = subst (λ (t : List ℕ). AreLines m
 lines_of_both mib letters (row ∷ rows) more a b h k =
     (h.0, h.1 ++ b, h.2, lines_of_both mib letters rows more h.1 b h.3 k, ap (λ (t : List ℕ). t ++ b) h.4 ∙ append_assoc h.0 h.1 b)
 
--- a sink that writes the line of each row to its output; `Is` holds in each of its states
+-- a sink that writes the line of each row to its output, from a state in which `Is` holds; each row taken or refused leaves `Is` true
 module _ {S : Type 0} (takes : S → VarBind → Result (Unit {0}) SinkFault → S → Type 0) (stream : S → Stream) (Is : S → Type 0)
     (mib : Contents) (letters : Letters)
     (stays : (old new : S) (binding : VarBind) (result : Result (Unit {0}) SinkFault) → Is old → takes old binding result new → Is new)

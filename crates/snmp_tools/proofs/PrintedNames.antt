@@ -74,7 +74,8 @@ module _ (mib : Contents) (style : Style) (before now : Stream) where
     stops = inl (none, is);
   }
 
--- `a` and `b` are a text cut in two, and `c` and `d` are the same text: `a` begins with `c`, or `c` is longer than `a` and begins with it
+-- `a` begins with `c`; or `c` is longer than `a` and begins with it, and then `b` is the rest of `c` and then `d`. If `a ++ b` is `c ++ d`, this holds
+-- (`cut`).
 abbrev IsCutTwice : (a b c d : List ℕ) → Type 0
 IsCutTwice a b c d = ((p : List ℕ) × (a ≡ c ++ p)) ⊎ ((p : List ℕ) × (c ≡ a ++ p) × (b ≡ p ++ d) × (0 < length p))
 
@@ -146,7 +147,7 @@ first_or_later mib style name more before after first rest is among (inl here) =
 first_or_later mib style name more before after first rest is among (inr (there, some)) =
     later mib style name more before after first no_output is (among there some)
 
--- if the output fails within the texts of names, then printing stops at one of these
+-- if the output fails within the texts of names, which aren't all empty, then printing stops at one of these names
 fails_among : (mib : Contents) (style : Style) (names : List (List ℕ)) (text : List ℕ) (before after : Stream) → AreTextsOf mib style names text
     → 0 < length text → FailsWithin before text after → StopsWithin mib style names before after no_output
 fails_among mib style [] text before after none some fails = let no : ⊥ = grind (arith, common_steps) in absurd no

@@ -71,7 +71,7 @@ value_is names same value text shows = shows
 
 -- ---- lines
 
--- without a syntax, the line of a row has its name in numbers and the text of its value
+-- if no object has a syntax, the line of a row by the letters of `-On` has its name in numbers and the text of its value
 line_is : (mib : Contents) → HasNoSyntax mib → (row : VarBind) (line : List ℕ) → IsLine mib numeric_letters row.name row.value line → line ≡ row_line row
 line_is mib none row line is = grind (arith, common_steps, value_is)
 

@@ -79,7 +79,7 @@ are_named mib [] os e = tt
 are_named mib (text ∷ texts) [] e = absurd e
 are_named mib (text ∷ texts) (name ∷ os) e = ((name, e.0), are_named mib texts os e.1)
 
--- if `P` holds of the step of each name with a meaning, then it holds of all steps that look up the names of a request
+-- if `P` holds of the step of each name with a meaning, then it holds of all steps that look up the names of a request, if each of these names has a meaning
 module _ (mib : Contents) (P : LaterStep → Type 0) (one : (text o : List ℕ) → TextMeans mib text (Ok o) → P (name_step text)) where
   each_text : (texts os : List (List ℕ)) → AreNames mib texts os → AreDone P (map name_step texts)
   each_text [] os e = tt
@@ -191,7 +191,7 @@ module _ (words : AskWords) (files : Holdings) (why : Fault) where
       loaded : (why ≡ out_of_memory) ⊎ RefusedBy (reaching_steps words.request) → IsLateRefusal words files mib why
       loaded h = record { loaded = loading_done; fails = h }
 
-      -- if a request fails at its names, then memory ran out or one of its steps for the names was the first to fail
+      -- if a request fails as `NamesFail` says, then memory ran out, or one of the steps that look up its names was the first to fail
       at_names : (request : Request) → NamesFail request mib why → (why ≡ out_of_memory) ⊎ RefusedBy (name_steps request)
       at_names (get texts) (inl e) = inl e
       at_names (get texts) (inr h) =
@@ -213,7 +213,7 @@ module _ (words : AskWords) (files : Holdings) (why : Fault) where
           → AreDone DoneBy (name_steps request)
       names_done = each_name mib DoneBy (λ text o means. (o, means))
 
-      -- if the walk can't continue after the name to continue after, then one of the steps that test this name is the first that fails
+      -- if the walk can't continue after the name of --after, then one of the steps that test this name is the first that fails
       resumed : (root after : List ℕ) (text : List ℕ) (given planned : Option (List ℕ)) → IsOptionalName mib given planned → planned ≡ Some after
           → TextMeans mib text (Ok root) → ResumeFails root after (unwrap_or given []) why
           → RefusedBy (goes_on_after (λ t. below_step text t ∷ sent_step t ∷ []) given)

@@ -1,5 +1,5 @@
--- The names of a table file are what their texts mean by a tree (`names_are_meant`,
--- `prefix_named`, `prefix_unnamed`).
+-- The names of a table file are looked up in a tree: a text names the identifier that it means in the tree (`names_are_meant`, `prefix_named`,
+-- `prefix_unnamed`).
 use Rattle.std.proofs.Common.{◌≡◌, ◌∙◌, ℕ, List, Option, Some, None, Result, Ok, Err, ap, refl, sym, subst}
 use Rattle.std.specs.Result.{result_ok}
 use Rattle.snmp_oid.specs.Identifier.{IsIdentifier}

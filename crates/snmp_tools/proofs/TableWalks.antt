@@ -125,7 +125,7 @@ got_is ls view o got is (table.unknown_object none lacks e) = page.unknown_objec
 got_is ls view o got is (table.unknown_instance none (object, rest, has, parts) e) =
     page.unknown_instance (free_name ls view o is none) object rest ((is.objects object).0 has) parts e
 
--- `rows_below` has just the rows of the table that are below the root
+-- for a MIB view, `rows_below` has exactly the rows that are below the root
 abbrev pub BelowAreRows : Type 0
 BelowAreRows = (view : MibView) (root : List ℕ) (p : VarBind) → IsMibView view
     → (OneOf (rows_below root (variables view)) p → IsRow view p × IsBelow p.name root)
@@ -163,7 +163,7 @@ all_are : (mib : Contents) (before after : Stream) (rows : List VarBind) (text :
     → after ≡ stream_after before (flat_map row_line rows)
 all_are mib before after rows text none (shown, are, whole) written = grind (arith, common_steps, append-nil, lines_are)
 
--- if `now` is `before`, or an output took no octets from `before` to `now`, then it took no octets
+-- if an output is unchanged, or an empty text was written to it, then an empty text was written to it as `IsWritten` says
 no_warnings : (before now : Stream) → (now ≡ before) ⊎ IsWritten before [] now → IsWritten before [] now
 no_warnings before now (inl same) = inl (same ∙ sym (stream_after-nil before))
 no_warnings before now (inr written) = written

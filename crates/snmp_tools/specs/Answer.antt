@@ -56,15 +56,17 @@ abbrev pub CanBeSent : Question → Type 0
 CanBeSent (names os) = All (λ o. IsWire (wire o)) os
 CanBeSent (subtree w) = IsWire (wire w.root) × CanGoOn w.root w.after
 
--- Messages have room: for a Get, for the request and the Response; for a walk, for each single
--- binding, and there are enough ids.
+-- There is room for the question over the table `view`. For a Get: the request fits into a
+-- datagram, and the Response into a message of the agent. For a walk: each Response with a single
+-- row of the table fits, and each with an exception for the name that the walk begins from; and
+-- there are enough ids.
 abbrev pub HasRoomFor : Question → Plan → MibView → Type 0
 HasRoomFor (names os) plan view = HasRoomForGet (agent_over plan view) (request_for plan os) os
 HasRoomFor (subtree w) plan view =
     HasRoomForEach (agent_over plan view) view (first_of plan.community w)
     × HasIds (first_of plan.community w) view
 
--- what a plan needs besides memory and an output that takes its lines
+-- the plan's question can be sent, and there is room for it over the table `view`
 pub record IsFeasible (plan : Plan) (view : MibView) : Type 0 where
   pub sendable : CanBeSent plan.question
   pub room : HasRoomFor plan.question plan view
@@ -82,8 +84,9 @@ abbrev pub Counts : WalkEnd → ℕ → Type 0
 Counts (ending.Done count) n = count ≡ n
 Counts _ n = Unit {0}
 
--- the run ended for a reason: early only if a message didn't fit, if the ids were used up, if no
--- reply arrived, or if the link or the sink failed
+-- why the run ended. If it is done, its end has the number of names of a Get, or of the rows that
+-- a walk passed on (`given`). It ended early only if a message didn't fit, if the ids were used
+-- up, if no reply arrived, or if the link or the sink failed
 abbrev pub HasReason : Question → Plan → MibView → (given : List VarBind) → WalkEnd → Type 0
 HasReason (names os) plan view given end =
     IsEndOfGet (IsTooBig (agent_over plan view) (request_for plan os) os) ⊥
@@ -93,7 +96,8 @@ HasReason (subtree w) plan view given end =
     given end × Counts end (length given)
 
 -- The question was asked over the table `view`: the sink took the rows `given`, and refused one or
--- none (`refused`), and the run ended with `end`.
+-- none (`refused`), and the run ended with `end`. Both together are a prefix of the answer. If the
+-- run is done, `given` is the whole answer. It didn't end because the link failed.
 pub record IsAsked (plan : Plan) (question : Question) (view : MibView)
     (given refused : List VarBind) (end : WalkEnd) : Type 0 where
   pub prefix : (rows : List VarBind) → AreRowsOf question view rows
@@ -114,8 +118,8 @@ IsAskedOver {W} facts link after tries plan (names os) given refused end =
 IsAskedOver {W} facts link after tries plan (subtree w) given refused end =
     IsWalkedOver facts link after tries (first_of plan.community w) given refused end
 
--- What is known of a run over a link, if nothing was sent over the link before. `link` is the
--- state of the link before the run, and `after` its state after the run. `Linked` says that the
+-- The question of the plan was asked over a link. `link` is the state of the link before the run,
+-- when nothing had been sent over it, and `after` its state after the run. `Linked` says that the
 -- link was opened in the state `link` and closed in the state `after`, so nothing else happened
 -- over it.
 pub record HasFacts {W : Type 0} (Linked : (link after : W) → Type 0) (facts : LinkFacts W)

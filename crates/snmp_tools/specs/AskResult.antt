@@ -19,8 +19,9 @@ use Rattle.smi_tree.specs.{Tree.Contents}
 
 -- ---- what is written
 
--- What follows the lines of a run: if it is done, the line of -Cp, if that is asked for. If it
--- ended early, nothing, and `end` is the fault.
+-- What follows the lines of a run. If the run is done and -Cp is asked for, the line of -Cp
+-- follows, perhaps not whole. Otherwise nothing follows; if the run ended early, its end is the
+-- fault.
 abbrev pub IsFinished : (agent : List ℕ) → WalkEnd → (counts : Bool) → (before after : Stream)
     → Option Fault → Type 0
 IsFinished agent (ending.Done count) true before after fault =
@@ -29,8 +30,9 @@ IsFinished agent (ending.Done count) false before after fault = (after ≡ befor
 IsFinished agent end counts before after fault =
     (after ≡ before) × (fault ≡ Some (ended agent end))
 
--- The bindings of a run were printed; `fault` is why not all of them were, if so. `Facts` holds of
--- the bindings given to the sink, of those that it refused, and of the end.
+-- The bindings of a run were printed; `fault` is why the run or the printing ended early, if so.
+-- `Facts` holds of the bindings that the sink took, of the one that it refused, if any, and of the
+-- end.
 pub record IsShown (Facts : (given refused : List VarBind) → WalkEnd → Type 0) (mib : Contents)
     (plan : Plan) (agent : List ℕ) (before after : Stream) (fault : Option Fault) : Type 0 where
   pub given : List VarBind
@@ -67,9 +69,9 @@ IsShownOver {N} {V} {D} net wire words mib plan host port before after fault = I
     (λ link last. IsLinked net host port words.asking.seconds before.links link last after.links)
     wire (words.asking.retries + 1) plan) mib plan words.asking.agent before.out after.out fault
 
--- What a job wrote, with names and types looked up in `mib`, and why not all of it was done, if
--- so. If it was refused before it opened a link, or the agent is over a table, the network stays
--- as it was.
+-- What a job wrote, with names and types looked up in `mib`, and why not all of the job was done,
+-- if so. If the job was refused before it opened a link, or its agent serves a table file in
+-- memory, the network stays as it was.
 pub data IsOutcomeBy {N V D : Type 0} (net : Network N V D) (wire : LinkFacts V) (words : AskWords)
     (mib : Contents) (before after : Seen N) (fault : Option Fault) : Type 0 where
   refused : (why : Fault) → IsLateRefusal words before.files mib why → after ≡ before
@@ -103,7 +105,7 @@ pub data IsOutcomeBy {N V D : Type 0} (net : Network N V D) (wire : LinkFacts V)
 
 -- What a job wrote on its output, and of the warnings about its modules on standard error. If it
 -- was refused before the modules were loaded, it wrote nothing. Otherwise it first wrote the lines
--- of the warnings, or a prefix of them if standard error failed, and then went on with these
+-- of the warnings, or a prefix of them if standard error failed, and then continued with these
 -- modules.
 pub data IsOutcome {N V D : Type 0} (net : Network N V D) (wire : LinkFacts V) (Loads : LoadFacts)
     (words : AskWords) (before after : Seen N) (fault : Option Fault) : Type 0 where
@@ -118,9 +120,9 @@ pub data IsOutcome {N V D : Type 0} (net : Network N V D) (wire : LinkFacts V) (
 
 -- ---- what is reported
 
--- Without a fault, the status is 0 and nothing is reported. Otherwise the status is that of the
--- fault. Its line is written to standard error, or `Out of memory.` if there was no memory for the
--- line. If standard error fails, it takes a prefix of what is written.
+-- Without a fault, the status is 0 and nothing is reported. Otherwise the fault determines the
+-- status, and its line, or the line `Out of memory.`, is written to standard error. If standard
+-- error fails, it takes a prefix of that line.
 abbrev pub IsReported : Option Fault → Stream → Stream → ℕ → Type 0
 IsReported None before after status = (status ≡ 0) × (after ≡ before)
 IsReported (Some why) before after status =

@@ -54,8 +54,8 @@ AskingFails words agent_step why =
 
 -- ---- module files, names and agents
 
--- `why` is the reason of the first module file that can't be read or whose text has a fault, and
--- it isn't known that the files hold modules
+-- `why` is the reason of the first module file that fails (`FilesFail`), and it isn't known that
+-- all the files hold modules
 abbrev pub MibsFail : Holdings → (paths : List (List ℕ)) → Fault → Type 0
 MibsFail files paths why =
     (refusal : Refusal) × FilesFail files paths refusal × (why ≡ bad_modules refusal)
@@ -72,7 +72,8 @@ IsOptionalName mib None name = name ≡ None
 IsOptionalName mib (Some text) name =
     (o : List ℕ) × TextMeans mib text (Ok o) × (name ≡ Some o)
 
--- the agent's table file defines a table, or the agent is reached over the network
+-- the agent's table file defines a table, as far as it is known, or the agent has no table file:
+-- it is asked over the network
 abbrev pub IsReached : Holdings → Contents → Address → Type 0
 IsReached files mib (table path) = (view : MibView) × HasTable files mib path view
 IsReached files mib (udp host port) = Unit {0}

@@ -28,11 +28,11 @@ pub record IsTranslated (Loads : LoadFacts) (words : TranslateWords) (files : Ho
   pub warned : Stream
   pub outcome : IsTranslateOutcome Loads words files out_before out_after err_before warned fault
   pub is_reported : IsReported fault warned err_after status
-  -- at status 0, if the module files are known, the texts of all names are printed, and nothing
-  -- else
+  -- at status 0, if the letters have a meaning and it is known which modules the files hold, the
+  -- texts of all names are printed, and nothing else
   pub all_at_status_0 : status ≡ 0 → PrintsAll words files out_before out_after
-  -- whatever fails, if the module files are known, nothing is printed, or a prefix of the texts of
-  -- the first names
+  -- whatever fails, if the letters have a meaning and it is known which modules the files hold,
+  -- nothing is printed, or a prefix of the texts of the first names
   pub prefix : PrintsPrefix words files out_before out_after
 
 -- how snmpd ended, and what it reports after the warnings about its modules
@@ -60,8 +60,8 @@ IsJobDone {N} {V} {D} net wire Loads (snmpbulkwalk words) before after status =
 IsJobDone {N} {V} {D} net wire Loads (snmpd words) before after status =
     IsServeRun net Loads words before after status
 
--- If the arguments `words` have no fault, then what is promised of the job that they ask for
--- holds: it ended with `status`, and took the world outside from `before` to `after`.
+-- If the arguments `words` have no fault, then the job that they ask for ended with `status`, and
+-- took the world outside from `before` to `after`, as `IsJobDone` says.
 abbrev pub AreWordsDone : {N V D : Type 0} → Network N V D → LinkFacts V → (words : List (List ℕ))
     → (before after : Seen N) → (status : ℕ) → Type 0
 AreWordsDone {N} {V} {D} net wire words before after status = (job : Stated) → AreFaultless words

@@ -75,7 +75,7 @@ name_fault name.BadIndex = codes "Bad index: "
 name_fault name.BadNumber = codes "Bad number: "
 name_fault name.TooLong = codes "Name too long: "
 
--- the message about a fault in the table file at a path
+-- the message about a fault in the table file at a path, or that memory ran out
 abbrev pub table_message : List ℕ → TableError → List ℕ
 table_message path (table.BadLine line) = path ++ codes ":" ++ decimal line ++ codes ": bad line"
 table_message path (table.BadName line) = path ++ codes ":" ++ decimal line ++ codes ": bad name"

@@ -2,9 +2,9 @@
 --
 -- `IsAsk` says what the arguments ask for. `AskFor` (Question) reads the arguments, with names by
 -- the modules of `AreLoaded` (load/Loaded). `IsTableOf` (snmp_agent) reads the table file.
--- `AreRowsOf` (Answer) has the rows: of a Get by `AreGot`, of a walk by `walk_of` and `rest_of`
--- (snmp_walk). `AreLines` (Lines) has their lines, by `IsLine` (smi_show), and `count_text` the
--- line of -Cp.
+-- `AreRowsOf` (Answer) says which rows are the answer: for a Get by `AreGot`, for a walk by
+-- `walk_of` or `rest_of` (all in snmp_walk). `AreLines` (Lines) says what their lines are, by
+-- `IsLine` (smi_show). `count_text` is the line of -Cp, if that is asked for.
 use Rattle.std.specs.Prelude.{◌≡◌, ◌⊎◌, ◌++◌, ℕ, List, length, codes}
 use Rattle.std.specs.Str.Lines.{lines}
 use Rattle.snmp_tools.specs.{load.Warned.warning_lines, serve.TableFile.AreNamesIn}
@@ -36,7 +36,7 @@ pub record IsAsk (words : AskWords) (files : Holdings) (rows : List VarBind) : T
   pub table : IsTableOf names (lines text) view
   pub are_rows : AreRowsOf plan.question view rows
 
--- `text` is the lines of the rows, and with -Cp the line of their number
+-- `text` is the lines of the rows and, with -Cp, the line that says how many rows there are
 abbrev pub IsWholeText : Contents → Plan → (rows : List VarBind) → List ℕ → Type 0
 IsWholeText mib plan rows text = (shown : List ℕ) × AreLines mib plan.letters rows shown
     × (text ≡ shown ++ count_text (counts_in plan.question) (length rows))

@@ -29,14 +29,15 @@ no_choices = record {
 
 -- ---- letters
 
--- `text` is the octets of `letters` in order, each letter with the digits after it
+-- `text` is these letters in order, each followed by its digits; a letter is any octet that isn't
+-- a digit
 abbrev pub AreLettersIn : (text : List ℕ) → (letters : List (ℕ × List ℕ)) → Type 0
 AreLettersIn text [] = text ≡ []
 AreLettersIn text ((letter, digits) ∷ more) = (rest : List ℕ)
     × (text ≡ letter ∷ (digits ++ rest)) × (is_ascii_digit letter ≡ false)
     × (list_all is_ascii_digit digits ≡ true) × AreLettersIn rest more
 
--- the letter has a meaning without digits after it: `i`, `p` or, for snmpwalk, `I`
+-- the letter has a meaning without digits after it: `i`, `p` or, for snmpwalk (not `bulk`), `I`
 abbrev pub IsPlain : (bulk : Bool) → (letter : ℕ) → Type 0
 IsPlain bulk letter = (letter ≡ 105) ⊎ ((letter ≡ 112) ⊎ ((bulk ≡ false) × (letter ≡ 73)))
 

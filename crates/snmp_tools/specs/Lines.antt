@@ -19,7 +19,7 @@ AreLines mib letters (binding ∷ more) text =
     × AreLines mib letters more rest × (text ≡ line ++ rest)
 
 -- The lines of the rows were written whole. If the run ended because the output failed, a prefix
--- of the line of the refused row was written too.
+-- of the line of the refused row, if there is one, was written too.
 abbrev pub IsPrintedUpTo : Contents → Letters → Stream → (rows refused : List VarBind) → WalkEnd
     → Stream → Type 0
 IsPrintedUpTo mib letters before rows refused (ending.Sink fault.Output) after =

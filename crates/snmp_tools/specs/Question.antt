@@ -49,7 +49,7 @@ abbrev pub HasChosen : Request → Choices → Type 0
 HasChosen (get texts) choices = choices ≡ no_choices
 HasChosen (walk bulk letters after name) choices = HaveChosen bulk letters choices
 
--- `octet` is the first of the letters of -C that has no meaning
+-- `octet` is the first octet without a meaning in the letters of -C; a Get has no such letters
 abbrev pub HasUnknown : Request → (octet : ℕ) → Type 0
 HasUnknown (get texts) octet = ⊥
 HasUnknown (walk bulk letters after name) octet = IsFirstUnknown bulk letters octet
@@ -104,7 +104,7 @@ IsQuestionOf (walk bulk letters after name) choices mib (subtree w) =
     IsWalkOf bulk choices after name mib w
 IsQuestionOf request choices mib _ = ⊥
 
--- the arguments ask for `plan`, with names by `mib`
+-- the arguments ask for `plan`, with names looked up in `mib`
 pub record AskFor (words : AskWords) (mib : Contents) (plan : Plan) : Type 0 where
   pub version : words.asking.protocol ≡ codes "2c"
   pub letters : AreShown words.asking.letters plan.letters
@@ -116,7 +116,8 @@ pub record AskFor (words : AskWords) (mib : Contents) (plan : Plan) : Type 0 whe
   pub agent : IsAgent words.asking.agent plan.agent
   pub question : IsQuestionOf words.request choices mib plan.question
 
--- the arguments ask for `plan`, by the tree that the job loads, and for no other agent
+-- the arguments ask for `plan`, with names looked up in `mib`, a tree that the job can have
+-- loaded, as far as it is known what the files hold; and they name no other agent
 pub record IsPlanFor (words : AskWords) (files : Holdings) (mib : Contents) (plan : Plan) : Type 0
   where
     pub known : IsMibOf (MayHold files) words.asking mib
@@ -203,7 +204,7 @@ FailsFor words files choices_step why =
     (letter : ℕ) × HasUnknown words.request letter × (why ≡ bad_letter letter)
 FailsFor words files mibs_step why = MibsFail files words.asking.mibs why
 
--- a later step is done, with names by `mib`
+-- a later step is done, with names looked up in `mib`
 abbrev pub IsDoneBy : AskWords → Holdings → Contents → LaterStep → Type 0
 IsDoneBy words files mib (name_step text) = HasMeaning mib text
 IsDoneBy words files mib reach_step = OfAgent words (IsReached files mib)
@@ -211,7 +212,7 @@ IsDoneBy words files mib (sent_step text) = HasSendable mib text
 IsDoneBy words files mib (below_step root_text text) =
     HaveNames mib root_text text (λ root after. IsAtOrBelow after root)
 
--- a later step fails for the reason `why`, with names by `mib`
+-- a later step fails for the reason `why`, with names looked up in `mib`
 abbrev pub FailsBy : AskWords → Holdings → Contents → LaterStep → Fault → Type 0
 FailsBy words files mib (name_step text) why = NameFails mib text why
 FailsBy words files mib reach_step why = OfAgent words (λ agent. ReachFails files mib agent why)

@@ -19,7 +19,8 @@ string_text (octet ∷ more) =
     then codes "STRING: \"" ++ flat_map escape_octet (octet ∷ more) ++ codes "\""
     else codes "Hex-STRING: " ++ hexadecimal_text (octet ∷ more)
 
--- a value after the name of its type; NULL and the exceptions have a text of their own
+-- a value after the name of its type; for an empty string, NULL and the exceptions, no type is
+-- named
 abbrev pub value_text : Datum → List ℕ
 value_text (integer_value n) = codes "INTEGER: " ++ signed_decimal n
 value_text (octet_string octets) = string_text octets

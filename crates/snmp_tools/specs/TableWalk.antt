@@ -26,9 +26,9 @@ table_walk path root =
     ∷ []
 
 -- `path` isn't empty, and the file there is known to hold `text`. The lines of `text` define a
--- table, and don't begin with `#snmptab 2`, the mark of the second format of table files. The root
--- can be sent: it has at least two numbers, the first is from 0 to 2, and after 0 or 1 the second
--- is below 40.
+-- table, and don't begin with `#snmptab 2`, the mark of the second format of table files. `root`
+-- is an identifier that can be sent: it has at least two numbers, the first is from 0 to 2, and
+-- after 0 or 1 the second is below 40.
 pub record HoldsTableFile (files : Holdings) (path root text : List ℕ) : Type 0 where
   pub named : path ≢ []
   pub held : Holds files path text
@@ -74,9 +74,9 @@ pub record PrintsRows (lines : List (List ℕ)) (root : List ℕ)
   pub prefix : TakesPrefix before (flat_map row_line rows) after
   -- at status 0 all of their lines are written
   pub all : status ≡ 0 → after ≡ stream_after before (flat_map row_line rows)
-  -- If strings are short and there are fewer rows than ids of requests, the status is 0, unless
-  -- the output fails or memory runs out. The latter is reported, and nothing before it; if
-  -- standard error fails, it takes a prefix of the report.
+  -- If no string in the file has more than 700 octets, and there are at most 2147483644 rows to
+  -- print, the status is 0, unless the output fails or memory runs out. The latter is reported,
+  -- and nothing before it; if standard error fails, it takes a prefix of the report.
   pub ends : ((row : VarBind) → HasRow first_format lines row → IsShort row.value)
       → length rows ≤ 2147483644
       → (status ≡ 0)

@@ -10,14 +10,14 @@ abbrev pub AreFaultless : List (List ℕ) → Type 0
 AreFaultless words = (is_taken words ≡ true) ⊎ (faults_of words ≡ [])
 
 -- `text`, help or the version, was printed, nothing was reported, and the status is 0; or the
--- output failed, which was reported, and the status is 1
+-- output failed, this was reported unless the error output failed too, and the status is 1
 abbrev pub PrintsHelp : List ℕ → (before after err_before err_after : Stream) → ℕ → Type 0
 PrintsHelp text before after err_before err_after status =
     ((after ≡ stream_after before text) × (err_after ≡ err_before) × (status ≡ 0))
     ⊎ (FailsWithin before text after × IsWritten err_before (codes "The output failed.\n") err_after
     × (status ≡ 1))
 
--- nothing was printed, `text` was reported, and the status is 1
+-- nothing was printed, `text` was reported unless the error output failed, and the status is 1
 abbrev pub ReportsOnly : List ℕ → (before after err_before err_after : Stream) → ℕ → Type 0
 ReportsOnly text before after err_before err_after status =
     (after ≡ before) × IsWritten err_before text err_after × (status ≡ 1)

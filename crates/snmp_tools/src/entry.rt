@@ -19,14 +19,15 @@ use std::alloc::Global;
 /// first is the program's name.
 ///
 /// The status is 0 if all of it was done, 2 if an agent replied with an error status, and 1 in any
-/// other case. A failure is reported as one line on `err`; a mistake in the syntax of the command
-/// line may take several lines.
+/// other case. A failure is reported on `err` as one message; for a mistake in the syntax of the
+/// command line it may have several lines.
 ///
-/// The clause `done` says what a job does, by the records that [`run_job`] lists. The clause
-/// `rows_printed` says in plain terms (`specs/TableWalk.antt`) what one command line prints:
-/// `snmpwalk -On table:PATH ROOT`. The clause `help_or_mistake` is about arguments with mistakes,
-/// or that ask for help or the version: the error that is shown (`ShowsError`) is one that
-/// [`read_words`] may return for them.
+/// The clause `done` says what a job does, by the records that [`run_job`] lists, if the arguments
+/// have no fault (`AreFaultless`). The clause `rows_printed` says in plain terms
+/// (`specs/TableWalk.antt`) what one command line prints: `snmpwalk -On table:PATH ROOT`, if it is
+/// known which table the file holds (`HoldsTableFile`). The clause `help_or_mistake` is about
+/// arguments with mistakes, or that ask for help or the version: the error that is shown
+/// (`ShowsError`) is one that [`read_words`] may return for them.
 pub fn tool<F: Files, L: Links, O: Output, E: Output>(
     alloc: Global,
     words: &[&str],
@@ -35,9 +36,9 @@ pub fn tool<F: Files, L: Links, O: Output, E: Output>(
     out: &mut O,
     err: &mut E,
 ) -> u8
-    // A walk of a table file in numbers prints the lines of the rows below the root or, if there
-    // are none, the line of what a Get of the root returns. It prints all of this at status 0, and
-    // a prefix of it otherwise.
+    // If a table file is known (`HoldsTableFile`), a walk of it in numbers prints the lines of the
+    // rows below the root or, if there are none, the line of what a Get of the root returns. It
+    // prints all of this at status 0, and a prefix of it otherwise.
     ensures rows_printed { (path root text : List ℕ)
         → texts_at words.now ≡ table_walk path root
         → HoldsTableFile (F.text_at files.now) path root text

@@ -37,12 +37,12 @@ pub enum Failure<'a> {
     Unreadable(&'a str),
     /// The table file at this path has this fault, or memory ran out while it was read.
     Table(&'a str, TableError),
-    /// The name has no encoding, so it can't be sent.
+    /// The name can't be sent: it has no encoding, even padded with zeros to two numbers.
     NotWire(&'a str),
     /// The name of `--after` is neither the root nor below it.
     AfterOutsideRoot(&'a str),
-    /// The walk or Get of this agent ended early, or no socket could be opened at this address of
-    /// `--listen`. The end says why.
+    /// The walk or Get of this agent ended early, or no link to it could be opened, or no socket
+    /// could be opened at this address of `--listen`. The end says why.
     Ended(&'a str, WalkEnd),
     /// The output failed.
     Output,
@@ -137,7 +137,7 @@ fn name_fault<'a>(error: &NameError) -> &'a [u8]
     }
 }
 
-/// Appends the message about a fault of the table file at `path`.
+/// Appends the message about a fault of the table file at `path`, or that memory ran out.
 fn table_message(fault: &TableError, path: &str, out: &mut Draft)
     ensures { Adds out.old (table_message path.now fault.now) out.new }
 {
@@ -169,7 +169,7 @@ fn end_message(end: &WalkEnd, agent: &str, out: &mut Draft)
     }
 }
 
-/// Appends the message about the name `got`, which isn't greater than `last`, the name before it.
+/// Appends the message that the name `got` isn't greater than `last`, the name before it.
 fn falling_message(out: &mut Draft, last: &Oid, got: &Oid)
     ensures { Adds out.old (codes "Error: OID not increasing: " ++ numeric_text last.now
         ++ codes " >= " ++ numeric_text got.now) out.new }

@@ -24,21 +24,22 @@ use std::alloc::{AllocError, Global};
 /// Does a job, and returns the exit status: 0 if all of it was done, 2 if an agent replied with an
 /// error status, and 1 in any other case.
 ///
-/// The lines of a reply are written to `out` together, when it arrives. A failure is reported as
-/// one line on `err`. If a write to `err` fails, nothing else changes.
+/// The lines of a reply are written to `out` together, when it arrives. A failure is reported on
+/// `err` as one message. If a write to `err` fails, nothing else changes.
 ///
-/// What `done` promises is in the fields of records (`specs/Done.antt`), one for each command:
+/// What `done` promises is in the fields of three records (`specs/Done.antt`):
 ///
 /// - snmpget, snmpwalk and snmpbulkwalk (`IsAskDone`): `outcome_reported` lists how the job can
 ///   end: the step that refused it, or the link that it asked over, what it printed, how it left
 ///   the network, and what it reported. `rows_written` is about a table file whose text is known
 ///   (`specs/Headline.antt`). Whatever fails, only a prefix of the lines is written
-///   (`prefix_written`). At status 0 all of them are (`all_written_at_status_0`), and the status
-///   is 0 if nothing prevents it (`ends_at_status_0`).
+///   (`prefix_written`). At status 0 all of them are (`all_written_at_status_0`). If the question
+///   can be sent and there is room for it (`IsFeasible`), the status is 0, unless the output fails
+///   or memory runs out (`ends_at_status_0`).
 /// - snmptranslate (`IsTranslated`): `outcome` lists how the job can end, and `is_reported` says
-///   what it reports. If it is known what the module files hold, then only a prefix of the names'
-///   texts is printed, whatever fails (`prefix`), and at status 0 all of them are
-///   (`all_at_status_0`). The network stays as it was.
+///   what it reports. If the letters have a meaning and it is known which modules the files hold,
+///   then only a prefix of the names' texts is printed, whatever fails (`prefix`), and at status 0
+///   all of them are (`all_at_status_0`). The network stays as it was.
 /// - snmpd (`IsServeRun`): `outcome` lists how the job can end, and `reported` says what it
 ///   reports.
 pub fn run_job<F: Files, L: Links, O: Output, E: Output>(
@@ -113,7 +114,6 @@ fn report<E: Messages>(alloc: Global, done: Result<(), Failure<'_>>, err: &mut E
 /// Writes the line of a message to `err`, or `Out of memory.` if there was no memory for the line.
 fn tell_line<E: Messages>(line: Result<Vec<u8>, AllocError>, err: &mut E)
     ensures whole { IfOk line (λ text. IsWritten (E.stream err.old) text.items (E.stream err.new)) }
-    // `Out of memory.` is written instead of another message only if memory for that ran out.
     ensures no_memory { OnErr line (
         IsWritten (E.stream err.old) (codes "Out of memory.\n") (E.stream err.new)) }
 {

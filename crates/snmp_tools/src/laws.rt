@@ -24,8 +24,9 @@ use snmp_walk::{honest_networks, instances_below, short_rows_have_room};
 use snmp_words::walks_are_taken;
 
 /// The command line `snmpwalk -On table:PATH ROOT`, with ROOT in numbers, is accepted and asks for
-/// that walk. What is promised of every walk over a table (`WritesRowsOf`) says which rows this
-/// one prints (`PrintsRows`).
+/// that walk. If the file at PATH is known to hold a table in the first format, and ROOT can be
+/// sent (`HoldsTableFile`), then what is promised of every walk over a table (`WritesRowsOf`) says
+/// which rows this one prints (`PrintsRows`).
 ///
 /// A law: the call does nothing, and its caller may use what it ensures.
 #[inline]
@@ -99,10 +100,11 @@ pub fn memory_serves_in_turn()
         ⟦<MemoryDoor<'static> as Endpoint>⟧.happens }
 {}
 
-/// If `snmpd` serves a table file to `snmpwalk -On AGENT ROOT`, both without module files, then
-/// the walk asks for the rows of the file below the root. If there are none, it asks for what a
-/// Get of the root returns. [`served_tables`] says what it prints of these rows: their lines in
-/// numbers.
+/// Let `snmpd` serve a table file to `snmpwalk -On AGENT ROOT`, both without module files, with
+/// ROOT in numbers (`IsWalkInNumbers`). If the file is known to hold a table in the first format,
+/// and ROOT can be sent (`HoldsTableFile`), the walk asks for the rows of the file below the root.
+/// If there are none, it asks for what a Get of the root returns. [`served_tables`] says what it
+/// prints of these rows: their lines in numbers.
 ///
 /// A law: the call does nothing, and its caller may use what it ensures.
 pub fn served_walks_in_numbers()

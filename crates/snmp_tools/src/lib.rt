@@ -42,8 +42,8 @@ pub use snmp_words::{
     Asking, GetJob, Job, ServeJob, TranslateJob, UsageError, WalkJob, read_words,
 };
 
-// For tests, and for callers with messages of their own: why a job wasn't done, and loading module
-// files without a job.
+// For tests: why a job wasn't done, with the messages. For callers that load module files without a
+// job: `load_tree` and its error.
 pub use failure::Failure;
 pub use load::{FilesError, load_tree};
 

@@ -1,7 +1,5 @@
 //! Files of SMIv2 modules: they are read and parsed whole, in the order of the arguments, and
 //! their modules are loaded into one tree of names.
-//!
-//! Depends on the parser (`smi_text`), the tree (`smi_tree`) and files (`snmp_io`).
 ghost use Rattle.std.specs.Prelude.{◌≡◌, IfErr, IfOk, List, OnErr, ℕ, OnOk};
 ghost use Rattle.smi_text.specs.declared.trees.tree.Module.{Module};
 ghost use Rattle.snmp_tools.specs.load.Files.{AreModulesOf, IsFilesRefusal, no_memory, texts};
@@ -38,7 +36,7 @@ pub fn load_tree<'a, F: Files, E: Output>(
         (texts paths.now) tree (E.stream err.old) (E.stream err.new)) }
     ensures refused { IfErr result (λ e.
         IsFilesRefusal (F.text_at files.now) (texts paths.now) (refusal_of e)) }
-    // Files that are known to hold modules are loaded, unless memory runs out.
+    // If all the files are known to hold modules, they are loaded, unless memory runs out.
     ensures only { (ms : List Module)
         → AreModulesOf (Holds (F.text_at files.now)) (texts paths.now) ms
         → IfErr result (λ e. refusal_of e ≡ no_memory) }
@@ -73,8 +71,8 @@ pub(crate) trait ModuleLoader<E: Messages>: Files {
     ) -> Result<Tree, FilesError<'a>>
         ensures loaded { IfOk result (λ tree. IsLoaded (MayHold (Self.text_at self.now))
             (texts paths.now) tree (E.stream err.old) (E.stream err.new)) }
-        // No other clause says this of the error output. So a job that acts before it loads, or
-        // that writes the warnings by itself, doesn't meet its contract.
+        // No other clause ensures `loads`, which a job promises of its error output. So a job that
+        // acts before it loads, or that writes the warnings by itself, doesn't meet its contract.
         ensures loads { OnOk result (
             loads self.now (texts paths.now) (E.stream err.old) (E.stream err.new)) }
         ensures refused { IfErr result (λ e.

@@ -1,4 +1,4 @@
-//! Names in arguments: each is looked up, and each name of a Get must have an encoding.
+//! Names in arguments: each is looked up, and it is checked that each name of a Get can be sent.
 ghost use Rattle.std.specs.Prelude.{◌≡◌, ◌⊎◌, List, ℕ, All, IfErr, IfOk, Ok, OnOk, Some, length};
 ghost use Rattle.std.specs.Prelude.{option_map};
 ghost use Rattle.smi_show.specs.name.Meant.{TextMeans};
@@ -74,8 +74,9 @@ pub(crate) fn read_names<'a>(
     Ok(names)
 }
 
-/// Checks that each name has an encoding. `texts[i]` is the argument that `names[i]` came from;
-/// the error holds the argument of the first name that has none.
+/// Checks that each name has an encoding, perhaps padded with zeros to two numbers. `texts[i]` is
+/// the argument that `names[i]` came from; the error holds the argument of the first name that
+/// has none.
 pub(crate) fn check_names<'a>(texts: &[&'a str], names: &[Oid]) -> Result<(), Failure<'a>>
     requires { length names.now ≡ length texts.now }
     ensures sendable { OnOk result (All (λ o. IsWire (wire o)) names.now) }

@@ -187,7 +187,7 @@ pub(crate) struct Walk<'a> {
     pub(crate) after_text: &'a str,
     /// The name to continue after, if one was passed.
     pub(crate) after: Option<Oid>,
-    /// What the walk returns besides the instances below the root.
+    /// What the walk returns besides the instances below the root, if it begins at the root.
     pub(crate) mode: Mode,
     /// The requests that it sends for instances: GetNext or GetBulk.
     pub(crate) method: Method,

@@ -23,8 +23,8 @@ use snmp_words::ServeJob;
 use std::alloc::{AllocError, Global};
 
 /// Serves a table file as the arguments of snmpd ask, with its names looked up in the module
-/// files. Prints where requests are received, serves the turns (each a request, or a wait without
-/// one), and prints how many requests were replied to and how many dropped.
+/// files. Prints where requests are received, serves the turns (each takes at most one request),
+/// and prints how many requests were replied to and how many dropped.
 ///
 /// Before a socket is opened, the arguments are judged, then the module files and then the table
 /// file. Warnings about the modules go to `err`. If a write to `err` fails, nothing else changes.

@@ -1,8 +1,8 @@
 //! The job of snmptranslate: prints names as the letters of `-O` say, or their details, by the
 //! modules of its module files.
 //!
-//! It uses the parsed command line, the tree that is loaded from module files, and the texts of names
-//! and details. The module `job` calls it, and reports what failed.
+//! It uses the parsed command line, the tree that is loaded from module files, and the texts of
+//! names and details. The module `job` calls it, and reports what failed.
 ghost use Rattle.snmp_words.specs.Words.{translate_words, texts_at};
 ghost use Rattle.snmp_tools.specs.{FaultText.outcome_of};
 ghost use Rattle.snmp_tools.specs.{translate.TranslateResult.IsTranslateOutcome};

@@ -87,9 +87,9 @@ pub record StatesNumber (low high : ℕ) (text : Text) (n : ℕ) : Type 0 where
   pub from : low ≤ n
   pub to : n ≤ high
 
--- n is the number of option `id`: the one that its text writes, or `default` if no text was given.
--- A text that doesn't write a number of the range counts as `default` too, but the command refuses
--- it first.
+-- n is the number of option `id`: the one that the first text given for it writes, or `default` if
+-- no text was given. A text that doesn't write a number of the range counts as `default` too, but
+-- the command refuses it first.
 abbrev pub IsNumberOf : Text → (default low high : ℕ) → List Row → ℕ → Type 0
 IsNumberOf id default low high rows n =
     MatchOption (first_of id rows) (n ≡ default) (λ text. StatesNumber low high text n

@@ -11,8 +11,8 @@ use std::alloc::{AllocError, Global};
 /// The version of the program.
 pub(crate) const VERSION: &str = "0.7.0";
 
-// What help says of the walks, and what follows the help of each command: an example that needs no
-// file, the exit statuses, and what to read.
+// What help says of the walks, and what follows the help of each subcommand: an example that needs
+// no file, the exit statuses, and what to read.
 const TRANSLATE_END: &str = "\
 Example:
   snmp snmptranslate -On iso.3.6.1.2.1.1.5.0

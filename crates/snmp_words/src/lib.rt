@@ -1,7 +1,7 @@
 //! The arguments of a command line, read by `clap` into the job that they ask for.
 //!
-//! Only the shape of the arguments is checked here. The tools check whether letters, agent and
-//! names have a meaning.
+//! Only the shape of the arguments and the ranges of numbers are checked here. Whether letters,
+//! the agent and names have a meaning is checked when the job is done.
 //!
 //! # Examples
 //!

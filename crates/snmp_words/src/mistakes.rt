@@ -227,8 +227,8 @@ fn push_tips(
     Ok(())
 }
 
-/// Returns the tip on the version if the text after a `-v`, in the same word or in the next one
-/// that isn't empty, isn't `2c`. So `-v=2c` has the tip too.
+/// Returns the tip on the version if the text after a `-v`, in the same argument or in the next
+/// one that isn't empty, isn't `2c`. So `-v=2c` has the tip too.
 fn tip_on_version(words: &[&str]) -> Option<&'static str> {
     let mut is_next = false;
     for word in words {

@@ -1,4 +1,4 @@
--- A sink that counts each row that it takes counts the rows of a poll by column.
+-- After a poll whose sink counts rows by column, the counts are as `AreCounted` says (`counts_of_walk`, `counted`).
 use Rattle.std.proofs.Common.{arith, ◌≡◌, ◌≢◌, ◌∙◌, ◌+◌, ◌<◌, ◌≤◌, ◌++◌, ◌⊎◌, inl, inr, ℕ, List, [], ◌∷◌, Bool, true, false, cond, Option, Some}
 use Rattle.std.proofs.Common.{length, drop, refl, sym, ap, subst, append_assoc, append-nil, length-append, length-drop}
 use Rattle.std.proofs.lemmas.{List.append_cancel_left, List.Prefix.front_rest, List.Elements.filter-append, Slice.Eq.starts_is, Grind.common_steps}
@@ -54,7 +54,7 @@ filtered_twice : (p q : VarBind → Bool) → ((x : VarBind) → p x ≡ true �
 filtered_twice p q within [] = refl
 filtered_twice p q within (x ∷ xs) = grind (arith, common_steps, filtered_twice p q within xs, within x)
 
--- of the rows below the entry, those of a column are those of all rows
+-- a column has the same rows among the rows below the entry as among all rows
 of_column : (entry : List ℕ) (number : ℕ) (rows : List VarBind) → rows_of_column entry number (rows_below entry rows) ≡ rows_of_column entry number rows
 of_column entry number rows = filtered_twice (λ (row : VarBind). is_below row.name (entry ++ number ∷ [])) (λ (row : VarBind). is_below row.name entry)
     (λ row passed. passes entry row.name (below_entry entry row.name number (below (entry ++ number ∷ []) row.name passed))) rows
@@ -122,7 +122,7 @@ counted_both old between new xs ys a b = record {
       omega (arith, first, second, parts);
 }
 
--- the sink counted the rows that it took, also in a walk that it ended by refusing one
+-- the sink counted the rows that it took (`counted_all`), also in a walk that it ended by refusing one (`counted_took`)
 counted_all : (old new : ColumnCounts) (rows : List VarBind) → TakesAll CountsRow old rows new → HasCounted old rows new
 counted_all old new [] h = subst (λ (c : ColumnCounts). HasCounted old [] c) (sym h) (record { entry = refl; counts = λ q. omega arith })
 counted_all old new (row ∷ rows) h = counted_both old h.0 new (row ∷ []) rows h.1 (counted_all h.0 new rows h.2)
@@ -132,14 +132,14 @@ counted_took old new rows refused (ending.Sink fault) h = subst (λ (all : List 
     (counted_both old h.0 new rows [] (counted_all old h.0 rows h.1) h.2.2)
 counted_took old new rows refused end h = counted_all old new rows h.0
 
--- if all counts were 0 before a walk, they are those of the rows that the sink took in it
+-- if all counts were 0 before a walk, then after it they count the rows that the sink took
 pub counts_of_walk : (entry : List ℕ) (old new : ColumnCounts) (rows refused : List VarBind) (end : WalkEnd) → entry_of old ≡ entry
     → ((number : ℕ) → count_of old number ≡ 0) → Took CountsRow old rows refused end new → AreCountsOf entry rows new
 counts_of_walk entry old new rows refused end is none took =
     let h = counted_took old new rows refused end took in
     subst (λ (o : List ℕ). AreCountsOf o rows new) is (λ q. let before = none q in let after = h.counts q in omega (arith, before, after))
 
--- counts of rows with which a table's rows begin are those of the table, if these are all its rows below the entry
+-- if the counts count `rows`, and `rows` are a prefix of the table's rows below the entry (`IsBeginning`), then the counts are as `AreCounted` says
 pub counted : (view : MibView) (entry : List ℕ) (end : WalkEnd) (rows : List VarBind) (counts : ColumnCounts) → AreCountsOf entry rows counts
     → IsBeginning view entry end rows → AreCounted view entry end counts
 counted view entry end rows counts are begins = record {

@@ -1,5 +1,5 @@
 -- If the events over a `Direct`, a link to an agent that is called at each receive, begin with a send,
--- then all that arrives are the agent's replies to what was sent in these events.
+-- then each datagram that arrives is the agent's reply to one that was passed to a send before, in these events.
 use Rattle.std.proofs.Common.{◌≡◌, ◌∙◌, ◌⊎◌, inl, inr, ⊎_elim, ℕ, List, [], ◌∷◌, ◌++◌, Some, None, refl, sym, ap, subst}
 use Rattle.snmp_agent.specs.{Event.Event, Event.InTurn, Event.came, Event.silence, Event.receive_failed, Event.sent, Event.send_failed}
 use Rattle.snmp_agent.specs.Reply.{Agent, IsReply}

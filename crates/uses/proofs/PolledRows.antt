@@ -26,7 +26,8 @@ begun from_root root community method id first ok rows refused P follows agents 
     follows view end good
     (refused ++ part.0, sym rest ∙ (part.1 ∙ append_assoc rows refused part.0), (λ done. given.rest_at_done view tables no_get done ∙ rest))
 
--- If `P` follows of a prefix of a table's rows below the root, it holds after a walk over an honest link, and after any walk in which only replies arrived.
+-- If `P` holds whenever `rows` are as `IsBeginning` says, then it holds after a walk over an honest link to an agent with one table, and after any walk in
+-- which only replies of such an agent arrived.
 pub walked : {W : Type 0} (facts : LinkFacts W) → ((link : W) → facts.honest link → AreLawful (facts.agents link)) → FromRoot → (link after : W) (tries : ℕ)
     (root community : List ℕ) (method : Method) (id : ℕ) (first : WalkState) → first ≡ start_state root mode.NoLast method community id
     → (rows refused : List VarBind) (end : WalkEnd) → IsWalkedOver facts link after tries first rows refused end → (P : MibView → WalkEnd → Type 0)

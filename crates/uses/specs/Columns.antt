@@ -38,13 +38,13 @@ abbrev pub CountsRow : ColumnCounts → VarBind → Result (Unit {0}) SinkFault 
 CountsRow old row (Ok _) new = HasCounted old (row ∷ []) new
 CountsRow old row (Err fault) new = HasCounted old [] new
 
--- The counts are those of the table's rows below the entry: of all of them if the poll is done, and
--- otherwise of the first of them.
+-- The table's rows below the entry were counted: all of them if the poll is done, and otherwise
+-- the first of them (perhaps none, perhaps all).
 pub record AreCounted (view : MibView) (entry : List ℕ) (end : WalkEnd) (counts : ColumnCounts)
     : Type 0 where
   -- a prefix of the table's rows below the entry was counted,
   pub rows : List VarBind
   pub begins : IsBeginning view entry end rows
   pub counted : AreCountsOf entry rows counts
-  -- and at the end the count of each column is the number of its instances in the table
+  -- and if the poll is done, the count of each column is the number of its instances in the table
   pub all : IsDone end → AreCountsOf entry (variables view) counts

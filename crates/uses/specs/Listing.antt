@@ -17,7 +17,7 @@ pub record Seen : Type 0 where
 abbrev pub seen_column : Column → Seen
 seen_column column = record { label = column.label.now; oid = column.oid.now }
 
--- whether a definition is that of an object
+-- whether a definition is an OBJECT-TYPE
 abbrev pub is_object : DefKind → Bool
 is_object (kind.ObjectType object) = true
 is_object _ = false

@@ -11,7 +11,7 @@ use Rattle.snmp_walk.specs.Walk.{rows_below}
 use Rattle.uses.specs.declared.subtrees.Subtree.{Subtree}
 
 -- `rows` are instances of `view` below `root`, each once and in order: all of them if `end` says
--- that the poll is done, and otherwise those up to some place (perhaps none, perhaps all).
+-- that the poll is done, and otherwise the first of them (perhaps none, perhaps all).
 pub record IsPolled (view : MibView) (root : List ℕ) (end : WalkEnd) (rows : List VarBind)
     : Type 0 where
   -- each row is an instance of the table below the root,

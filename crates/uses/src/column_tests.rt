@@ -30,7 +30,7 @@ fn rows_are_counted_by_column(rt: HostRuntime) {
     assert!(&rt; counts.count(5) == 1);
 }
 
-/// A table with three columns, and a node below its entry that is no column.
+/// A table with three columns, and a node below its entry that isn't a column.
 const PORTS: &[u8] = b"PORT-MIB DEFINITIONS ::= BEGIN
 ports OBJECT IDENTIFIER ::= { iso 5 }
 portTable OBJECT-TYPE SYNTAX SEQUENCE OF PortEntry MAX-ACCESS not-accessible

@@ -1,4 +1,4 @@
-//! A sink of one's own that stores no rows: it counts those of each column of a table.
+//! A sink of one's own that stores no rows: it counts the rows of each column of a table.
 ghost use Rattle.std.specs.Prelude.{◌≡◌, ◌≤◌, ◌<◌, ◌^◌, ◌↔◌, ◌++◌, ◌∷◌, [], ℕ, List, length};
 ghost use Rattle.std.specs.Prelude.{IfOk, IfErr, IfSome, IfNone, IsOk};
 ghost use Rattle.snmp_oid.specs.Identifier.{IsBelow, IsWire, wire};
@@ -18,8 +18,8 @@ use std::collections::BTreeMap;
 
 /// The number of instances of each column of a table. As a sink it counts rows, and stores none.
 ///
-/// The identifier of a column is that of the table's entry with a number appended (RFC 2578,
-/// section 7.1.12). By this number the column is known here. For `ifDescr` of `ifEntry` it is 2.
+/// The identifier of a column is the identifier of the table's entry with a number appended
+/// (RFC 2578, section 7.1.12). [`ColumnCounts::count`] takes this number: for `ifDescr`, 2.
 #[derive(Drop)]
 pub struct ColumnCounts {
     /// The identifier of the entry.
@@ -55,7 +55,8 @@ impl ColumnCounts {
 impl Sink for ColumnCounts {
     ghost use Rattle.uses.specs.Columns.{CountsRow};
 
-    // An instance is counted. If its count can't be stored, it is refused, which ends the walk.
+    // An instance of a column is counted. If its count can't be stored, it is refused, which ends
+    // the walk. Any other row changes no count.
     ghost takes = { CountsRow };
 
     fn row(&mut self, binding: &Binding<'_>) -> Result<(), SinkFault> {
@@ -72,8 +73,8 @@ impl Sink for ColumnCounts {
     }
 }
 
-/// Returns the number of the column below which `name` is. Returns `None` if it is below no
-/// column of this entry.
+/// Returns the number of the column that `name` is below, or `None` if it is below no column of
+/// this entry.
 fn column_of(entry: &Oid, name: &Oid) -> Option<u32>
     ensures some { IfSome result (λ number. IsBelow name.now (entry.now ++ number ∷ [])) }
     ensures none { IfNone result ((number : ℕ) → IsBelow name.now (entry.now ++ number ∷ []) → ⊥) }
@@ -89,13 +90,16 @@ fn column_of(entry: &Oid, name: &Oid) -> Option<u32>
 }
 
 /// Counts the instances of each column of a table that the agent at the other end of a link has.
-/// `entry` is the identifier of the table's entry, such as that of `ifEntry`.
+/// `entry` is the identifier of the table's entry, such as the identifier of `ifEntry`.
 ///
 /// It sends the requests of a [`poll`](crate::poll) of `entry`, and ends as a poll does. What the
 /// counts are depends on the link:
 ///
-/// - `table`: over an honest link they are those of the agent's table (`AreCounted`).
-/// - `happened`: over any other link they are these if all that arrived are replies of an agent.
+/// - `table`: over an honest link they count the instances below the entry in the agent's table,
+///   or the first of them if the poll isn't done (`AreCounted`). This holds if the agent has one
+///   table, and earlier requests over the link had lower ids.
+/// - `happened`: over any link the same holds if all that arrived are replies of a lawful agent
+///   (`AreLawful`) with one table to what was sent.
 /// - `rising`: whatever arrives, no instance is counted twice.
 pub fn count_columns<L: Link>(
     alloc: Global,

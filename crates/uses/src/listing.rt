@@ -19,8 +19,9 @@ pub struct Column<'t> {
 /// Returns the columns of a table, in increasing order of their numbers. `entry` is the node of
 /// the table's entry, such as `ifEntry`.
 ///
-/// A column is an object whose identifier is that of the entry with a number appended (RFC 2578,
-/// section 7.1.12). If several nodes have this identifier, it is the first in order of loading.
+/// A column is an object whose identifier is the identifier of the entry with a number appended
+/// (RFC 2578, section 7.1.12). Of several nodes with the same identifier, only the first in order
+/// of loading can be a column.
 pub fn columns_of<'t>(
     alloc: Global,
     tree: &'t Tree,

@@ -28,8 +28,8 @@ use snmp_wire::Oid;
 ///   are the instances below the root, or the first of them if the poll isn't done (`IsPolled`).
 ///   This holds if the agent has one table, and earlier requests over the link had lower ids. A new
 ///   `MemoryLink` is honest.
-/// - `happened`: over any link the same holds if all that arrived are replies of an agent with one
-///   table to what was sent, as over a network that alters nothing.
+/// - `happened`: over any link the same holds if all that arrived are replies of a lawful agent
+///   (`AreLawful`) with one table to what was sent, as over a network that alters nothing.
 /// - `rising`: whatever arrives, the names increase, so that no instance is collected twice.
 pub fn poll<L: Link>(
     link: &mut L,

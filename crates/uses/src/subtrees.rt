@@ -25,8 +25,9 @@ pub struct Subtree {
 /// from poll to poll; if none is left, the next poll begins with 1 again.
 ///
 /// The link may be a socket: then nothing is promised about what arrives. If all that arrived in a
-/// poll are replies of an agent with one table to what was sent, the rows are instances of that
-/// table below the root (`ArePolledInTurn`). A caller opens a socket through the network of `rt`:
+/// poll are replies of a lawful agent (`AreLawful`) with one table to what the poll sent, the rows
+/// are instances of that table below the root (`ArePolledInTurn`). A caller opens a socket through
+/// the network of `rt`:
 ///
 /// ```
 /// let mut link = UdpLink::open(&rt, "192.0.2.1", 161, 1)?;

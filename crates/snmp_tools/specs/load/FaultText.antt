@@ -17,7 +17,7 @@ refusal_of error.Memory = no_memory
 abbrev pub at_line : (path : List ℕ) → (line : ℕ) → List ℕ → List ℕ
 at_line path line what = path ++ codes ":" ++ decimal line ++ codes ": " ++ what
 
--- the message about a fault in the text of the file at `path`
+-- the message about a fault in the text of the file at `path`, or that memory ran out
 abbrev pub fault_text : (path : List ℕ) → ParseError → List ℕ
 fault_text path (parse.Lex (lex.BadByte line)) = at_line path line (codes "bad character")
 fault_text path (parse.Lex (lex.OpenString line)) = at_line path line (codes "open string")

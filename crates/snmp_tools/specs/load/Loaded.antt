@@ -15,7 +15,7 @@ pub record AreLoaded (Held : (path text : List ℕ) → Type 0) (paths : List (L
   pub read : AreModulesOf Held paths modules
   pub loads : IsTree modules tree warnings
 
--- `mib` is the tree that a job loads: it has the modules of --mib and the built-in roots
+-- `mib` is the tree of the module files of --mib, as `AreLoaded` says
 abbrev pub IsMibOf : (Held : (path text : List ℕ) → Type 0) → AskingWords → Contents → Type 0
 IsMibOf Held words mib = (warnings : List Warning) × AreLoaded Held words.mibs mib warnings
 

@@ -3,7 +3,7 @@ use Rattle.std.specs.Prelude.{◌≡◌, ◌⊎◌, ℕ, false, ◌||◌, ◌==�
 use Rattle.std.specs.{Char.is_ascii_digit}
 use Rattle.snmp_tools.specs.Letters.{AreRepetitions, Choices}
 
--- the parts of a text with `octet` before it; `parts` are the parts without this octet
+-- the parts (`letter_parts`) of a text that begins with `octet`; `parts` are the parts of the rest
 abbrev pub put : ℕ → List ℕ × List (ℕ × List ℕ) → List ℕ × List (ℕ × List ℕ)
 put octet parts = if is_ascii_digit octet then (octet ∷ parts.0, parts.1)
     else ([], (octet, parts.0) ∷ parts.1)

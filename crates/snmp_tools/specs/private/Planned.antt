@@ -39,7 +39,8 @@ request_of (request.Walk bulk letters after name) = question.walk bulk letters.n
 abbrev pub ask_words : AskJob → AskWords
 ask_words job = record { asking = asking_words job.asking.now; request = request_of job.request }
 
--- `orders` is what the arguments say before names are looked up, and no argument is refused
+-- `orders` is what the arguments say before names are looked up; the version, the letters, the
+-- community and AGENT are accepted
 pub record AreOrdersOf (words : AskWords) (orders : Orders) : Type 0 where
   pub version : words.asking.protocol ≡ codes "2c"
   pub letters : AreShown words.asking.letters orders.letters
@@ -49,7 +50,7 @@ pub record AreOrdersOf (words : AskWords) (orders : Orders) : Type 0 where
   pub max_size : orders.max_size ≡ words.asking.max_size
   pub agent : HasAgent words.asking.agent (address_of orders.agent)
 
--- the version isn't 2c or, if it is, the letters of -O have no meaning
+-- the version isn't 2c or, if it is, an octet of -O has no meaning
 abbrev pub ShowingFails : AskingWords → Fault → Type 0
 ShowingFails words why =
     AskingFails words version_step why

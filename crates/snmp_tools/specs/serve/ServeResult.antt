@@ -22,9 +22,9 @@ counts_line served = decimal served.replies ++ codes " replies, " ++ decimal ser
     ++ codes " dropped\n"
 
 -- The line that says where requests are received was printed, the table was served, and then the
--- line of the counts was printed, perhaps not whole; the four counts add up to the turns. Or the
--- first line wasn't printed whole, and nothing was served. `Serves agent turns served`: serving
--- `agent` for `turns` turns can return `served`.
+-- line of the counts was printed, perhaps not whole. The numbers of replies, drops, idle turns and
+-- faults add up to the turns. Or the first line wasn't printed whole, and nothing was served.
+-- `Serves agent turns served`: serving `agent` for `turns` turns can return `served`.
 abbrev pub IsServing : (Serves : Agent → ℕ → Served → Type 0) → (Unserved : Type 0) → ServeWords
     → MibView → (before after : Stream) → Option Fault → Type 0
 IsServing Serves Unserved words view before after fault =

@@ -23,7 +23,7 @@ HasTable files tree path view = (names : Names) × AreNamesIn tree names
     × (text : List ℕ) × MayHold files path text × IsTableOf names (lines text) view
 
 -- `why` is that the file at `path` can't be read, that its text doesn't define a table, or that
--- memory ran out while the text was read
+-- memory ran out while the text was read, as far as it is known what the file holds
 abbrev pub TableFails : Holdings → Contents → (path : List ℕ) → Fault → Type 0
 TableFails files tree path why =
     (MayHoldNone files path × (why ≡ unreadable path))

@@ -30,15 +30,17 @@ IsPrefixOfTexts style names before after mib =
     (first : List (List ℕ)) × (rest : List (List ℕ)) × (text : List ℕ) × (names ≡ first ++ rest)
     × AreTextsOf mib style first text × TakesPrefix before text after
 
--- If the module files are known, the texts of all names are printed, and nothing else. This is
--- promised at status 0.
+-- If the letters have a meaning and it is known which modules the files hold
+-- (`AskForTranslation`), the texts of all names are printed, and nothing else. This is promised at
+-- status 0.
 abbrev pub PrintsAll : TranslateWords → Holdings → (before after : Stream) → Type 0
 PrintsAll words files before after =
     (style : Style) (modules : List Module) → AskForTranslation words files style modules
     → IsByTree modules (λ mib. AreNamesPrinted mib style words.names before after)
 
--- If the module files are known, nothing is printed, or a prefix of the texts of the first names.
--- This is promised whatever fails.
+-- If the letters have a meaning and it is known which modules the files hold
+-- (`AskForTranslation`), nothing is printed, or a prefix of the texts of the first names. This is
+-- promised whatever fails.
 abbrev pub PrintsPrefix : TranslateWords → Holdings → (before after : Stream) → Type 0
 PrintsPrefix words files before after =
     (style : Style) (modules : List Module) → AskForTranslation words files style modules

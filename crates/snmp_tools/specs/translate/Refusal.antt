@@ -1,4 +1,5 @@
--- Why snmptranslate prints nothing: its arguments or its module files are refused.
+-- Why snmptranslate doesn't begin to print: its letters or its module files are refused, or memory
+-- runs out.
 use Rattle.std.specs.Prelude.{◌≡◌, ◌⊎◌, ℕ, List, [], ◌∷◌, Some, None}
 use Rattle.snmp_tools.specs.{load.Files.AreModulesOf, Asking.MibsFail}
 use Rattle.smi_value.specs.Letters.{first_other}
@@ -35,6 +36,6 @@ TranslationFails words files why =
     IsFirstToFail (letters_step ∷ details_step ∷ modules_step ∷ [])
     (IsDoneForTranslation words files) (FailsForTranslation words files) why
 
--- `why` is why nothing is printed: memory ran out, or a step failed
+-- `why` is why printing doesn't begin: memory ran out, or a step failed
 abbrev pub IsTranslateRefusal : TranslateWords → Holdings → Fault → Type 0
 IsTranslateRefusal words files why = (why ≡ out_of_memory) ⊎ TranslationFails words files why

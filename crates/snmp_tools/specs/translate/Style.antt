@@ -4,7 +4,7 @@ use Rattle.smi_value.specs.Letters.{AreLetters, first_other, has_letter}
 use Rattle.snmp_words.specs.Words.{TranslateWords}
 use Rattle.snmp_tools.specs.declared.translate.Style.{Style}
 
--- the first octet that isn't `d`, the only letter of -T
+-- the first octet that isn't `d`, the only letter of -T, if there is such an octet
 abbrev pub first_other_of_t : List ℕ → Option ℕ
 first_other_of_t text = find (λ octet. not (octet == 100)) text
 

@@ -53,7 +53,7 @@ pub(crate) fn unreadable_text(path: &str, draft: &mut Draft)
     draft.octets(b": cannot be read");
 }
 
-// Appends the message about a fault of the file at `path`.
+// Appends the message about a fault of the file at `path`, or that memory ran out.
 fn fault_text(path: &str, fault: &ParseError, out: &mut Draft)
     ensures { Adds out.old (fault_text path.now fault.now) out.new }
 {

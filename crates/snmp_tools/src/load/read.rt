@@ -22,7 +22,7 @@ pub fn read_modules<'a, F: Files>(
         AreModulesOf (MayHold (F.text_at files.now)) (texts paths.now) ms.items) }
     ensures refused { IfErr result (λ e.
         IsFilesRefusal (F.text_at files.now) (texts paths.now) (refusal_of e)) }
-    // Files that are known to hold modules are read, unless memory runs out.
+    // If all the files are known to hold modules, they are read, unless memory runs out.
     ensures only { (ms : List Tree)
         → AreModulesOf (Holds (F.text_at files.now)) (texts paths.now) ms
         → IfErr result (λ e. refusal_of e ≡ no_memory) }

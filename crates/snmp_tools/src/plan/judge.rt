@@ -1,4 +1,5 @@
-//! Judges the arguments that every job has that asks an agent.
+//! Judges arguments that are common to the jobs that ask an agent: the version, the letters of
+//! `-O`, the community and AGENT.
 ghost use Rattle.std.specs.Prelude.{◌≡◌, ◌≤◌, codes, length, IfErr, IfOk};
 ghost use Rattle.std.specs.Prelude.{string_bytes};
 ghost use Rattle.snmp_words.specs.Words.{asking_words};

@@ -14,7 +14,7 @@ pub(crate) struct AskJob<'j, 'a> {
     pub(crate) request: Request<'j, 'a>,
 }
 
-/// What to ask an agent for. Each text is as it was passed.
+/// What to ask an agent for. Each name is as it was passed.
 #[derive(Clone, Copy, Debug)]
 pub(crate) enum Request<'j, 'a> {
     /// The instances of these names.

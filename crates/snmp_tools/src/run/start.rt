@@ -15,11 +15,11 @@ use snmp_walk::{Link, Sink, StartError, WalkCore, WalkEnd, run_get, run_walk};
 /// The id of the first request.
 const FIRST_ID: u32 = 1;
 
-/// Asks the question of `plan` over `link`, gives the bindings to `sink`, and returns how that
+/// Asks the question of `plan` over `link`, passes the bindings to `sink`, and returns how that
 /// ended. A Get without names sends nothing.
 ///
-/// Fails, before anything is sent, at the first name that can't be asked for: it has no encoding,
-/// or it is the name of `--after` and is neither the root nor below it.
+/// Fails, before anything is sent, at the first name that can't be asked for: it can't be sent, or
+/// it is the name of `--after` and is neither the root nor below it.
 pub(crate) fn run_plan<'a, L: Link, S: Sink>(
     link: &mut L,
     plan: &Plan<'_, 'a>,
@@ -32,7 +32,7 @@ pub(crate) fn run_plan<'a, L: Link, S: Sink>(
         (question_of plan.now.question) given refused end)) }
     ensures refused { IfErr result (λ e. BeginFails plan.now.question (fault_of e)
         × (sink.new ≡ sink.old)) }
-    // If a name can't be sent, nothing is.
+    // After an error, nothing was sent.
     ensures link_unchanged_on_error { OnErr result (link.new ≡ link.old) }
 {
     let community = plan.orders.community;

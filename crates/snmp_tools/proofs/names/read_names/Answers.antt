@@ -6,7 +6,7 @@ use Rattle.snmp_io.specs.Steps.{IsFirstToFail}
 use Rattle.snmp_tools.proofs.{Steps.first_unnamed, Steps.more_names, Wholes.if_err}
 use Rattle.snmp_tools.proofs.names.read_names.Goals as goal
 
--- if the texts before mean the names so far, then with the next text, which means the identifier that was pushed, they do so too
+-- if the texts before the current one mean the names read so far, then with the current text they mean these names and the one that was pushed
 pub texts-preserved : goal.texts-preserved
 texts-preserved c = grind (arith, common_steps, more_names)
 
