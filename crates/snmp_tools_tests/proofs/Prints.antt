@@ -19,7 +19,7 @@ abbrev Run : Type 0
 Run = List (Happening (Unit {0}))
 
 module _ (before after : Seen WalkLinks) (status : ℕ) (server_before server_after : Seen ReplayLinks) (server_status : ℕ) where
-  -- what the law on served tables says of these two command lines
+  -- what the law `served_tables` says of any command line that asks and any of snmpd, if their runs have these states and statuses
   abbrev pub Law : Type 0
   Law = (words : AskWords) (serving : ServeWords) (rows : List VarBind)
       (ask : IsAskOfServer words before.files serving server_before.files rows) → IsAskDone walk_links link any_load words before after status

@@ -44,7 +44,7 @@ module _ (words : AskWords) (mib : Contents) (plan : Plan) (before after : Seen 
   unchanged : (events : Events) → events ≡ [] → after.links.network ≡ before.links.network → all_recorded events ≡ of_walk after.links.network.run
   unchanged events none same = ap all_recorded none ∙ sym (ap (λ (n : Recording). of_walk n.run) same ∙ ap of_walk new)
 
-  -- what is recorded of the events at the end that asks is the record of the walk's end
+  -- if the network had recorded nothing before the run, its record of the walk's side after the run is what is recorded of the run's events there
   pub asked_is : (events : Events) → IsAtAsker walk_links link words mib plan before after status events
       → all_recorded events ≡ of_walk after.links.network.run
   asked_is events (ends.not_linked none left out not_0) = elim left [
@@ -71,7 +71,7 @@ door_log (e ∷ events) old new h =
 pub serves_in_turn : ServesInTurn replay_links (λ (door : ReplayDoor). door) HappensAtDoor
 serves_in_turn before door agent turns served after later made = (made.0.0, (made.0.1, made.0.2))
 
--- if the whole record passed, what happened at the end of snmpd is what is recorded of the agent's end
+-- if the status is 0 and the whole record passed, what is recorded of the events at the end of snmpd is the record of the agent's end
 pub served_is : (words : ServeWords) (view : MibView) (before after : Seen ReplayLinks) (status : ℕ) (events : Events)
     → IsAtServer replay_links (λ (door : ReplayDoor). door) HappensAtDoor words view before after status events → status ≡ 0
     → after.links.is_done ≡ true → all_recorded events ≡ of_agents (map happening_of before.links.entries.now)

@@ -106,7 +106,7 @@ faithful_more run x faithful allowed = record {
 -- ---- the record after an event
 
 module _ (old new : MemoryNetwork) (run : Run) (kept : IsRecordOf old run) where
-  -- a receive that isn't recorded leaves the record as it was
+  -- if `e` sends nothing, the record before it is also one of the network after it
   pub unrecorded : (e : Happening (Unit {0})) → requests_by e ≡ [] → replies_by e ≡ [] → Carries old e new → IsRecordOf new run
   unrecorded e none no_reply h = record {
     requests = λ d one. elim (either d (requests_of old) (requests_by e) (subst (λ (ds : Datagrams). OneOf ds d) h.requests one)) [
@@ -120,7 +120,7 @@ module _ (old new : MemoryNetwork) (run : Run) (kept : IsRecordOf old run) where
     faithful = kept.faithful;
   }
 
-  -- e happened, and x was recorded of it
+  -- if `e` happened, `x` is allowed, and what `e` sent is in the record with `x`, then that is a record of the network
   recorded_so : (e x : Happening (Unit {0})) → Carries old e new → IsAllowed run x
       → ((d : List ℕ) → OneOf (requests_by e) d → OneOf (tried (of_walk (run ++ x ∷ []))) d)
       → ((d : List ℕ) → OneOf (replies_by e) d → IsTriedTo tt (run ++ x ∷ []) d) → IsRecordOf new (run ++ x ∷ [])
@@ -181,7 +181,7 @@ module _ (old new : MemoryNetwork) (run : Run) (kept : IsRecordOf old run) where
   of_reply (Ok done) peer d h = reply_sent peer d h
   of_reply (Err fault) peer d h = reply_lost peer d h
 
-  -- a receive isn't recorded, whatever it returned
+  -- the record before a receive is also one of the network after it, whatever the receive returned
   pub unrecorded_got : (result : Result (Option ℕ) LinkFault) (buffer : List ℕ) → Carries old (at_walk (event_of_got result buffer)) new → IsRecordOf new run
   unrecorded_got (Ok (Some n)) buffer h = unrecorded (at_walk (came tt (take n buffer))) refl refl h
   unrecorded_got (Ok None) buffer h = unrecorded (at_walk silence) refl refl h
@@ -193,7 +193,7 @@ module _ (old new : MemoryNetwork) (run : Run) (kept : IsRecordOf old run) where
   unrecorded_receive (Ok None) buffer h = unrecorded (at_agents silence) refl refl h
   unrecorded_receive (Err fault) buffer h = unrecorded (at_agents receive_failed) refl refl h
 
-  -- a datagram arrived, and is recorded if there is memory for it
+  -- `x` is recorded if there is memory for it: if the record without `x` and that with it are records of the network, so is the one that results
   pub of_push : (result : Result (Unit {0}) AllocError) (x : Happening (Unit {0})) (before after : List Entry) → map happening_of before ≡ run
       → OnOk result (map happening_of after ≡ map happening_of before ++ x ∷ []) → OnErr result (after ≡ before) → IsRecordOf new run
       → IsRecordOf new (run ++ x ∷ []) → IsRecordOf new (map happening_of after)
@@ -202,7 +202,7 @@ module _ (old new : MemoryNetwork) (run : Run) (kept : IsRecordOf old run) where
   of_push (Err fault) x before after is pushed same without with_it =
       subst (λ (r : Run). IsRecordOf new r) (sym (ap (λ (es : List Entry). map happening_of es) same ∙ is)) without
 
--- the record of a network on which nothing happened is empty
+-- the empty record is one of a network over which nothing was sent
 pub fresh : (network : MemoryNetwork) → IsNew network → IsRecordOf network []
 fresh network new = record {
   requests = λ d one. absurd (subst (λ (ds : Datagrams). OneOf ds d) new.requests one);
@@ -230,12 +230,12 @@ of_walk_walk : (events : Events) → of_walk (walks events) ≡ events
 of_walk_walk [] = refl
 of_walk_walk (e ∷ events) = ap (λ (es : Events). e ∷ es) (of_walk_walk events)
 
--- the agent's turns record nothing of the walk's end
+-- events at the agent's end record nothing of the walk's end
 pub agent_turns : (events : Events) (old new : Recording) → InTurn HappensAtAgent old events new → of_walk new.run ≡ of_walk old.run
 agent_turns [] old new h = ap (λ (r : Recording). of_walk r.run) h
 agent_turns (e ∷ events) old new h = agent_turns events h.0 new h.2 ∙ h.1
 
--- the agent had its turns, and then a receive of the walk was recorded
+-- first nothing was recorded of the walk's end, and then its event `e`
 pub got_log : (old between new : Run) (e : Event (Unit {0})) → of_walk between ≡ of_walk old
     → new ≡ between ++ walks (recorded e) → of_walk new ≡ of_walk old ++ recorded e
 got_log old between new e same is =

@@ -22,7 +22,7 @@ abbrev AreQuiet : Events → Type 0
 AreQuiet [] = Unit {0}
 AreQuiet (e ∷ more) = (recorded e ≡ []) × AreQuiet more
 
--- the events begin with some that aren't recorded; then e happened, and `left` is recorded of those after it
+-- the events are any number, or none, that aren't recorded, then `e`, then others, of which `left` is recorded
 record BeginsWith (events : Events) (e : Event (Unit {0})) (left : Events) : Type 0 where
   before : Events
   after : Events
@@ -111,7 +111,7 @@ module _ (d : List ℕ) where
       ]
   tried_in_whole (y ∷ whole) run (inr (quiet, within)) one = tried_more y whole (tried_in_whole whole run within one)
 
--- if something is recorded of `x`, then it is in the run too, and the run up to it is within the whole up to it
+-- if the run is within `before`, `x` and `after`, and something is recorded of `x`, then `x` is in the run, and the run up to it is within `before`
 up_to : (before after : Run) (x : Happening (Unit {0})) (run : Run) → (IsQuiet x → ⊥) → IsWithin run (before ++ x ∷ after)
     → (first : Run) × (rest : Run) × (run ≡ first ++ x ∷ rest) × IsWithin first before
 up_to [] after x run loud (inl (rest, is, within)) = ([], rest, is, refl)

@@ -17,8 +17,9 @@ Asks (snmpbulkwalk words) ask = ask ≡ of_walk true words
 Asks (snmptranslate words) ask = ⊥
 Asks (snmpd words) ask = ⊥
 
--- A prefix of the lines of the first rows is written, or of the whole text, and nothing else. At
--- status 0 the whole text is written.
+-- A prefix of the lines of the first rows is written, or of the whole text: the lines of all rows
+-- and, with -Cp, the line of their number. Nothing else is written. At status 0 the whole text is
+-- written.
 pub record PrintsRowsOf (mib : Contents) (plan : Plan) (rows : List VarBind)
     (before after : Stream) (status : ℕ) : Type 0 where
   pub prefix_written : IsPrefixWritten mib plan rows before after

@@ -9,7 +9,8 @@ use Rattle.snmp_tools_tests.specs.declared.both_ends.recorded.Entry.{Entry}
 use Rattle.snmp_tools_tests.specs.declared.both_ends.recorded.Passing.{Passing}
 use Rattle.snmp_tools_tests.specs.declared.both_ends.recorded.Passing.TheVariants as passing
 
--- the datagram was sent or arrived at one end
+-- the event that the datagram `d` was sent or arrived, at the walk's end or the agent's, as the
+-- `Passing` says
 abbrev pub passes : Passing → List ℕ → Happening (Unit {0})
 passes passing.RequestSent d = at_walk (sent tt d)
 passes passing.RequestArrived d = at_agents (came tt d)
@@ -35,14 +36,14 @@ pub record Recording : Type 0 where
   pub run : List (Happening (Unit {0}))
   pub faults : ℕ
 
--- `run` is the record of the network: it has each datagram that the network stores as sent, and
--- each datagram that arrived was sent before.
+-- `run` is a record of the network: it has a send, which may have failed, of each datagram that the
+-- network stores as sent. Each message that arrived was sent before, as `IsFaithful` says.
 pub record IsRecordOf (network : MemoryNetwork) (run : List (Happening (Unit {0}))) : Type 0 where
   pub requests : (d : List ℕ) → OneOf (requests_of network) d → OneOf (tried (of_walk run)) d
   pub replies : (d : List ℕ) → OneOf (replies_of network) d → IsTriedTo tt run d
   pub faithful : IsFaithful tt run
 
--- Whatever happens at the agent's end between the two states, what is recorded of the walk's end
--- stays as it was. It doesn't say what is recorded of the event.
+-- The event can happen at the agent's end between the two states: what is recorded of the walk's
+-- end is the same in both. What is recorded of the event isn't defined here.
 abbrev pub HappensAtAgent : Recording → Event (Unit {0}) → Recording → Type 0
 HappensAtAgent old e new = of_walk new.run ≡ of_walk old.run

@@ -11,8 +11,8 @@ use Rattle.snmp_tools_tests.specs.declared.both_ends.replay.ReplayDoor.{ReplayDo
 abbrev pub ahead_of : ReplayDoor → List (Happening (Unit {0}))
 ahead_of door = map happening_of (drop door.used door.entries.now)
 
--- The event can happen at the door between the two states: what is recorded of it is the next that
--- is left of the record of the agent's end.
+-- The event can happen at the door between the two states: what is left at the agent's end of the
+-- record in `old` is what is recorded of the event, if anything, and then what is left in `new`.
 abbrev pub HappensAtDoor : ReplayDoor → Event (Unit {0}) → ReplayDoor → Type 0
 HappensAtDoor old e new = of_agents (ahead_of old) ≡ recorded e ++ of_agents (ahead_of new)
 
@@ -20,8 +20,8 @@ HappensAtDoor old e new = of_agents (ahead_of old) ≡ recorded e ++ of_agents (
 abbrev pub BindsAt : List Entry → ReplayDoor → Type 0
 BindsAt entries door = ahead_of door ≡ map happening_of entries
 
--- The agent served `turns` turns at the door, with the counts `served`, and took it from state
--- `old` to state `new`. If `done` is true, nothing is left of the record then.
+-- The agent was served for `turns` turns at the door, with the counts `served`, which took the door
+-- from state `old` to state `new`. If `done` is true, nothing of the record is left at `new`.
 abbrev pub IsReplayed : ReplayDoor → Agent → (turns : ℕ) → Served → ReplayDoor → (done : Bool)
     → Type 0
 IsReplayed old agent turns served new done =

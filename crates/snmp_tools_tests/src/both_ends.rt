@@ -30,10 +30,10 @@ pub use walk::WalkLinks;
 /// Runs a command line that asks an agent, and then the command line of snmpd, at the two ends of
 /// one network. Both read the same files. Returns the exit status of the first.
 ///
-/// Returns `None` if snmpd doesn't end with status 0, has too few turns for the run, or doesn't send
-/// each reply that the agent of `links` sent. If snmpd sends where that agent sent nothing, this
-/// counts as a send that failed, and the run continues. Each datagram that is sent or arrives at the walk's
-/// end takes one turn of snmpd, and so does each request that arrives at its own end.
+/// Returns `None` if snmpd doesn't end with status 0, has too few turns for the run, or doesn't
+/// send each reply that the agent of `links` sent. If snmpd replies to a request to which that
+/// agent sent nothing, the send fails, and the run continues. Each datagram that is sent or arrives
+/// at the walk's end takes one turn of snmpd, and so does each request that arrives at its own end.
 pub fn walk_and_serve<F: Files, O: Output, E: Output>(
     alloc: Global,
     links: WalkLinks<'_>,
@@ -45,18 +45,20 @@ pub fn walk_and_serve<F: Files, O: Output, E: Output>(
 ) -> Option<u8>
     // Nothing has happened on the network.
     requires new { links.network.run ≡ [] }
-    // Whatever the network loses, repeats and delays, what is printed is a prefix of the lines of
-    // the rows that are asked for, in order, and with -Cp of the line of their number. The rows are
-    // those of the table that snmpd serves. At status 0 all of it is printed.
+    // If a status is returned, what is printed is a prefix of the lines of the rows that are asked
+    // for, in order, with -Cp followed by the line of their number. The rows are those of the table
+    // that snmpd serves, whatever the network loses, repeats and delays. At status 0 all of this is
+    // printed.
     ensures printed { IfSome result (λ status. (job : Stated) (words : AskWords)
         (served : ServeWords) (rows : List VarBind)
         (ask : IsAskOfServer words (F.text_at files.now) served (F.text_at files.now) rows)
         → AreFaultless (texts_at asking.now) → StateJob (texts_at asking.now) job → Asks job words
         → AreFaultless (texts_at serving.now) → StateJob (texts_at serving.now) (snmpd served)
         → PrintsRowsOf ask.mib ask.plan rows (O.stream out.old) (O.stream out.new) status) }
-    // For `snmpwalk -On AGENT ROOT` in numbers, both command lines without module files, the rows
-    // are those of the table file below the root. If no row is below it, this is what a Get of the
-    // root returns.
+    // The same for `snmpwalk -On AGENT ROOT` with the root in numbers, and a table file without the
+    // mark `#snmptab 2`, if neither command line has module files. The rows are those of the table
+    // file below the root. If there are none, the binding that a Get of the root returns is
+    // printed.
     ensures in_numbers { IfSome result (λ status. (words : WalkWords) (served : ServeWords)
         (root text : List ℕ) → IsWalkInNumbers words root → served.mibs ≡ []
         → HoldsTableFile (F.text_at files.now) served.table root text

@@ -1,9 +1,9 @@
 //! Walks over an agent that lies, and over an agent whose table changes: what they print.
 ghost use Rattle.std.specs.Prelude.{◌≡◌, ◌<◌, All, length, true};
 
-use crate::opened::NoDoor;
+use crate::opener::{Opened, Opener};
 use crate::run::status_of;
-use snmp_agent::{Config, Served, Table};
+use snmp_agent::{Config, Table};
 use snmp_io::memory::MemoryOutput;
 use snmp_net::Links;
 use snmp_walk::{Link, LinkFault, MemoryLink};
@@ -12,7 +12,7 @@ use std::process::Abort;
 use std::test::Fail;
 
 /// A link to an agent that sends one reply again and again. Each time its id, in the octet at
-/// offset 17, is one higher.
+/// offset 17, is one higher modulo 256.
 #[derive(Drop)]
 struct Lying<'a> {
     reply: &'a [u8],
@@ -64,128 +64,44 @@ impl<'a> Link for Lying<'a> {
     }
 }
 
-/// Links to an agent that lies. No door is opened.
+/// Opens links to an agent that lies.
 #[derive(Drop)]
 struct Lies<'a> {
     reply: &'a [u8],
-    fault_count: u64,
 }
 
-impl<'a> Links for Lies<'a> {
+impl<'a> Opener for Lies<'a> {
     type Wire = Lying<'a>;
 
-    type Door = NoDoor;
-
-    ghost opens = { λ _ _ _ _ _ _. Unit {0} };
-
-    ghost closes = { λ _ _ _. Unit {0} };
-
-    ghost binds = { λ _ _ _ _ _. Unit {0} };
-
-    ghost serves = { λ _ _ _ _ _ _ _. Unit {0} };
-
-    ghost fails = { λ _ _. Unit {0} };
-
-    ghost fault_count = { λ links. links.fault_count };
-
-    fn open(&mut self, _host: &str, _port: u16, _seconds: u64) -> Result<Lying<'a>, LinkFault> {
+    fn open_link(&mut self) -> Result<Lying<'a>, LinkFault> {
         Ok(Lying {
             reply: self.reply,
             turn: 0,
         })
     }
-
-    fn close(&mut self, _wire: Lying<'a>) {}
-
-    fn bind(&mut self, _host: &str, _port: u16) -> Result<NoDoor, LinkFault> {
-        self.fault_count = self.fault_count.saturating_add(1);
-        Err(LinkFault)
-    }
-
-    fn serve(
-        &mut self,
-        _door: &mut NoDoor,
-        _table: &Table,
-        _config: &Config<'_>,
-        turns: u64,
-    ) -> Served {
-        Served {
-            idle: turns,
-            ..Served::default()
-        }
-    }
-
-    fn faults(&self) -> u64 {
-        self.fault_count
-    }
 }
 
-/// Links to an agent whose table changes: its tables, and the index of the table that replies to
-/// each datagram. No door is opened.
+/// Opens links to an agent whose table changes: its tables, and the index of the table that replies
+/// to each datagram. Opening fails if there are no tables, or an index is too large.
 #[derive(Drop)]
 struct Changing<'a> {
     alloc: Global,
     tables: &'a [Table],
     uses: &'a [usize],
-    fault_count: u64,
 }
 
-impl<'a> Links for Changing<'a> {
+impl<'a> Opener for Changing<'a> {
     type Wire = MemoryLink<'a>;
 
-    type Door = NoDoor;
-
-    ghost opens = { λ _ _ _ _ _ _. Unit {0} };
-
-    ghost closes = { λ _ _ _. Unit {0} };
-
-    ghost binds = { λ _ _ _ _ _. Unit {0} };
-
-    ghost serves = { λ _ _ _ _ _ _ _. Unit {0} };
-
-    ghost fails = { λ _ _. Unit {0} };
-
-    ghost fault_count = { λ links. links.fault_count };
-
-    fn open(
-        &mut self,
-        _host: &str,
-        _port: u16,
-        _seconds: u64,
-    ) -> Result<MemoryLink<'a>, LinkFault> {
+    fn open_link(&mut self) -> Result<MemoryLink<'a>, LinkFault> {
         let config = Config {
             community: b"public",
             max_size: 1472,
         };
         if self.tables.is_empty() || !are_indices(self.uses, self.tables) {
-            self.fault_count = self.fault_count.saturating_add(1);
             return Err(LinkFault);
         }
         Ok(MemoryLink::changing(self.alloc, self.tables, config, self.uses, &[]))
-    }
-
-    fn close(&mut self, _wire: MemoryLink<'a>) {}
-
-    fn bind(&mut self, _host: &str, _port: u16) -> Result<NoDoor, LinkFault> {
-        self.fault_count = self.fault_count.saturating_add(1);
-        Err(LinkFault)
-    }
-
-    fn serve(
-        &mut self,
-        _door: &mut NoDoor,
-        _table: &Table,
-        _config: &Config<'_>,
-        turns: u64,
-    ) -> Served {
-        Served {
-            idle: turns,
-            ..Served::default()
-        }
-    }
-
-    fn faults(&self) -> u64 {
-        self.fault_count
     }
 }
 
@@ -214,28 +130,28 @@ fn prints_over<L: Links>(
     )
 }
 
-/// Replies with id 1: to 1.3.6.1.4.1.32473.1.1.0, whose value is the integer 1.
+/// A reply with id 1: 1.3.6.1.4.1.32473.1.1.0 has the integer 1.
 const ROW: &[u8] = b"\x30\x2a\x02\x01\x01\x04\x06public\xa2\x1d\x02\x01\x01\x02\x01\x00\x02\x01\x00\
 \x30\x12\x30\x10\x06\x0b\x2b\x06\x01\x04\x01\x81\xfd\x59\x01\x01\x00\x02\x01\x01";
 
-/// To 1.3.6.1.4.1.32473.1.1.0 and 1.3.6.1.4.1.32473.1.2.0.
+/// A reply with id 1: 1.3.6.1.4.1.32473.1.1.0 and 1.3.6.1.4.1.32473.1.2.0 have the integer 1.
 const TWO: &[u8] = b"\x30\x3c\x02\x01\x01\x04\x06public\xa2\x2f\x02\x01\x01\x02\x01\x00\x02\x01\x00\
 \x30\x24\x30\x10\x06\x0b\x2b\x06\x01\x04\x01\x81\xfd\x59\x01\x01\x00\x02\x01\x01\
 \x30\x10\x06\x0b\x2b\x06\x01\x04\x01\x81\xfd\x59\x01\x02\x00\x02\x01\x01";
 
-/// To 1.3.6.1.4.1.32473.1.1.0, with noSuchInstance.
+/// A reply with id 1: 1.3.6.1.4.1.32473.1.1.0 has noSuchInstance.
 const MISSING: &[u8] = b"\x30\x29\x02\x01\x01\x04\x06public\xa2\x1c\x02\x01\x01\x02\x01\x00\
 \x02\x01\x00\x30\x11\x30\x0f\x06\x0b\x2b\x06\x01\x04\x01\x81\xfd\x59\x01\x01\x00\x81\x00";
 
-/// Without bindings.
+/// A reply with id 1 and without bindings.
 const NONE: &[u8] = b"\x30\x18\x02\x01\x01\x04\x06public\xa2\x0b\x02\x01\x01\x02\x01\x00\
 \x02\x01\x00\x30\x00";
 
-/// With error-status 5, genErr, and error-index 1.
+/// A reply with id 1, error-status 5 (genErr) and error-index 1.
 const GENERAL_ERROR: &[u8] = b"\x30\x18\x02\x01\x01\x04\x06public\xa2\x0b\x02\x01\x01\x02\x01\x05\
 \x02\x01\x01\x30\x00";
 
-/// With error-status 19, which the standard doesn't have, and error-index 0.
+/// A reply with id 1, error-status 19, which the standard doesn't have, and error-index 0.
 const UNKNOWN_ERROR: &[u8] = b"\x30\x18\x02\x01\x01\x04\x06public\xa2\x0b\x02\x01\x01\x02\x01\x13\
 \x02\x01\x00\x30\x00";
 
@@ -265,10 +181,7 @@ const LIES: [(&[u8], (&str, &str, u8)); 6] = [
 #[test]
 fn bad_replies_are_reported(rt: HostRuntime) -> Result<(), Fail> {
     for (reply, expected) in LIES {
-        let mut links = Lies {
-            reply,
-            fault_count: 0,
-        };
+        let mut links = Opened::new(Lies { reply });
         let line = "snmp snmpwalk -On device .1.3.6.1.4.1.32473.1";
         let printed = prints_over(rt.alloc(), &mut links, line, expected)?;
         assert!(rt; printed, "{}", expected.1);
@@ -284,12 +197,11 @@ fn assert_changing(
     uses: &[usize],
     lines: &str,
 ) -> Result<(), AllocError> {
-    let mut links = Changing {
+    let mut links = Opened::new(Changing {
         alloc,
         tables,
         uses,
-        fault_count: 0,
-    };
+    });
     let line = "snmp snmpwalk -On device .1.3.6.1.4.1.32473.8";
     let printed = prints_over(alloc, &mut links, line, (lines, "", 0))?;
     assert!(rt; printed, "{lines}");

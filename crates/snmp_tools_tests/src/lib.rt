@@ -1,9 +1,9 @@
 //! Tests that go through several crates: from arguments to lines, over files and outputs in memory.
-//! Most are command lines with what they print, in the tables of `rows`. Also tests of outputs,
+//! Most are command lines with what they print, in the tables of `rows`. Others test outputs,
 //! files, messages and module files by themselves.
 //!
-//! [`walk_and_serve`] runs snmpd and a command line that asks it at the two ends of one network. Its
-//! contract says what the latter prints.
+//! [`walk_and_serve`] runs snmpd and a command line that asks it at the two ends of one network.
+//! Its contract says what the command line that asks prints.
 #![tactic(auto)]
 
 mod both_ends;
@@ -23,6 +23,8 @@ mod machine;
 mod network;
 #[cfg(test)]
 mod opened;
+#[cfg(test)]
+mod opener;
 #[cfg(test)]
 mod own;
 #[cfg(test)]

@@ -22,7 +22,7 @@ fn load<'a>(
     load_tree(alloc, &files, paths, err)
 }
 
-// Asserts that the tree is that of `across.txt` and `well.txt`.
+// Asserts that the tree has five nodes, and that ACROSS-MIB::across is 1.7.2.
 fn assert_across(rt: &impl Abort, tree: &Tree) {
     assert!(rt; tree.len() == 5);
     let Some(id) = tree.find(b"ACROSS-MIB", b"across") else {
@@ -48,7 +48,8 @@ fn names_are_found_across_files(rt: HostRuntime) -> Result<(), Fail> {
     Ok(())
 }
 
-// Asserts that the tree is loaded, and that the output accepted 20 octets of the warnings.
+// Asserts that the tree has 15 nodes, and that the output accepted the first 20 octets of the
+// warnings and then failed once.
 fn assert_cut_off(rt: &impl Abort, tree: &Tree, err: &MemoryOutput) {
     assert!(rt; tree.len() == 15);
     assert!(rt; err.octets() == b"snmp: TINY-MIB impor".as_slice());
@@ -66,7 +67,7 @@ fn a_tree_is_loaded_though_the_output_fails(rt: HostRuntime) -> Result<(), Fail>
 }
 
 #[test]
-fn a_tree_is_the_same_with_any_hash_key(rt: HostRuntime) -> Result<(), Fail> {
+fn a_tree_loaded_with_a_key_has_as_many_nodes(rt: HostRuntime) -> Result<(), Fail> {
     let files = shared_files(&rt, rt.alloc())?;
     let files = file_pairs(rt.alloc(), files.as_slice())?;
     let mut err = MemoryOutput::new(rt.alloc());

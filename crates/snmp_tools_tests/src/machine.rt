@@ -1,5 +1,5 @@
-//! Outputs and files, of the machine and in memory: what no contract says, such as that calls
-//! succeed and that an interrupted write is tried again.
+//! Outputs and files, of the machine and in memory. Among what is tested is that calls succeed, and
+//! that an interrupted write is tried again.
 
 use snmp_io::memory::{MemoryFiles, MemoryOutput};
 use snmp_io::{FileFault, Files, MachineFiles, MachineOutput, Output, write_all};
@@ -9,7 +9,7 @@ use std::io::{ErrorKind, Write};
 use std::process::Abort;
 
 // An output that interrupts every second write, beginning with the first. It accepts at most three
-// octets a write, and is full after eight.
+// octets a write, and is full after eight octets.
 #[derive(Drop)]
 struct Hesitant {
     turns: u32,

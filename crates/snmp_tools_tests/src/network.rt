@@ -7,8 +7,8 @@ use std::alloc::Global;
 use std::process::Abort;
 use std::test::Fail;
 
-/// Returns the agent that serves the three rows at port 1161 of `device`, with community `secret`.
-/// Its link has these deliveries.
+/// Returns the agent that serves `table` at port 1161 of `device`, with community `secret`. Each
+/// link to it has these deliveries.
 fn device<'a>(table: &'a Table, deliveries: &'a [Option<usize>]) -> MemoryAgent<'a> {
     MemoryAgent {
         host: "device",

@@ -1,11 +1,11 @@
 //! The links that the tools open, and all that they send over each.
 ghost use Rattle.std.specs.Prelude.{None, refl};
 
+use crate::opener::{Opened, Opener};
 use crate::run::{OF_THREE, THREE, THREE_LINES};
-use snmp_agent::{Config, Served, Table};
+use snmp_agent::{Config, Table};
 use snmp_io::memory::{MemoryFiles, MemoryOutput};
 use snmp_io::{Output, OutputFault};
-use snmp_net::Links;
 use snmp_tools::tool;
 use snmp_walk::{Link, LinkFault, MemoryLink};
 use std::alloc::{AllocError, Global};
@@ -13,8 +13,8 @@ use std::cell::Cell;
 use std::process::Abort;
 use std::test::Fail;
 
-/// A link in memory that accepts only the expected datagrams, in their order. `sent` counts them,
-/// and is `usize::MAX` after an attempt to send another one.
+/// A link in memory that accepts only the expected datagrams, in their order. `sent` counts the
+/// attempts to send these, and is `usize::MAX` after an attempt to send another one.
 #[derive(Drop)]
 struct Expecting<'a> {
     link: MemoryLink<'a>,
@@ -74,42 +74,20 @@ impl<'a> Link for Expecting<'a> {
     }
 }
 
-/// A door, the socket of a server. It is never opened.
+/// Opens links to an agent in memory, which together accept only these datagrams, in their order.
 #[derive(Drop)]
-pub struct NoDoor;
-
-/// Links to an agent in memory, which together accept these datagrams. `asked` counts the calls to
-/// open a link or a door.
-#[derive(Drop)]
-struct Counting<'a> {
+struct Expected<'a> {
     alloc: Global,
     table: &'a Table,
     expected: &'a [&'a [u8]],
     sent: &'a Cell<usize>,
     deliveries: &'a [Option<usize>],
-    asked: u64,
-    fault_count: u64,
 }
 
-impl<'a> Links for Counting<'a> {
+impl<'a> Opener for Expected<'a> {
     type Wire = Expecting<'a>;
 
-    type Door = NoDoor;
-
-    ghost opens = { λ _ _ _ _ _ _. Unit {0} };
-
-    ghost closes = { λ _ _ _. Unit {0} };
-
-    ghost binds = { λ _ _ _ _ _. Unit {0} };
-
-    ghost serves = { λ _ _ _ _ _ _ _. Unit {0} };
-
-    ghost fails = { λ _ _. Unit {0} };
-
-    ghost fault_count = { λ links. links.fault_count };
-
-    fn open(&mut self, _host: &str, _port: u16, _seconds: u64) -> Result<Expecting<'a>, LinkFault> {
-        self.asked = self.asked.saturating_add(1);
+    fn open_link(&mut self) -> Result<Expecting<'a>, LinkFault> {
         let config = Config {
             community: b"secret",
             max_size: 1472,
@@ -121,39 +99,14 @@ impl<'a> Links for Counting<'a> {
             fault_count: 0,
         })
     }
-
-    fn close(&mut self, _wire: Expecting<'a>) {}
-
-    fn bind(&mut self, _host: &str, _port: u16) -> Result<NoDoor, LinkFault> {
-        self.asked = self.asked.saturating_add(1);
-        self.fault_count = self.fault_count.saturating_add(1);
-        Err(LinkFault)
-    }
-
-    fn serve(
-        &mut self,
-        _door: &mut NoDoor,
-        _table: &Table,
-        _config: &Config<'_>,
-        turns: u64,
-    ) -> Served {
-        Served {
-            idle: turns,
-            ..Served::default()
-        }
-    }
-
-    fn faults(&self) -> u64 {
-        self.fault_count
-    }
 }
 
 /// A command line, what it prints on standard output and on standard error, its status, how many
 /// links it opens, and the datagrams that it sends.
 type Asking<'a> = ((&'a str, &'a str, &'a str, u8), u64, &'a [&'a [u8]]);
 
-/// Returns whether the command line prints its texts, opens `opened` links, and sends exactly the
-/// expected datagrams.
+/// Returns whether the command line prints its texts, has its status, opens `opened` links, and
+/// sends exactly the expected datagrams.
 fn asks(
     alloc: Global,
     table: &Table,
@@ -164,15 +117,13 @@ fn asks(
     let words: Vec<&str> = line.split(' ').collect(alloc)?;
     let files = MemoryFiles { files: OF_THREE };
     let sent = Cell::new(0);
-    let mut links = Counting {
+    let mut links = Opened::new(Expected {
         alloc,
         table,
         expected,
         sent: &sent,
         deliveries,
-        asked: 0,
-        fault_count: 0,
-    };
+    });
     let mut out = MemoryOutput::new(alloc);
     let mut err = MemoryOutput::new(alloc);
     let ended = tool(alloc, &words, &files, &mut links, &mut out, &mut err);
@@ -185,8 +136,8 @@ fn asks(
     )
 }
 
-/// Asserts of each of the command lines that it prints its texts, opens its number of links, and
-/// sends exactly its datagrams.
+/// Asserts of each of the command lines that it prints its texts, has its status, opens its number
+/// of links, and sends exactly its datagrams.
 fn assert_asks(
     rt: &impl Abort,
     alloc: Global,
@@ -368,7 +319,7 @@ fn without_an_agent_or_a_valid_start_nothing_is_sent(rt: HostRuntime) -> Result<
     assert_asks(&rt, rt.alloc(), &[], NOTHING_SENT)
 }
 
-/// An output that records at each write how many datagrams were sent before it.
+/// An output that records at each of its first four writes how many datagrams were sent before it.
 #[derive(Drop)]
 struct Noting<'a> {
     sent: &'a Cell<usize>,
@@ -396,7 +347,8 @@ impl Output for Noting<'_> {
     ghost after_takes = { λ _ _. refl };
 }
 
-/// Asserts how many datagrams were sent before each write to standard output.
+/// Asserts that the status is 0, and how many datagrams were sent before each of the first four
+/// writes to standard output. For a write that doesn't happen, the number is 0.
 fn assert_notes(
     rt: &impl Abort,
     alloc: Global,
@@ -407,15 +359,13 @@ fn assert_notes(
     let table = Table::read(alloc, THREE)?;
     let words: Vec<&str> = line.split(' ').collect(alloc)?;
     let sent = Cell::new(0);
-    let mut links = Counting {
+    let mut links = Opened::new(Expected {
         alloc,
         table: &table,
         expected,
         sent: &sent,
         deliveries: &[],
-        asked: 0,
-        fault_count: 0,
-    };
+    });
     let mut out = Noting {
         sent: &sent,
         notes: [0; 4],

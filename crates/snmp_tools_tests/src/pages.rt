@@ -1,10 +1,11 @@
-//! Walks over tables of several pages: each line that is printed.
+//! Walks over tables of 127 to 513 rows, which are stored in pages of up to 128 each. All that is
+//! printed is compared.
 
 use crate::run::{NO_LIMITS, prints};
 use std::alloc::{AllocError, Global};
 
 /// Returns the text of `count` rows, whose numbers begin with 0 and increase by `step` modulo
-/// `count`, and the lines of a walk over them.
+/// `count`, and the lines of a walk over them if no number occurs twice.
 fn rows_of(alloc: Global, count: u32, step: u32) -> Result<(String, String), AllocError> {
     let mut text = String::new(alloc);
     let mut lines = String::new(alloc);
@@ -19,7 +20,8 @@ fn rows_of(alloc: Global, count: u32, step: u32) -> Result<(String, String), All
     Ok((text, lines))
 }
 
-/// Returns whether a walk prints the lines of such rows, all of them and nothing else.
+/// Returns whether the command line `words` prints the lines of such rows, all of them and nothing
+/// else, and ends with status 0.
 fn is_printed(alloc: Global, words: &str, count: u32, step: u32) -> Result<bool, AllocError> {
     let (text, lines) = rows_of(alloc, count, step)?;
     let files = [("pages.tab", text.as_bytes())];

@@ -18,18 +18,20 @@
 //! ```
 //!
 //! - Each line after `$` is a command line. Command lines that follow one another print the same.
-//! - A line after `!` is printed on standard error. With a number before the `!`, the status is
-//!   that number, and otherwise it is 0.
+//! - A line after `!` is printed on standard error. The status is the greatest of the numbers
+//!   before these `!`, or 0 if there are none.
 //! - Any other line is printed on standard output. If the text of an output ends in `...`, it is
 //!   only the beginning.
 //! - A line that ends in a backslash continues in the next line. At the end of a file it means that
 //!   no newline ends the file.
-//! - Words of a command line are separated by single blanks. Quotes, `"` or `'`, are as in a shell.
+//! - The arguments of a command line are separated by single blanks. Between two `"` or two `'`, a
+//!   blank or the other quote is part of the argument.
 //! - `{3*TEXT}` stands for a text three times, `{xFF}` for an octet, and `{PATH}` for a file
 //!   without its last newline.
 //!
 //! A file can be read by the command lines after it in its table, until another file has its path.
-//! The files of `rows/files.rt` can be read by all. `{port}` is a port that no program uses.
+//! The files of `rows/files.rt` can be read by all. `{port}` is a UDP port. `tests/program.py`
+//! takes one that no program uses.
 
 mod arguments;
 mod files;
@@ -183,7 +185,8 @@ impl Outcome {
     }
 }
 
-/// Returns the status before the `!` of a message.
+/// Returns the status before the `!` of a message: 0 if nothing is before it, and `None` if no
+/// number from 0 to 255 is.
 fn status_of(number: &str) -> Option<u8> {
     if number.is_empty() {
         return Some(0);
@@ -263,7 +266,8 @@ fn assert_outcome(
     Ok(())
 }
 
-/// Returns whether an output has this text, or if the text ends in `...`, begins with it.
+/// Returns whether an output has this text or, if the text ends in `...`, begins with the text
+/// before the dots.
 fn is_as_said(octets: &[u8], text: &[u8]) -> bool {
     match text.strip_suffix(b"...\n") {
         Some(beginning) => octets.starts_with(beginning),

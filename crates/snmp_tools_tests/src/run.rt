@@ -48,7 +48,8 @@ pub fn status_of<L: Links>(
     Ok(tool(alloc, &words, &files, links, out, err))
 }
 
-/// Returns whether an output that accepts `limit` octets has that many of the text, or all of it.
+/// Returns whether an output that accepts `limit` octets has the first `limit` octets of the text,
+/// or all of a shorter text.
 fn has_taken(output: &MemoryOutput, limit: usize, text: &str) -> bool {
     let octets = output.octets();
     text.as_bytes().starts_with(octets) && octets.len() == limit.min(text.len())

@@ -59,7 +59,7 @@ fn replies_and_dropped_datagrams_are_counted(rt: HostRuntime) {
 }
 
 #[test]
-fn an_output_that_fails_ends_the_service(rt: HostRuntime) {
+fn a_failed_output_of_the_service_is_reported(rt: HostRuntime) {
     const LINE: &str = "snmp snmpd --table=t.tab --turns=1 --listen=h:1";
     let requests = [GET];
     let mut links = MemoryLinks::new(rt.alloc(), &[], &requests);

@@ -144,7 +144,8 @@ impl<'a> Endpoint for RecordedNetwork<'a> {
 
     ghost fault_count = { λ network. network.faults };
 
-    /// Receives a datagram of the walk. Fails if `buffer` has no room for any datagram over UDP.
+    /// Receives a datagram of the walk. Fails if `buffer` is shorter than the longest datagram over
+    /// UDP.
     fn receive(&mut self, buffer: &mut [u8]) -> Result<Option<(usize, ())>, EndpointFault> {
         if buffer.len() < MAX_DATAGRAM {
             return Err(self.fault());

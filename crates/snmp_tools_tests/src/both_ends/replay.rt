@@ -1,5 +1,5 @@
-//! The agent's end of a record: what arrived there arrives again. A send succeeds only if it is the
-//! next datagram of the record.
+//! The agent's end of a record: what arrived there arrives again. A send succeeds only if the agent
+//! sent the same datagram next in the record.
 
 use super::recorded::{Entry, Passing};
 use super::walk::RecordedLink;
@@ -9,9 +9,10 @@ use snmp_walk::LinkFault;
 
 /// The door (server socket) at the agent's end of a record.
 ///
-/// A receive returns the next datagram of the record if it arrived at the agent. If it was sent or
-/// arrived at the walk's end, the receive skips it and returns nothing. If the agent sent it, or
-/// none is left, the receive returns nothing.
+/// A receive returns the next datagram of the record if it arrived at the agent, and fails if the
+/// buffer is too short for it. If the datagram was sent or arrived at the walk's end, the receive
+/// skips it and returns nothing. If the agent sent it, or none is left, the receive returns
+/// nothing.
 #[derive(Drop)]
 pub struct ReplayDoor<'a> {
     entries: &'a [Entry],
@@ -64,8 +65,8 @@ impl<'a> Endpoint for ReplayDoor<'a> {
                 buffer[..size].copy_from_slice(entry.octets.as_slice());
                 Ok(Some((size, ())))
             }
-            // The next entry of the record is a reply of the agent. Until it is sent again, receives
-            // return nothing.
+            // The next entry of the record is a reply of the agent. Until it is sent again,
+            // receives return nothing.
             Passing::ReplySent => Ok(None),
             Passing::RequestSent | Passing::ReplyArrived => {
                 self.used += 1;
@@ -74,7 +75,7 @@ impl<'a> Endpoint for ReplayDoor<'a> {
         }
     }
 
-    /// Sends a datagram, which must be the next one of the record.
+    /// Sends a datagram. Fails unless the agent sent the same datagram next in the record.
     fn reply(&mut self, datagram: &[u8], _peer: ()) -> Result<(), EndpointFault> {
         let Some(entry) = self.entries.get(self.used) else {
             return Err(self.fault());
@@ -93,12 +94,12 @@ impl<'a> Endpoint for ReplayDoor<'a> {
     }
 }
 
-/// The agent's end of a record, at which doors can be opened one after the other. Each begins at the
-/// start of the record. No link can be opened.
+/// The agent's end of a record, at which doors can be opened one after the other. Each begins at
+/// the start of the record. No link can be opened.
 #[derive(Drop)]
 pub struct ReplayLinks<'a> {
     entries: &'a [Entry],
-    /// Whether the whole record passed at the door that was served last.
+    /// Whether the whole record passed at the door that was served last; false if none was served.
     pub(crate) is_done: bool,
     faults: u64,
 }

@@ -80,8 +80,9 @@ fn the_rows_of_the_served_table_are_printed(rt: HostRuntime) -> Result<(), Fail>
     )
 }
 
-/// The first request is lost, and the second arrives twice. The reply to it arrives three times, and
-/// the reply to the third request is lost. The Get and the bulk walk end at the first reply.
+/// The first datagram of the walk is lost, and the second arrives twice. Replies to the second
+/// arrive three times, and the reply to the third is lost. The Get and the bulk walk end at the
+/// first reply.
 const LOSSES: &[Delivery] = &[
     Delivery::Nothing,
     Delivery::Request(2),

@@ -103,8 +103,8 @@ pub struct WalkLinks<'a> {
 impl<'a> WalkLinks<'a> {
     ghost use Rattle.std.specs.Prelude.{◌≡◌, []};
 
-    /// Returns the walk's end of a new network. Its deliveries are those of a [`MemoryNetwork`],
-    /// and the agent at its other end serves `table`.
+    /// Returns the walk's end of a new network, which delivers as a [`MemoryNetwork`] with this
+    /// list does. The agent at its other end serves `table`.
     ///
     /// [`MemoryNetwork`]: snmp_walk::MemoryNetwork
     pub fn new(

@@ -4,7 +4,7 @@ use crate::rows::assert_rows;
 use std::test::Fail;
 
 const ROWS: &str = r#"
-# The beginnings of each help.
+# The version, and the beginning of each help.
 $ snmp --version
 snmp 0.7.0
 $ snmp -h
@@ -65,8 +65,8 @@ $ snmp snmpd --turns 0
 ! error: the following required arguments were not provided:
 1!   --table <FILE>...
 
-# Options of Net-SNMP: some are accepted with their values joined, and messages say what to use
-# instead of the others.
+# Arguments of Net-SNMP: some options are accepted with their values joined, and the messages about
+# others have a tip.
 $ snmp snmpbulkwalk -v2c -cpublic -r1 -t2 -On -Cr50 table:three.tab .1.3.6.1.4.1.32473.1
 $ snmp snmpwalk table:three.tab .1.3.6.1.4.1.32473.1 -v2c -cpublic -r1 -t2 -On
 {three}
@@ -98,7 +98,7 @@ $ snmp snmpset
 !
 1!   tip: agents are read here and never written...
 
-# Numbers at the ends of their ranges and beyond.
+# Numbers and communities at the ends of their ranges and beyond, and what isn't a number.
 $ snmp snmpwalk -r 0 -On table:three.tab .1.3.6.1.4.1.32473.1.1.0
 $ snmp snmpwalk -r 1000 -On table:three.tab .1.3.6.1.4.1.32473.1.1.0
 $ snmp snmpwalk -t 1 -On table:three.tab .1.3.6.1.4.1.32473.1.1.0
@@ -154,7 +154,7 @@ $ snmp snmpd -c {255*0} --table three.tab --listen 127.0.0.1:{port} --turns 0
 listening on 127.0.0.1:{port}
 0 replies, 0 dropped
 
-# Letters.
+# Letters that an option doesn't have.
 $ snmp snmpwalk -Oz table:three.tab .1
 $ snmp snmpwalk -O n -O nz table:three.tab .1
 1! Unknown letter: z
@@ -188,7 +188,7 @@ $ snmp snmpbulkwalk -On -C7 table:three.tab .1.3.6.1.4.1.32473.1
 $ snmp snmpwalk -Cé table:three.tab .1
 1! Unknown letter: {xC3}
 
-# Agents.
+# Addresses that are refused, and one that isn't reached.
 $ snmp snmpwalk -On '' .1
 1! Bad agent address:{x20}
 $ snmp snmpwalk -On : .1

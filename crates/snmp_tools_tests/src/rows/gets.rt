@@ -53,7 +53,7 @@ TINY-MIB::tinyState.0 = INTEGER: up(1)
 TINY-MIB::tinyState.1 = No Such Instance currently exists at this OID
 ! {warnings}
 
-# Sizes that leave no room for a binding, or for a reply.
+# Message sizes without room for a binding, and without room for a reply.
 $ snmp snmpget --max-size=26 table:three.tab .1.3.6.1.2.1.1.5.0
 2! Error in packet: tooBig (1), index 0
 $ snmp snmpget --max-size=25 -r2 table:three.tab .1.3.6.1.2.1.1.5.0

@@ -26,7 +26,7 @@ M::fixed.97.98.99.100.101.102
 $ snmp snmptranslate --mib sizes.txt -On M::fixed."'"ab"'".'"'cd'"'."'"ef"'"
 .1.1.1.97.98.2.99.100.101.102
 
-# Indexes that consist of a string and one more part, of any syntax. Numbers that aren't such an
+# Indexes that consist of a string and one more part, of many syntaxes. Numbers that aren't such an
 # index are shown as numbers.
 
 @ indexes.txt
@@ -225,9 +225,9 @@ $ snmp snmptranslate --mib indexes.txt .1.33.1.2.97.98.99.100 .1.33.1.2.97.98.99
 M::lastBits."ab".99.100
 M::lastBits.2.97.98.99.256
 
-# Rows that augment others, also of another module, where the names of the index are then looked
-# up; nodes below a row that aren't columns; indexes whose objects don't exist; and rows with the
-# same identifier: the first counts.
+# Rows that augment others: if the other row is in another module, the names of its index are
+# looked up there. Nodes below a row that aren't columns, and indexes whose objects don't exist. Of
+# rows with the same identifier, the first counts.
 
 @ augments.txt
 M DEFINITIONS ::= BEGIN IMPORTS key FROM N farRow FROM P absentRow FROM N;
@@ -292,8 +292,8 @@ M::col11.2.97.98
 ! snmp: M::ringed stands on a cycle
 
 # Objects that are their own indexes. Along a chain of types, also through two imports, the hint,
-# the SIZE and the names nearest to the object count. A type is looked up in the object's own
-# module first.
+# the SIZE and the names nearest to the object count. An object's type is looked up first in the
+# object's own module.
 
 @ types.txt
 M DEFINITIONS ::= BEGIN IMPORTS Far FROM N Gone FROM GONE Absent FROM N Ring FROM N;

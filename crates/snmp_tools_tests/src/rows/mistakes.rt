@@ -6,7 +6,8 @@ use std::test::Fail;
 const ROWS: &str = r#"
 # If several arguments are wrong, the message is about the first of these: the version, -O, -C,
 # the community, AGENT, the module files in order, NAME, --after, the table file or the link, a
-# root that can't be sent, an --after that isn't below the root, an --after that can't be sent.
+# root that can't be sent, an --after that is neither the root nor below it, an --after that can't
+# be sent.
 $ snmp snmpwalk -v 1 -Oz -Cy -c {256*0} --mib no.txt --mib program.txt --after b udp: a
 $ snmp snmpbulkwalk -v 1 -Oz -Cy -c {256*0} --mib no.txt --mib program.txt --after b udp: a
 1! Unknown version: 1
@@ -161,7 +162,7 @@ $ snmp snmpd --mib tiny.txt --listen a..b:1 --table no.tab
 ! {warnings}
 1! no.tab: cannot be read
 
-# Names.
+# Names that are refused, and a name of 128 numbers.
 $ snmp snmpwalk -On table:three.tab mib-2
 1! Unknown name: mib-2
 $ snmp snmpwalk -On table:three.tab ''
@@ -264,7 +265,7 @@ iso.3
 ! {warnings}
 1! Bad number: iso.4294967296
 
-# A name of 128 numbers, of five octets each, is read and walked.
+# A name of 128 numbers, 125 of them with five octets each, is read and walked.
 
 @ t.tab
 .1.3.6{125*.4294967295}|2|1

@@ -101,9 +101,9 @@ iso
 $ snmp snmptranslate --mib across.txt --mib well.txt -On ACROSS-MIB::across
 .1.7.2
 
-# A name in a module refers to a definition of that module, or if there is none, to the first
-# import of the name. A name without a module is a root, or if there is none, the first definition
-# that was loaded.
+# If a module defines and imports a name, the name refers to the definition there. If the module
+# only imports the name, the name refers to the first such import. In the arguments, a name without
+# a module is a root or, if no root has that name, the first definition that was loaded.
 
 @ m.txt
 A DEFINITIONS ::= BEGIN IMPORTS x FROM B x FROM C;
@@ -163,8 +163,9 @@ $ snmp snmptranslate --mib m.txt z
 ! snmp: S::z stands on a cycle
 1! Unknown name: z
 
-# A warning for each import of a name that the module doesn't define, also of a root, but not of
-# macros and base types.
+# An import has a warning if the other module neither defines nor imports the name, also the name
+# of a root. Names of macros and base types have none. Each FROM clause has one warning if its
+# module isn't loaded.
 
 @ m.txt
 A DEFINITIONS ::= BEGIN IMPORTS gone, iso, gone, MODULE-IDENTITY, Gauge32 FROM B
@@ -179,9 +180,7 @@ iso
 ! snmp: A imports from NONE, which is not loaded
 ! snmp: A imports from NONE, which is not loaded
 
-# Chains of names up to 128 numbers. Each name is defined after the one that it refers to, and
-# then before it. An object whose type is in a ring has no syntax, and the program prints no
-# warning.
+# An object whose type is in a ring has no syntax, and the program prints no warning about it.
 
 @ t.tab
 .1.9.0|2|5

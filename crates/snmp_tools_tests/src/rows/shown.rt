@@ -1,4 +1,4 @@
-//! Names and values as module files show them, and values without an object.
+//! Names and values, as they are shown with module files and without.
 
 use crate::rows::assert_rows;
 use std::test::Fail;
@@ -132,7 +132,7 @@ part.0 = INTEGER: 0.05
 part.1 = INTEGER: -0.05
 none.0 = STRING: "a"
 
-# Values without an object.
+# Values that no module file describes.
 
 @ t.tab
 .1.3.6.1.4.1.32473.1.0|67|14096763

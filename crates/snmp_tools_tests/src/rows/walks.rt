@@ -54,7 +54,7 @@ $ snmp snmpwalk -On table:t.tab .
 .1.3.6.1.11.0 = INTEGER: 4
 .1.3.6.1.100.0 = INTEGER: 5
 
-# Names by the built-in roots.
+# Without module files, only the roots have names.
 $ snmp snmpwalk -O S table:three.tab iso
 $ snmp snmpwalk -O S table:three.tab .iso.3.6.1.4.1.32473
 $ snmp snmpwalk -O s table:three.tab iso
@@ -152,7 +152,7 @@ $ snmp snmpwalk -On table:object.tab .1.3.6.1.4
 $ snmp snmpwalk -On table:six.tab .1.3.6.1.4.1.32473.1.7.0
 .1.3.6.1.4.1.32473.1.7.0 = No Such Instance currently exists at this OID
 
-# Sizes and repetitions.
+# Message sizes and max-repetitions.
 $ snmp snmpbulkwalk -On -Cr1 --max-size 134 table:six.tab .1.3.6.1.4.1.32473.1
 $ snmp snmpbulkwalk -On -Cr2 --max-size 134 table:six.tab .1.3.6.1.4.1.32473.1
 $ snmp snmpbulkwalk -On -Cr6 --max-size 134 table:six.tab .1.3.6.1.4.1.32473.1
