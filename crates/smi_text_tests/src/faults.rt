@@ -1,4 +1,4 @@
-//! Texts that are refused, each with its fault and line, and the smallest texts that are accepted.
+//! Texts that are refused, each with its fault and line, and similar texts that are accepted.
 
 use crate::reading::{
     are_tokens, assert_fault_of_each, assert_faults, bad_byte, counts, fault_of, fault_of_pieces,
@@ -201,7 +201,7 @@ fn a_second_definition_of_a_name_is_a_fault(rt: HostRuntime) {
 fn the_first_of_several_faults_is_reported(rt: HostRuntime) {
     let alloc = rt.alloc();
     let rows = [
-        // A second definition before and after a fault of the lexer.
+        // A second definition before a fault of the lexer, and after one.
         (
             b"A DEFINITIONS ::= BEGIN\nX ::= BITS\nX ::= BITS\n? END".as_slice(),
             double_name(3),
@@ -214,7 +214,8 @@ fn the_first_of_several_faults_is_reported(rt: HostRuntime) {
             b"A DEFINITIONS ::= BEGIN X ::= BITS\nX ::= BITS END\n\"open",
             double_name(2),
         ),
-        // An unexpected token before and after a fault of the lexer.
+        // An unexpected token before a fault of the lexer, and faults of the lexer without such a
+        // token before them.
         (b"A DEFINITIONS BEGIN\n?", syntax(1)),
         (b"A DEFINITIONS\n? BEGIN", bad_byte(2)),
         (b"A DEFINITIONS ::= BEGIN END\n'1", open_string(2)),

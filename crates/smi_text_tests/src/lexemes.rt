@@ -191,7 +191,7 @@ const RAW: &[&str] = &[
 const SIGNS: &[&str] = &["<", ">", ":", ".", "=", "|", ")", "]", "-1", "\"\"", "''H"];
 
 #[test]
-fn some_signs_are_accepted_only_in_raw_text(rt: HostRuntime) -> Result<(), Fail> {
+fn signs_begin_no_definition_outside_raw_text(rt: HostRuntime) -> Result<(), Fail> {
     assert_fault_of_each(&rt, rt.alloc(), RAW, None)?;
     assert_fault_of_each(&rt, rt.alloc(), SIGNS, syntax(2))?;
     Ok(())

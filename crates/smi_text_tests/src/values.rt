@@ -1,4 +1,5 @@
-//! What a module defines and imports, and the values of numbers and bounds.
+//! What a module defines and imports, the values of numbers and bounds, and lists and texts as
+//! vectors.
 
 use crate::reading::parts_of;
 use smi_text::{Items, Module, Text, TokenKind, arc, bound, number, parse_modules};

@@ -213,7 +213,8 @@ fn each_index_comes_after_the_one_it_refers_to(rt: HostRuntime) -> Result<(), Fa
     Ok(())
 }
 
-/// The index that each index refers to: 1, 4 and 5 are on a ring or refer into one.
+/// The index that each index refers to, if there is one. Indices 1, 4 and 5 are on a ring or refer
+/// into one, and index 9 isn't in the list.
 static NEXT: [Option<usize>; 8] = [
     Some(3),
     Some(4),

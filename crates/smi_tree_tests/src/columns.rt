@@ -1,5 +1,5 @@
-//! The indexes of columns, by INDEX and AUGMENTS of their rows. The rows `indexes` of
-//! `snmp_tools_tests` test indexes of each base type.
+//! The indexes of columns, by INDEX and AUGMENTS of their rows. The table `rows/indexes.rt` of
+//! `snmp_tools_tests` tests indexes of each base type.
 
 ghost use Rattle.std.specs.Prelude.{◌≡◌};
 
@@ -10,7 +10,7 @@ use smi_tree::{Extent, Identifiers, IndexPart, Indexes, Types};
 use std::alloc::Global;
 use std::test::Fail;
 
-/// A label, and the INDEX parts of its node.
+/// A label, and the INDEX parts of its node, if it has such parts.
 type Row<'a> = (&'a str, Option<&'a [IndexPart]>);
 
 const TEXT: IndexPart = IndexPart::Text(Extent::Counted);
@@ -149,8 +149,8 @@ static COLUMNS_OF_ROWS: [Row<'static>; 2] = [
     ("key", Some(&[IndexPart::Address, IndexPart::Number])),
 ];
 
-/// Rows whose INDEX is a string: of a fixed SIZE below zero, without IMPLIED and with it; of a
-/// range below zero; and of SIZE zero.
+/// Rows, each with an INDEX of one object: an OCTET STRING of a fixed SIZE below zero, an Opaque of
+/// such a SIZE with IMPLIED, an OCTET STRING of a range below zero, and one of SIZE zero.
 const SIZES: &[u8] = b"M DEFINITIONS ::= BEGIN
 below OBJECT-TYPE SYNTAX OCTET STRING (SIZE (-5)) MAX-ACCESS read-only STATUS current
   DESCRIPTION \"\" ::= { belowRow 1 }

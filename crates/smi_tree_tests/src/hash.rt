@@ -95,7 +95,7 @@ fn tree_by(alloc: Global, hash: NameHash) -> Result<Box<Tree>, Fail> {
 }
 
 #[test]
-fn look_ups_find_the_same_with_each_key(rt: HostRuntime) -> Result<(), Fail> {
+fn look_ups_find_the_same_with_two_keys(rt: HostRuntime) -> Result<(), Fail> {
     let keyed = tree_by(rt.alloc(), key_of_sevens())?;
     let fixed = tree_by(rt.alloc(), NameHash::Fixed)?;
     assert_same(&rt, &keyed, &fixed);

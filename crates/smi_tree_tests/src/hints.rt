@@ -1,4 +1,4 @@
-//! Display hints, with the examples of RFC 2579, section 3.1.
+//! Display hints, among them examples of RFC 2579, section 3.1.
 use smi_value::{Hint, HintValue, write_hint};
 use std::alloc::Global;
 use std::process::Abort;

@@ -130,7 +130,7 @@ static NAMES: [(&[u8], &str); 14] = [
 ];
 
 #[test]
-fn each_letter_changes_the_line(rt: HostRuntime) -> Result<(), Fail> {
+fn letters_change_the_line(rt: HostRuntime) -> Result<(), Fail> {
     let tree = sample(rt.alloc(), COUNTED, MAC)?;
     let value = ValueRef::Octets(b"\x00\x16\x3e\x5a\x78\x8e");
     assert_lines(&rt, rt.alloc(), &tree, &WES, &value, &NAMES)

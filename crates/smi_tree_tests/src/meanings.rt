@@ -131,7 +131,7 @@ static RESOLUTIONS: [Row; 29] = [
     ("A", "y", "1.2"),
     ("A", "late", "1.2.5"),
     ("A", "early", "1.2.5.1"),
-    // An import of a name that the other module imports too.
+    // An import from a module that doesn't define the name, but imports it from a third.
     ("A", "z", "0.7"),
     // An imported name comes before the root.
     ("A", "iso", "2.9"),
@@ -141,7 +141,7 @@ static RESOLUTIONS: [Row; 29] = [
     ("D", "ccitt", "0"),
     ("A", "named", "1.3"),
     ("A", "number", "1.3"),
-    // Imports around a ring of modules: one ends at a definition, and the others never end.
+    // Imports around a ring of modules: those of `far` end at a definition, those of `round` never.
     ("A", "far", "1.11.10"),
     ("A", "round", "cycle"),
     ("RING-C", "round", "cycle"),

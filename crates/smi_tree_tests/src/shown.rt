@@ -1,5 +1,5 @@
-//! Names read and shown with the tree of the tiny modules. The rows `shown` of `snmp_tools_tests`
-//! test what else a tree shows.
+//! Names read and shown with the tree of the tiny modules. The table `rows/shown.rt` of
+//! `snmp_tools_tests` tests more of what is shown with a tree.
 
 use crate::names::random_oid;
 use crate::reading::{TINY, modules_of, oid};
@@ -111,7 +111,7 @@ fn assert_writers(rt: &impl Abort, alloc: Global, tree: &Tree) -> Result<(), Fai
 }
 
 /// Asserts that one `LineWriter` writes the same lines as `line`: for each of `PREFIXES` in turn,
-/// and after each for up to three random names, most of them below it.
+/// and after each for up to three random names. Most of these begin with the prefix.
 fn assert_written(
     rt: &impl Abort,
     alloc: Global,

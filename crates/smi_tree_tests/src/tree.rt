@@ -66,7 +66,8 @@ fn consists_of(text: &str, parts: &[&[u8]]) -> bool {
     rest.is_empty()
 }
 
-/// Returns whether `sentence` says what `warning` does. Only four kinds of warning have a sentence.
+/// Returns whether `sentence` says what `warning` does. Only four kinds of warning have a sentence
+/// here.
 fn says(sentence: &str, warning: &Warning) -> bool {
     match warning {
         Warning::DoubleModule(home) => {
@@ -219,8 +220,8 @@ own OBJECT IDENTIFIER ::= { 1 }
 END
 ";
 
-/// Identifiers, each with the label of the node that is its longest prefix, and the numbers after
-/// this prefix.
+/// Identifiers, each with the label of the node that is its longest prefix, if there is one, and
+/// the numbers after this prefix.
 static DEEPEST: [(&str, Option<&str>, &[u32]); 5] = [
     ("1.3", Some("one"), &[]),
     ("1.3.2", Some("one"), &[2]),

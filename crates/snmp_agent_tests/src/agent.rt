@@ -1,4 +1,4 @@
-//! Datagrams and the replies to them, worked out by hand.
+//! Datagrams and the replies to them, most of them worked out by hand.
 ghost use Rattle.std.specs.Prelude.{IsTrue};
 ghost use Rattle.snmp_wire.specs.Canon.{IsEncodable};
 ghost use Rattle.snmp_wire.specs.ber.Canon.{IsEncodableValue};
@@ -129,7 +129,7 @@ fn a_get_next_returns_the_next_variable(rt: HostRuntime) {
     assert_reply(&rt, &table, 1472, &request, &reply);
 }
 
-/// Returns `request` with `octet` at this offset, or unchanged if it is shorter.
+/// Returns `request` with `octet` at this offset, or unchanged if the offset is 40 or more.
 fn with_octet(request: &[u8; 40], offset: usize, octet: u8) -> [u8; 40] {
     let mut changed = *request;
     if offset < 40 {
@@ -200,8 +200,8 @@ const NEXT: [u8; 34] = [
     0x05, 0x00,
 ];
 
-/// Returns whether the reply to `NEXT` has the length of one with the longest name, which the table
-/// has, and begins with the name's first octets.
+/// Returns whether the reply to `NEXT` has the length of one with the name 1.3.6 followed by 125
+/// times 4294967295, and has the first octets of this name at offset 36.
 fn has_longest_name(table: &Table) -> bool {
     let mut out = [0; 65507];
     let name = [
@@ -286,8 +286,8 @@ fn assert_shortest(rt: &impl Abort, octets: &[u8]) {
     assert!(rt; out.get(..size) == Some(octets));
 }
 
-/// Replaces each octet of the request by each value. Asserts that the request is dropped, or its
-/// reply is a message in its shortest encoding.
+/// Replaces each octet of the request by each value. Asserts that the changed request is dropped,
+/// or its reply is a message in its shortest encoding.
 fn assert_messages(rt: &impl Abort, table: &Table, request: &[u8; 40]) {
     let mut out = [0; 65507];
     for offset in 0..40 {

@@ -1,4 +1,4 @@
-//! GetBulkRequests and their replies, worked out by hand.
+//! GetBulkRequests and their replies, most of them worked out by hand.
 
 use crate::agent::{assert_dropped, outcome};
 use crate::table::table_of;
@@ -19,8 +19,9 @@ const BULK: [u8; 41] = [
     0x01, 0x04, 0x01, 0x81, 0xFD, 0x59, 0x01, 0x05, 0x00,
 ];
 
-/// Returns whether `binding` is the one that `row` describes, by the last number but one of its
-/// name, and its value, or -1 for endOfMibView.
+/// Returns whether `binding` is as `row` describes. Its name must have ten numbers, with the first
+/// number of `row` as the ninth, and its value must be the second number. There -1 stands for
+/// endOfMibView.
 fn is_of_row(binding: &Binding<'_>, row: (u32, i32)) -> bool {
     let number = match binding.value {
         ValueRef::Integer(number) => number,

@@ -17,7 +17,7 @@ const NEXT: u8 = 0xA1;
 /// The tag of a GetBulkRequest.
 const BULK: u8 = 0xA5;
 
-/// Returns the request with this tag for 1.3.6.`number`, where `number` is from 128 to 16383. A
+/// Returns the request with this tag for 1.3.6.`number`, if `number` is from 128 to 16383. A
 /// GetBulk has max-repetitions 5.
 fn request_of(tag: u8, number: u16) -> [u8; 36] {
     let [high, low] = number.wrapping_mul(2).to_be_bytes();
@@ -53,7 +53,7 @@ fn is_same(table: &Table, request: &[u8], hint: &mut Hint) -> bool {
 }
 
 /// Asserts that the reply to `request` is the same with `hint`. If not, the message has `at`: the
-/// index or number of a row, and the round.
+/// index or number of a row, and the round or step.
 fn assert_same(rt: &impl Abort, table: &Table, request: &[u8], hint: &mut Hint, at: (u32, u32)) {
     let (index, round) = at;
     assert!(rt;
@@ -143,8 +143,8 @@ fn names_asked_for_again_have_the_same_replies(rt: HostRuntime) {
     }
 }
 
-/// Returns the GetNext of 1.3.6.1.4.1.1.`number`, where `number` is from 128 to 16383, so that the
-/// name has eight octets.
+/// Returns the GetNext of 1.3.6.1.4.1.1.`number`, if `number` is from 128 to 16383. Then the name
+/// has eight octets.
 fn next_request_of(number: u16) -> [u8; 40] {
     let [high, low] = number.wrapping_mul(2).to_be_bytes();
     let mut request = [
@@ -204,8 +204,8 @@ const COLUMNS: u32 = 6;
 const ROUTES: u32 = 90;
 
 /// Returns the name of the row at index `index` in the table of routes. After the last row, the
-/// count goes on at the first. An INDEX there has many numbers, so the names of rows differ only in
-/// the middle.
+/// count continues at the first. An INDEX there has many numbers, and the names of rows differ only
+/// in the middle.
 fn route(index: u32) -> Option<Oid> {
     let column = index / ROUTES % COLUMNS + 1;
     let row = index % ROUTES;

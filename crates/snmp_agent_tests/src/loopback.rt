@@ -1,5 +1,5 @@
-//! A server over loopback, in one process without threads, and a server at an endpoint whose calls
-//! fail.
+//! A server over loopback, in one process without threads, and a server at an endpoint where many
+//! calls fail.
 ghost use Rattle.std.specs.Prelude.{◌≤◌, length};
 
 use crate::agent::{GET, GOT, SYS_NAME};

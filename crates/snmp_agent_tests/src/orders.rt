@@ -8,9 +8,8 @@ use std::alloc::{AllocError, Global};
 use std::collections::BTreeMap;
 use std::process::Abort;
 
-/// The number of rows at the start, which are in order and have even numbers. They fill so many
-/// pages that a table gathers the other rows if these belong to many pages, instead of putting them
-/// one by one.
+/// The number of rows at the start, which are in order and have even numbers. After them, a table
+/// gathers the other rows if these belong to many pages, instead of putting them one by one.
 const FIRST_ROWS: u32 = 10_000;
 
 /// The number of other rows that a table puts one by one before it gathers the next. It looks at
@@ -22,11 +21,11 @@ const SEEN: u32 = 384;
 struct Order {
     /// The number of rows.
     count: u32,
-    /// The number of columns that the rows form. Places are counted row by row, across the columns.
-    /// With 1, the row at place `n` has the number `2 * n + 1`.
+    /// The number of columns that the rows form. Positions are counted across the columns. With one
+    /// column, the row at position `n` has the number `2 * n + 1`.
     columns: u32,
-    /// By how much the place of each row is after the place of the row before, modulo `FIRST_ROWS`.
-    /// With 0 the places decrease by one.
+    /// The distance from the position of a row to the position of the next, modulo `FIRST_ROWS`.
+    /// With 0 the positions decrease by one.
     step: u32,
 }
 
@@ -86,7 +85,7 @@ fn first_lines(rt: &impl Abort, alloc: Global) -> String {
     text_of(alloc, FIRST_ROWS, 1, EVEN).expect(rt, "memory")
 }
 
-/// Returns a text that begins with `first_lines`, in the second format if `is_marked`.
+/// Returns the text of `first_lines`, after the mark of the second format if `is_marked`.
 fn beginning(alloc: Global, first_lines: &str, is_marked: bool) -> Result<String, AllocError> {
     let mark = if is_marked { "#snmptab 2\n" } else { "" };
     format!(in alloc; "{mark}{first_lines}")
@@ -178,7 +177,7 @@ fn is_read_so(alloc: Global, file: &TableFile) -> bool {
 
 /// Returns a random order of 100 to 1,699 rows, of one column or of several, with a step or
 /// decreasing. A table puts the first of them one by one. If the step is long, or the columns are
-/// many, it gathers the others.
+/// many, it gathers any others.
 fn any_order(random: &mut Random) -> Order {
     let count = random.below(1600);
     let steps = [0, 1, 619, 1543, 3089];
@@ -205,7 +204,7 @@ fn any_wrong(random: &mut Random, count: u32) -> Wrong {
 }
 
 #[test]
-fn tables_in_any_order_are_read_as_if_row_by_row(rt: HostRuntime) {
+fn tables_in_random_orders_are_read_as_if_row_by_row(rt: HostRuntime) {
     let first_lines = first_lines(&rt, rt.alloc());
     let mut random = Random { state: 7 };
     for _ in 0..12 {
@@ -217,7 +216,7 @@ fn tables_in_any_order_are_read_as_if_row_by_row(rt: HostRuntime) {
 }
 
 #[test]
-fn the_first_repeated_row_is_reported_where_gathering_begins(rt: HostRuntime) {
+fn the_first_repeated_row_is_reported_as_gathering_begins(rt: HostRuntime) {
     let first_lines = first_lines(&rt, rt.alloc());
     for again in SEEN - 2..SEEN + 3 {
         let order = Order {

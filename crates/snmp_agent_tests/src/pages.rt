@@ -1,4 +1,4 @@
-//! Tables whose rows are stored in several pages are compared with plain maps.
+//! Tables of many sizes, whose rows are stored in pages, are compared with plain maps.
 
 use crate::changes::{is_numbered, name_of};
 use crate::table::{add_row, all_rows, fault_of, table_of};
@@ -159,9 +159,8 @@ fn counts_of_rows_around_the_size_of_a_page_are_read(rt: HostRuntime) {
 }
 
 /// Counts of rows, each with the step between the numbers of successive lines. Many rows then have
-/// a smaller name than the line before. At the last counts these are so many that a table gathers
-/// them. At 40,000 they become as many as its pages have room for, so it sorts them in before the
-/// end.
+/// a smaller name than the line before. At the last counts a table gathers such rows. At 40,000
+/// they become as many as its pages have room for, so it sorts them in before the end.
 const UNORDERED: [(u32, u32); 14] = [
     (100, 61),
     (129, 79),
@@ -347,7 +346,7 @@ fn is_changed(table: &mut Table, map: &mut BTreeMap<u32, u32>, index: u32) -> bo
 }
 
 #[test]
-fn rows_change_at_the_ends_and_in_the_middle_of_each_page(rt: HostRuntime) {
+fn rows_change_at_the_ends_of_pages_and_inside_them(rt: HostRuntime) {
     // Rows that are read in order fill pages of 128.
     for &count in &[1, 128, 129, 256, 257, 513] {
         for &index in &[0, 1, 127, 128, 129, 254, 255, 256, 257, 384, 510, 511, 512] {

@@ -1,4 +1,4 @@
-//! Each command with options that are given, repeated or left out.
+//! What the commands make of options that are given, repeated or left out.
 
 use snmp_words::{Job, UsageError, read_words};
 use std::alloc::Global;

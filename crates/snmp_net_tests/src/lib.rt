@@ -1,5 +1,5 @@
-//! Tests of the network: the addresses of agents, walks over loopback, and links in memory. Also
-//! tests of the command line: what each command makes of its arguments, the ranges of numbers, the
+//! Tests of the network: the addresses of agents, walks over loopback, and links in memory. Others
+//! test the command line: what each command makes of its arguments, the ranges of numbers, the
 //! help, and the messages for mistakes.
 #![tactic(auto)]
 

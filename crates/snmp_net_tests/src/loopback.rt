@@ -37,10 +37,10 @@ fn three(rt: &impl Abort, alloc: Global) -> Table {
     Table::read(alloc, THREE).expect(rt, "a table")
 }
 
-/// A sink that counts the rows. It also appends to `number`, of each row, the ninth number of the
-/// name if there is one (in the three rows it is the last but one), and then the absolute value of
-/// the value if that is an integer, or 50 if it is the string `wes`. To append a number is to add it
-/// to a hundred times `number`, modulo 2^64.
+/// A sink that counts the rows and makes a number of them. For each row it appends to `number` the
+/// ninth number of the name, if there is one. Then it appends the absolute value of an integer, or
+/// 50 for the string `wes`. To append a number is to add it to a hundred times `number`, modulo
+/// 2^64.
 #[derive(Drop)]
 struct Columns {
     number: u64,
@@ -224,7 +224,8 @@ fn has_two_alike(rt: &impl Abort, door: &UdpSocket) -> bool {
         && door.recv_from(&mut third).is_err()
 }
 
-/// Asserts that a walk over `wire` sends its first request twice, if no reply is sent from `door`.
+/// Asserts that a walk over `wire` with one retry sends its first request twice and returns
+/// nothing, if no reply is sent from `door`.
 fn assert_silent(rt: &impl Abort, wire: &mut UdpLink, door: &UdpSocket) {
     assert!(rt; walk_returns(wire, core_of(rt), 1, &WalkEnd::NoResponse, 0, 0));
     assert!(rt; wire.faults() == 0);

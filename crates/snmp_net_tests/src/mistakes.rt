@@ -1,5 +1,5 @@
-//! The messages for mistakes in the arguments. Each is compared as a whole: the mistake, tips on
-//! what is expected, and the help to read.
+//! The messages for mistakes in the arguments. Each is compared as a whole: the mistake, the tips
+//! if there are any, and the help to read.
 
 use snmp_words::{UsageError, read_words};
 use std::alloc::Global;

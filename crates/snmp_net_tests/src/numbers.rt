@@ -108,7 +108,7 @@ const AGENT_NUMBERS: &[(&str, &str, (u64, u64))] = &[
     ("--turns", "18446744073709551615", (1472, u64::MAX)),
 ];
 
-/// Options of an agent with numbers past their limits, or without a number.
+/// Arguments of an agent with numbers past their limits, or with an empty text for a number.
 const BAD_AGENT_NUMBERS: &[&[&str]] = &[
     &["snmp", "snmpd", "--table=t.tab", "--max-size", "0"],
     &["snmp", "snmpd", "--table=t.tab", "--max-size", "65508"],

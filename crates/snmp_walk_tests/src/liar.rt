@@ -197,7 +197,7 @@ fn assert_names_end(rt: &impl Abort) {
 }
 
 #[test]
-fn each_bad_reply_ends_the_walk(rt: HostRuntime) {
+fn bad_replies_end_the_walk(rt: HostRuntime) {
     assert_names_end(&rt);
     assert_end(&rt, lying(TWO), 1, 0, 1, &WalkEnd::BadReply);
     assert_end(&rt, lying(MISSING), 1, 0, 1, &WalkEnd::BadReply);
@@ -220,12 +220,13 @@ fn assert_replies_to_get(rt: &impl Abort, one: &[Oid]) {
 }
 
 #[test]
-fn each_bad_reply_ends_the_get(rt: HostRuntime) {
+fn bad_replies_end_the_get(rt: HostRuntime) {
     let one = [name_of(&rt, b"1.3.6.1.4.1.32473.1.1.0")];
     assert_replies_to_get(&rt, &one);
 }
 
-/// Asserts that a Get accepts a reply only with its names, in their order.
+/// Asserts that a Get accepts a reply with its names in their order, and refuses one without the
+/// second name, one in the other order, and one with another name.
 fn assert_names_wanted(rt: &impl Abort, both: &[Oid], swapped: &[Oid], second: &[Oid]) {
     assert_get(rt, lying(TWO), both, 2, 1, &WalkEnd::Done(2));
     assert_get(rt, lying(&ROW), both, 0, 1, &WalkEnd::BadReply);

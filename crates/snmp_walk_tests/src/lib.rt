@@ -1,5 +1,5 @@
-//! Tests of walks: over links in memory with any deliveries and tables, over a network in memory,
-//! over agents that send bad or unusual replies, and over links and into sinks that fail.
+//! Tests of walks and Gets: over links in memory with many deliveries and tables, over a network in
+//! memory, over agents that send bad or unusual replies, and over links and into sinks that fail.
 #![tactic(auto)]
 
 #[cfg(test)]

@@ -59,8 +59,8 @@ fn is_fault(link: &mut MemoryLink<'_>, buffer: &mut [u8], number: u64) -> bool {
 }
 
 /// Returns whether the link delivers the reply to request 1, then nothing, then the replies to 2
-/// and 3, and one more into a longer buffer. Each receive into a short buffer must fail and use no
-/// delivery.
+/// and 3, and one more into a longer buffer. Each receive into a buffer of fewer than 65507 octets
+/// must fail and use no delivery.
 fn receives_all(link: &mut MemoryLink<'_>) -> bool {
     let mut short = [0; 65506];
     let mut exact = [0; 43];

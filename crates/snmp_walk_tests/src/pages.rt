@@ -106,7 +106,7 @@ fn assert_walked(rt: &impl Abort, alloc: Global, count: u32, step: u32, methods:
                 is_walked(rt, alloc, &table, count, method, size),
                 "{count} rows by {step} in messages of {size} octets"
             );
-            // Resumed near the start and the end of a page, and after the last row.
+            // Resumed near multiples of 128, and after the last row.
             for &after in &[0, 127, 128, 255, 256, 511, count.saturating_sub(1)] {
                 assert!(rt;
                     after >= count || is_resumed(rt, alloc, &table, count, after, method, size),

@@ -42,8 +42,8 @@ impl Sink for Digits {
 /// A binding: the text of its name, and its value.
 pub type Row = (&'static [u8], ValueRef<'static>);
 
-/// A sink that compares each binding with the wanted one at the same place. `rows` counts all
-/// bindings, and `others` those that differ or come after the last that is wanted.
+/// A sink that compares each binding with the wanted one at the same index. `rows` counts all
+/// bindings, and `others` those that differ or that are more than wanted.
 #[derive(Drop)]
 pub struct Listed<'a> {
     pub wanted: &'a [Row],

@@ -75,7 +75,7 @@ fn assert_walk(rt: &impl Abort, alloc: Global, case: Case<'_>, expected: Expecte
 }
 
 #[test]
-fn bulks_of_any_size_return_the_same_rows(rt: HostRuntime) {
+fn bulks_of_several_sizes_return_the_same_rows(rt: HostRuntime) {
     const CASES: &[(usize, i32, usize)] = &[
         (134, 1, 7),
         (134, 10, 2),

@@ -34,7 +34,8 @@ fn is_faultless(datagram: &[u8]) -> bool
     decode(datagram).is_ok()
 }
 
-/// Each error has a condition (`IsFault`), which not all datagrams meet: these messages meet none.
+/// Each error has a condition (`IsFault`). These messages meet none of the conditions, so none of
+/// them holds of all datagrams.
 #[test]
 fn a_message_meets_no_error_condition(rt: HostRuntime) {
     assert!(rt; is_faultless(&REQUEST));
@@ -250,7 +251,7 @@ fn is_read(datagram: &[u8]) -> bool {
 }
 
 /// Each octet of the request is replaced by each value. Of the 10,240 datagrams, as many encode a
-/// message as an independent decoder finds.
+/// message as an independent decoder found.
 #[test]
 fn of_10240_changed_requests_4507_are_read(rt: HostRuntime) {
     let mut right = 0u32;

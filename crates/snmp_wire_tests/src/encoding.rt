@@ -1,4 +1,5 @@
-//! Messages and bindings are written as octets that were worked out by hand.
+//! Messages and bindings are written as octets that were worked out by hand, and messages that were
+//! read are written again.
 ghost use Rattle.std.specs.Prelude.{IsTrue, All, ◌≡◌, ◌≤◌, length};
 ghost use Rattle.snmp_wire.specs.Canon.{IsEncodable, canon_bindings};
 ghost use Rattle.snmp_wire.specs.ber.Canon.{IsEncodableValue};
@@ -39,8 +40,8 @@ const BULK: [u8; 41] = [
     0x01, 0x04, 0x01, 0x81, 0xFD, 0x59, 0x01, 0x05, 0x00,
 ];
 
-/// Returns whether `value` can be written: a string has at most 65535 octets, and an identifier an
-/// encoding. Each other value can be written.
+/// Returns whether `value` can be written: a string or an Opaque has at most 65535 octets, and an
+/// identifier has an encoding. Each other value can be written.
 fn is_encodable(value: &ValueRef<'_>) -> bool
     ensures { IsTrue result → IsEncodableValue (datum value.now) }
 {

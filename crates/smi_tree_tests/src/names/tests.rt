@@ -143,7 +143,7 @@ fn assert_faults(rt: &impl Abort, tree: &Tree) {
     }
 }
 
-/// Texts that begin with a name, the octet that ends the name if the text goes on, the numbers of
+/// Texts that begin with a name, the octet that ends the name if the text continues, the numbers of
 /// the identifier that the name means, and the name's length.
 static PREFIXES: [(&str, u8, &[u32], usize); 9] = [
     ("iso.3|x", b'|', &[1, 3], 5),
@@ -162,7 +162,7 @@ static PREFIXES: [(&str, u8, &[u32], usize); 9] = [
     ("'a|b'.1|'", b'|', &[97, 124, 98, 1], 7),
 ];
 
-/// Texts, the octet that would end a name at their start, and the fault that is reported instead.
+/// Texts that don't begin with a name, the octet that would end it, and the fault that is reported.
 static BAD_PREFIXES: [(&str, u8, NameError); 8] = [
     ("", b'|', NameError::Unknown),
     ("|1.3", b'|', NameError::Unknown),
