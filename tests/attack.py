@@ -2,48 +2,39 @@
 """Sends the built program datagrams that aren't messages, or not those that it waits for: to snmpd mutated requests
 with good ones between them, to the walkers and snmpget mutated replies.
 
-usage: attack.py [--datagrams N] [--walks N] [--seed S] [WORD..]
+usage: attack.py [WORD..]
 
-The first test sends snmpd N mutated datagrams, by default 200,000; the second, at the same time, runs the walkers and
-snmpget N times, by default 600. If there are words, only the test runs whose title contains one of them. The seed is
-printed; with S = 0 it is taken from the time of day. The last line is 'N passed, M failed, K skipped'.
+Runs the tests whose titles contain one of the words; without words, both. The environment variables DATAGRAMS, WALKS
+and SEED set the number of datagrams sent to snmpd, the number of runs of the walkers and snmpget, and the seed.
 """
-import argparse
-import multiprocessing
+import collections
+import os
 import random
 import socket
 import sys
-import time
 
 from lib import programs
 from lib.agents import run
-from lib.messages import BULK, GET, NEXT, NULL, SET, element, identifier, integer, message, read, reply_within, text
+from lib.messages import BULK, GET, NEXT, NULL, SET, message, read, reply_within
 from lib.mutations import attacking, corrupt, faults_of
-from lib.rows import E, R, ROOT
-from lib.runner import Counts, chosen_by, end_at_signals, side_by_side, try_test
+from lib.rows import AGENT_ROWS, E, OBJECTS, R
+from lib.runner import Tests, differs, sent_not, side_by_side, wrongs
 from lib.server import IDLE, Server
 from lib.texts import dotted
 
-# -- a table with a value of each type
-
-ROWS = {R + (i, 0): value for i, value in enumerate(
-    [integer(1), text(b"wes"), text(bytes(range(200))), identifier(E + (4294967295, 128)), element(0x40, b"\1\2\3\4"),
-     integer(200, 0x41), integer(4294967295, 0x42), integer(14096763, 0x43), element(0x44, b"\x9f\x78"),
-     integer(2 ** 64 - 1, 0x46)], 1)}
-TABLE = "".join(f"{dotted(name)}|{line}\n" for name, line in zip(ROWS, [
-    "2|1", "4|wes", "4x|" + bytes(range(200)).hex(), "6|" + dotted(E + (4294967295, 128)), "64|1.2.3.4", "65|200",
-    "66|4294967295", "67|14096763", "68x|9f78", "70|18446744073709551615"]))
+tests = Tests("tests/attack.py")
+test = tests.test
+DATAGRAMS, WALKS = int(os.environ.get("DATAGRAMS", 200_000)), int(os.environ.get("WALKS", 600))
+SEED = int(os.environ.get("SEED", 1))
 SIZE = 1472
-
-
-def some_name(rng):
-    """Returns a random name, in the table or near it."""
-    return rng.choice([R, R + (rng.randint(0, 11),), R + (rng.randint(0, 11), 0), E, E + (2,), (1, 3)])
+# The number of datagrams sent at once. If few are long, they fit into the queue of the server's socket.
+TOGETHER = 32
 
 
 def request(rng, id):
-    """Returns a good request for up to four random names."""
-    names = [(some_name(rng), NULL) for _ in range(rng.randint(0, 4))]
+    """Returns a good request for up to four random names, in the table or near it."""
+    names = [(rng.choice([*AGENT_ROWS, (1, 3), E, R, R + (2,), R + (2, 1), E + (9, 5, 0), E + (10,)]), NULL)
+             for _ in range(rng.randint(0, 4))]
     kind = rng.choice([GET, NEXT, BULK, BULK, SET])
     if kind == SET:
         return message(SET, id, names)
@@ -56,10 +47,7 @@ def memory(pid):
     """Returns the memory of a process in kibibytes: how much it has written to, and how much it has asked for."""
     with open(f"/proc/{pid}/status", encoding="ascii") as file:
         fields = dict(line.split(":", 1) for line in file)
-    return tuple(int(fields[name].split()[0]) for name in ("RssAnon", "VmData"))
-
-
-TOGETHER = 32  # the number of datagrams sent at once; if few are long, they fit into the queue of the server's socket
+    return [int(fields[name].split()[0]) for name in ("RssAnon", "VmData")]
 
 
 class Attack:
@@ -81,17 +69,15 @@ class Attack:
     def ask(self):
         """Sends a good request and waits for the right reply. Returns what is wrong."""
         asked = request(self.rng, self.mutated)
-        wanted = reply_within(ROWS, read(asked), SIZE)
         self.server.send(asked)
         self.others += 1
         try:
-            got = self.server.receive()
+            got = [self.server.receive()]
         except TimeoutError:
-            got = b""
-        self.right += got == wanted
-        if got == wanted:
-            return ""
-        return f"after {self.mutated} datagrams\n    {asked.hex()}\n  got\n    {got.hex()}\n  not\n    {wanted.hex()}"
+            got = []
+        wrong = sent_not(got, [reply_within(AGENT_ROWS, read(asked), SIZE, OBJECTS)])
+        self.right += not wrong
+        return wrong and f"after {self.mutated} datagrams and {asked.hex()}: {wrong}"
 
     def end(self):
         """Sends good requests until the server has used up its turns; some turns may have passed without a datagram.
@@ -104,127 +90,61 @@ class Attack:
             if wrong and not late:
                 return wrong
         status, output, messages = self.server.end()
-        sent = self.mutated + self.others - late
         counted = sum(int(word) for word in output.split() if word.isdigit())
-        if (status, counted, messages) != (0, sent, ""):
-            return f"status {status}, {output!r}, {messages!r} after {sent} datagrams"
-        return ""
+        return differs((status, counted, messages), (0, self.mutated + self.others - late, ""))
 
 
-def attack_snmpd(rng, count):
-    """Sends `count` mutated datagrams, and after every TOGETHER of them a good request, whose reply has to arrive. From
-    a tenth of them on, the server's memory must not grow. Returns a list of what is wrong."""
+# After every TOGETHER mutated datagrams a good request is sent, whose reply has to arrive. From a tenth of the
+# datagrams on, the server's memory must not grow.
+@test("snmpd replies correctly to good requests among mutated ones")
+def attack_snmpd():
     before, wrong = None, ""
-    turns = count + -(-count // TOGETHER) + IDLE
-    with Server("--max-size", str(SIZE), "--turns", str(turns), table=TABLE) as server, \
+    turns = DATAGRAMS + -(-DATAGRAMS // TOGETHER) + IDLE
+    with Server("--max-size", str(SIZE), "--turns", str(turns)) as server, \
             socket.socket(socket.AF_INET, socket.SOCK_DGRAM) as attacker:
         attacker.connect(("127.0.0.1", server.port))
         attacker.setblocking(False)
-        attack = Attack(server, attacker, rng)
-        while attack.mutated < count and not wrong:
-            attack.send(min(TOGETHER, count - attack.mutated))
+        attack = Attack(server, attacker, random.Random(SEED))
+        while attack.mutated < DATAGRAMS and not wrong:
+            attack.send(min(TOGETHER, DATAGRAMS - attack.mutated))
             wrong = attack.ask()
-            if before is None and attack.mutated >= count // 10 and not wrong:
+            if before is None and attack.mutated >= DATAGRAMS // 10 and not wrong:
                 before = memory(server.program.pid)
-        if not wrong:
-            after = memory(server.program.pid)
-            if any(more > less for more, less in zip(after, before)):
-                wrong = f"memory written to and asked for, in KiB: {before} before, {after} at the end"
-        right = attack.right
-        wrong = wrong or attack.end()
-    print(f"snmpd: {attack.mutated} mutated datagrams, {right} good requests with the right reply", flush=True)
-    return [wrong] if wrong else []
+        if wrong:
+            return wrong
+        after = memory(server.program.pid)
+        if any(more > less for more, less in zip(after, before)):
+            return f"memory written to and asked for, in KiB: {before} before, {after} at the end"
+        print(f"snmpd: {attack.mutated} mutated datagrams, {attack.right} right replies to others", flush=True)
+        return attack.end()
 
 
 # -- walkers
 
-COMMANDS = [["snmpwalk", "-On", "-r1", "-t1", "AGENT", ROOT], ["snmpbulkwalk", "-On", "-r1", "-t1", "AGENT", ROOT],
-            ["snmpbulkwalk", "-On", "-Cr3i", "-r1", "-t1", "AGENT", ROOT],
-            ["snmpget", "-On", "-r1", "-t1", "AGENT", *(dotted(name) for name in list(ROWS)[:4]), ROOT + ".99"]]
+COMMANDS = [[*words.split(" "), "-On", "-r1", "-t1", "AGENT", dotted(E)]
+            for words in ("snmpwalk", "snmpbulkwalk", "snmpbulkwalk -Cr3i")]
+COMMANDS.append(["snmpget", "-On", "-r1", "-t1", "AGENT", *map(dotted, [*list(AGENT_ROWS)[:7], R + (99,)])])
 
 
 def attack_walker(number, seed):
     """Runs a walker or snmpget once against an agent with mutated replies. Returns the beginning of its message, or
     'done' if it has none, and what is wrong."""
     words, sent = COMMANDS[number % len(COMMANDS)], []
-    ran = run(words, attacking(random.Random(seed), ROWS, sent))
-    found = "; ".join(faults_of(words, ran, sent))
-    if found:
-        found = f"run {number}, {' '.join(words)}: {found}\n    {ran.output!r}\n    {ran.messages!r}"
-    return ran.messages.split(":")[0].strip() or "done", found
+    ran = run(words, attacking(random.Random(seed), AGENT_ROWS, sent))
+    wrong = wrongs(*faults_of(words, ran, sent), *ran.faults)
+    end = ran.messages.split(":")[0].strip() or "done"
+    return end, wrong and f"run {number}, {' '.join(words)}: {wrong}\n  {ran[:3]}"
 
 
-def attack_walkers(rng, count):
-    """Runs the walkers and snmpget `count` times against such agents. Sixteen run at the same time, since they spend
-    most of it waiting for replies that don't arrive. Returns a list of what is wrong."""
-    wrong, ends = [], {}
-    runs = [(number, rng.random()) for number in range(count)]
-    for end, found in side_by_side(lambda it: attack_walker(*it), runs, 16):
-        ends[end] = ends.get(end, 0) + 1
-        wrong += [found] if found else []
-    print("walkers: " + ", ".join(f"{times} ended with {end!r}" for end, times in sorted(ends.items())), flush=True)
-    if ends.get("done", 0) == 0 or len(ends) < 3:
-        wrong.append(f"expected at least three different ends, with 'done' among them, got {sorted(ends)}")
-    return wrong[:5]
-
-
-# -- both at the same time, each in a process of its own
-
-class Part:
-    """A test that runs in another process."""
-
-    def __init__(self, test):
-        fork = multiprocessing.get_context("fork")
-        self.back, there = fork.Pipe(duplex=False)
-        self.process = fork.Process(target=self.run, args=(test, there))
-        self.process.start()
-        there.close()
-
-    def run(self, test, there):
-        end_at_signals()
-        there.send(try_test(test))
-
-    def result(self):
-        """Waits for what the test finds wrong, and returns it as one string. The process may still be running then."""
-        try:
-            wrong = self.back.recv()
-        except EOFError:
-            self.process.join()
-            wrong = f"its process ended with status {self.process.exitcode}"
-        return wrong if isinstance(wrong, str) else "\n  ".join(wrong)
-
-    def end(self):
-        self.process.terminate()
-        self.process.join()
-
-
-def main(words):
-    parser = argparse.ArgumentParser()
-    parser.add_argument("--datagrams", type=int, default=200_000)
-    parser.add_argument("--walks", type=int, default=600)
-    parser.add_argument("--seed", type=int, default=1)
-    parser.add_argument("words", nargs="*")
-    words = parser.parse_args(words)
-    tests = {"snmpd replies correctly to good requests among mutated ones": (attack_snmpd, words.datagrams),
-             "walkers and Gets that receive mutated replies end in an expected way": (attack_walkers, words.walks)}
-    chosen = chosen_by(words.words, "tests/attack.py", tests)
-    if not programs.are_current("tests/attack.py", programs.BUILT):
-        return 1
-    end_at_signals()
-    seed = words.seed or time.time_ns()
-    print(f"seed {seed}", flush=True)
-    counts, parts = Counts(), {}
-    try:
-        for title, (test, count) in tests.items():
-            if chosen(title):
-                parts[title] = Part(lambda test=test, count=count: test(random.Random(seed), count))
-        for title, part in parts.items():
-            counts.record(title, part.result())
-    finally:
-        for part in parts.values():
-            part.end()
-    return counts.end()
+@test("walkers and Gets that receive mutated replies end in an expected way")
+def attack_walkers():
+    rng = random.Random(SEED)
+    runs = [(number, rng.random()) for number in range(WALKS)]
+    ends, wrong = zip(*side_by_side(lambda it: attack_walker(*it), runs, 16))
+    print("walkers:", dict(collections.Counter(ends)), flush=True)
+    few = "done" not in ends or len(set(ends)) < 3
+    return wrongs(*[it for it in wrong if it][:5], "expected 'done' and at least two other ends" if few else "")
 
 
 if __name__ == "__main__":
-    sys.exit(main(sys.argv[1:]))
+    sys.exit(tests.main(sys.argv[1:], programs.BUILT, processes=True))

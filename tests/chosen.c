@@ -1,4 +1,4 @@
-// Writes a module with COUNT names, for tests/edge.py: chosen plain|chosen COUNT.
+// Writes a module with COUNT names, for tests/limits.py: chosen plain|chosen COUNT.
 // The plain names are in no way chosen. The chosen ones fall into one bucket of a map whose hash has the fixed key.
 #include <stdint.h>
 #include <stdio.h>

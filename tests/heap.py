@@ -10,31 +10,56 @@ status 1 (or the status of an agent's error). If no request was refused, the ans
 of its own reason. The same holds if the refused request can't end the call: it was for rows that are gathered, or is
 made again. For calls that don't allocate, and for snmpd as it serves, the requests are counted.
 
-Runs the tests whose titles contain one of the words; without words, all tests. The last line is 'N passed, M failed, K
-skipped'.
+Runs the tests whose titles contain one of the words; without words, all tests.
 
 Catches these wrong programs, which the proofs would accept: one that writes half a line when memory runs out; that
 prints some lines and ends with status 0 or without a message; that leaves out a line; that doesn't free a block; that
 prints 'Out of memory.' though no request was refused; that gives up whenever one is refused; and one with a call that
 allocates although it is documented not to.
 """
-import hashlib
+import os
 import re
 import sys
+import tempfile
 
 from lib import programs
 from lib.commands import lacks_compiler
-from lib.heaps import Heap
 from lib.messages import (BULK, GET, NEXT, NULL, RESPONSE, SET, asking, element, integer, message, read, reply_from,
                           reply_within, text)
 from lib.ports import over_free_port
-from lib.rows import AGENT_ROWS, E, NO_LINK, NO_MEMORY, OBJECTS, R, ROOT, WARNINGS
+from lib.rows import (AGENT_ROWS, E, LINES, NO_LINK, NO_MEMORY, OBJECTS, R, ROOT, ROWS as THREE_ROWS, SECOND, THIRD,
+                      WARNINGS, table_text)
 from lib.runner import Tests, differs, wrongs
 from lib.server import Server
 from lib.texts import NO_OBJECT, dotted
 
 tests = Tests("tests/heap.py")
 test = tests.test
+
+
+class Heap:
+    """A temporary folder with the heap of tests/heap.c, a library that replaces the C library's `malloc` and `realloc`,
+    and with the files of the programs that run with it. `room` is where the folder is made."""
+
+    def __init__(self, room=None):
+        self.folder = tempfile.TemporaryDirectory(dir=room)
+
+    def make(self, *words, source="heap.c"):
+        """Builds the heap, or another source that includes it, with these options of the compiler."""
+        programs.library(f"{self.folder.name}/heap.so", source, *words)
+
+    def put(self, octets):
+        """Writes a file with these octets into the folder, and returns its name."""
+        with tempfile.NamedTemporaryFile(dir=self.folder.name, delete=False) as file:
+            file.write(octets)
+        return os.path.basename(file.name)
+
+    def run(self, words):
+        """Runs a command with the heap, in the folder. LD_PRELOAD has the heap's path relative to the folder, since a
+        blank or a colon in the folder's own path would end the name."""
+        return programs.run_command(words, cwd=self.folder.name, env={**os.environ, "LD_PRELOAD": "./heap.so"})
+
+
 heap = Heap()
 
 
@@ -72,13 +97,8 @@ def judge(words, is_whole, is_refused, keeps=False, spared=0, between=-1):
 
 # -- the calls
 
-def data(name):
-    """Returns the content of a file of tests/data."""
-    with open(f"{programs.TESTS}/data/{name}", "rb") as file:
-        return file.read()
-
-
-TINY, TINY_TABLE, TWO_TABLE = data("tiny.txt"), data("tiny.tab"), data("two.tab")
+TINY, TINY_TABLE, TWO_TABLE = (programs.read_file(f"tests/data/{name}").encode()
+                               for name in ("tiny.txt", "tiny.tab", "two.tab"))
 # More rows than fit into a page of a table.
 ROWS = {E + (1, i, 0): text(b"%d" % i) for i in range(1, 300) if i != 5}
 TABLE = "".join(f"{dotted(name)}|4|{name[-2]}\n" for name in ROWS).encode()
@@ -91,35 +111,31 @@ def reply_text(rows):
     return reply_from(rows, read(ASKED)).decode(errors="replace")
 
 
-def check_call(title, check, a, b, whole, **how_many):
-    """Runs a check of heap_checks with two files, and returns what is wrong with its answers. `whole` is the output if
-    no request is refused."""
-    files = [heap.put(f"{title.replace(' ', '_')}.{i}", octets) for i, octets in enumerate([a, b])]
-    refused = {"alone": [(1, "", "")], "later": [(1, "", ""), (3, "", "")]}
-    return judge([programs.CHECKS, check, *files], lambda *answer: answer == (0, whole, ""),
-                  lambda how, *answer: answer in refused[how], **how_many)
+def check(title, name, a, b, whole, **how_many):
+    """Adds a test of a check of heap_checks with two files. `whole` is the output if no request is refused."""
+    @test(title)
+    def it():
+        refused = {"alone": [(1, "", "")], "later": [(1, "", ""), (3, "", "")]}
+        return judge([programs.CHECKS, name, heap.put(a), heap.put(b)], lambda *answer: answer == (0, whole, ""),
+                     lambda how, *answer: answer in refused[how], **how_many)
 
 
-def calls(title, check, a, b, whole, **how_many):
+def calls(title, *of, **how_many):
     """Adds a test of a check that allocates."""
-    @test(f"{title}, with each request for memory refused")
-    def it():
-        return check_call(title, check, a, b, whole, **how_many)
+    check(f"{title}, with each request for memory refused", *of, **how_many)
 
 
-def free_calls(title, check, a, b, whole):
+def free_calls(title, *of):
     """Adds a test of a check that makes no request between its marks."""
-    @test(f"{title} asks for no memory")
-    def it():
-        return check_call(title, check, a, b, whole, between=0)
+    check(f"{title} asks for no memory", *of, between=0)
 
 
 calls("Value::from_ref", "values",
       message(RESPONSE, 1, [((1, 3, 6), text(b"wes")), ((1, 3, 7), element(0x44, b"\1\2"))]), b"",
       ".1.3.6\n.1.3.7\n")
 calls("Table::read", "table", TABLE, ASKED, reply_text(ROWS))
-LINES = TABLE.splitlines(keepends=True)
-calls("Table::read in no order", "table", b"".join(LINES[i * 121 % len(LINES)] for i in range(len(LINES))), ASKED,
+IN_ORDER = TABLE.splitlines(keepends=True)
+calls("Table::read in no order", "table", b"".join(IN_ORDER[i * 121 % len(ROWS)] for i in range(len(ROWS))), ASKED,
       reply_text(ROWS))
 # Rows in order, and then enough rows out of order that from there on rows are gathered: among these are more such rows,
 # the last name of all, long values and an object. A single request that is refused while rows are gathered doesn't end
@@ -210,8 +226,8 @@ free_calls("run_walk by GetBulk over a link with memory reserved", "free_bulk_wa
 free_calls("run_get over a link with memory reserved", "free_get", TABLE, b"",
            "".join(f"{dotted(name)}\n{shown}" for name, shown in zip(NAMES, ["4\n", "", "6\n"])))
 # The first three nodes are built-in roots, which no module defines.
-FIRST_CHILDREN = {".1.3.6.1": ".4", ".1.3.6.1.4": ".1", ".1.3.6.1.4.1": ".32473", dotted(E): ".1", f"{dotted(E)}.2": ".1",
-                  f"{dotted(E)}.2.1": ".1", f"{dotted(E)}.3": ".1", f"{dotted(E)}.3.1": ".1"}
+FIRST_CHILDREN = {".1.3.6.1": ".4", ".1.3.6.1.4": ".1", ".1.3.6.1.4.1": ".32473",
+                  **{f"{dotted(E)}{rest}": ".1" for rest in ("", ".2", ".2.1", ".3", ".3.1")}}
 WITH_SYNTAX = [f"{dotted(E)}{rest}" for rest in (".1", ".2.1.1", ".2.1.2", ".3.1.1")]
 free_calls("each look-up of a loaded tree", "free_look_ups", TINY, b"", "".join(
     (f"{name}\nin a module\n" if at > 2 else "") + f"{name}\n" * 2
@@ -263,62 +279,47 @@ def serving_is_free():
 
 # -- the tools
 
-THREE = b"1.3.6.1.4.1.32473.1.10.0|2|3\n1.3.6.1.4.1.32473.1.2.0|4|wes\n1.3.6.1.4.1.32473.1.1.0|2|1\n"
-FIRST, SECOND, THIRD = (f"{ROOT}.{rest}\n" for rest in ("1.0 = INTEGER: 1", '2.0 = STRING: "wes"', "10.0 = INTEGER: 3"))
+THREE = table_text(dict(reversed(THREE_ROWS.items()))).encode()
 
 
-def refused_in(words, output, messages, status, files):
-    """Runs a command line with these files, with memory and with requests refused, and returns what is wrong. If
-    `output` is None, it is what the command prints with memory."""
-    line, said = words, messages
-    for name, octets in files.items():
-        path = heap.put(f"{name}.{hashlib.sha256(octets).hexdigest()[:16]}", octets)
-        line, said = line.replace(name, path), said.replace(name, path)
-    line = [programs.PROGRAM, *line.split(" ")]
+def refused_in(words, output, messages="", status=0, others=(), **how):
+    """Runs a command line with memory and with requests refused, and returns what is wrong. If `output` is None, it is
+    what the command prints with memory. `others` are more messages that it may have if it is refused."""
+    line = [programs.PROGRAM, *words.split(" ")]
     whole = programs.run_command(line, cwd=heap.folder.name)
-    wrong = differs(whole, (status, whole.output if output is None else output, said))
+    wrong = differs(whole, (status, whole.output if output is None else output, messages))
     warnings = WARNINGS if messages.startswith(WARNINGS) else ""
     # If the message of an agent's error can't be made, the status still says that there was one.
     return wrong or judge(line, lambda *answer: answer == whole, lambda _, ended, wrote, said: (
         ended in (1, status or 1) and whole.output.startswith(wrote) and wrote[-1:] in ("", "\n")
-        and said in (NO_MEMORY, warnings + NO_MEMORY)))
+        and said in (NO_MEMORY, warnings + NO_MEMORY, *others)), **how)
 
 
 def runs(words, output, messages="", status=0, table=THREE, modules=TINY):
-    """Adds a test that a command line prints this, and that it is refused correctly if memory is."""
+    """Adds a test that a command line prints this, and that it is refused correctly if memory is. TABLE, MODULES and
+    PORT stand for these files and for a free port."""
     assert NO_MEMORY not in messages
 
     @test(f"{words[:70]}, with each request for memory refused")
     def it():
-        return refused_in(words, output, messages, status, {"TABLE": table, "MODULES": modules})
+        names = {"TABLE": heap.put(table), "MODULES": heap.put(modules)}
 
-
-def listens(words, messages="", table=THREE):
-    """Adds the same test of snmpd, with DOOR replaced by a free address."""
-    @test(f"{words[:70]}, with each request for memory refused")
-    def it():
-        def listening(port):
-            door = f"127.0.0.1:{port}"
-            return refused_in(words.replace("DOOR", door), f"listening on {door}\n0 replies, 0 dropped\n", messages, 0,
-                              {"TABLE": table, "MODULES": TINY})
-        return over_free_port(listening)
+        def with_port(port):
+            def replaced(said):
+                return said and re.sub("TABLE|MODULES|PORT", lambda it: names.get(it[0], str(port)), said)
+            return refused_in(replaced(words), replaced(output), replaced(messages), status)
+        return over_free_port(with_port)
 
 
 @test("a walk over UDP, with each request for memory refused")
 def over_udp():
-    whole = FIRST + SECOND + THIRD
-    # Each of the several hundred runs walks the table.
+    # Each of the several hundred runs walks the table. Functions of the C library allocate too, and need not free it.
     with Server(table=THREE.decode(), datagrams=20000) as server:
-        # Functions of the C library allocate too, and need not free it.
-        return judge([programs.PROGRAM, "snmpwalk", "-On", "-t4", server.address, ROOT],
-                      lambda *answer: answer == (0, whole, ""),
-                      lambda _, status, wrote, said: (
-                          status == 1 and whole.startswith(wrote) and wrote[-1:] in ("", "\n")
-                          and said in (NO_MEMORY, NO_LINK)), keeps=True)
+        return refused_in(f"snmpwalk -On -t4 {server.address} {ROOT}", LINES, others=[NO_LINK], keeps=True)
 
 
 AGENT = "table:TABLE"
-runs(f"snmpwalk -On {AGENT} {ROOT}", FIRST + SECOND + THIRD)
+runs(f"snmpwalk -On {AGENT} {ROOT}", LINES)
 runs(f"snmpwalk --mib MODULES {AGENT} tiny", """TINY-MIB::tinyState.0 = INTEGER: up(1)
 TINY-MIB::tinyMac."wes" = STRING: 0:16:3e:5a:78:8e
 TINY-MIB::tinyKeyUse.'wes' = Gauge32: 5 jobs
@@ -332,8 +333,9 @@ runs(f"snmpbulkwalk -On -Cr2 -Cp --after {ROOT}.1.0 {AGENT} {ROOT}", f"{SECOND}{
 runs(f"snmpget -On {AGENT} {ROOT}.10.0 {ROOT}.3.0", f"{THIRD}{ROOT}.3.0 = {NO_OBJECT}\n")
 runs("snmptranslate --mib MODULES -Td TINY-MIB::tinyState", DETAIL, WARNINGS)
 runs("snmptranslate --mib MODULES -On TINY-MIB::tinyMac.\"wes\" iso.3", f"{MAC}\n.1.3\n", WARNINGS)
-listens("snmpd --table TABLE --listen DOOR --turns 0")
-listens("snmpd --mib MODULES --table TABLE --listen DOOR --turns 0", WARNINGS, TWO_TABLE)
+LISTENING = "listening on 127.0.0.1:PORT\n0 replies, 0 dropped\n"
+runs("snmpd --table TABLE --listen 127.0.0.1:PORT --turns 0", LISTENING)
+runs("snmpd --mib MODULES --table TABLE --listen 127.0.0.1:PORT --turns 0", LISTENING, WARNINGS, table=TWO_TABLE)
 runs("snmpget --help", None)
 runs("--version", None)
 

@@ -5,8 +5,8 @@ against requests that this script sends.
 usage: network.py [WORD..]
 
 Runs the tests whose titles contain one of the words; without words, all tests. The script shares no code with the
-program: it encodes and decodes messages by RFC 1901, RFC 3416 and X.690. The last line is 'N passed, M failed, K
-skipped'.
+program: it encodes and decodes messages by RFC 1901, RFC 3416 and X.690. The environment variables WALKS and SEED set
+the number of walks over a network with faults and the seed of the first, for a run of hours or of one walk.
 """
 import contextlib
 import itertools
@@ -20,7 +20,7 @@ import sys
 import time
 
 from lib import programs
-from lib.agents import Elsewhere, failing, losing, run, saying, serving, silent, stopping
+from lib.agents import Elsewhere, failing, losing, run, saying, serving, silent
 from lib.commands import lacks_raw_datagrams
 from lib.messages import (ANSWER, ASKED, BULK, END, GET, INFORM, INSTANCE, NAME, NEXT, NULL, OBJECT, REPORT, RESPONSE,
                           SET, STATUSES, TOO_BIG, TRAP, answer_bindings, asking, bulks, element, get, identifier,
@@ -28,7 +28,7 @@ from lib.messages import (ANSWER, ASKED, BULK, END, GET, INFORM, INSTANCE, NAME,
 from lib.mutations import ends_of_get, faults_of, mutate
 from lib.ports import closed_port
 from lib.programs import patient
-from lib.relays import Unlucky, random_walk
+from lib.relays import Relay, random_walk
 from lib.rows import (AGENT_ROWS, BAD, E, FIRST, LINES, MISSING, NAMES, NO_LINK, OBJECTS, R, ROOT, ROWS, SECOND,
                       SILENT, THIRD, WARNINGS, lines_of, table_text)
 from lib.runner import Tests, differs, hex_lines, sent_not, side_by_side, wrongs
@@ -47,10 +47,7 @@ def walks(title, words, agent, output="", messages="", status=0, asked=()):
     @test(title)
     def run_walk():
         ran = run(words.split(" ") if messages == SILENT else patient(words.split(" ")), agent)
-        wrong = list(ran.faults)
-        if (ran.status, ran.output, ran.messages) != (status, output, messages):
-            wrong.append(f"status {ran.status}\n  output {ran.output!r}\n  messages {ran.messages!r}")
-        return wrongs(*wrong, sent_not(ran.requests, asked))
+        return wrongs(*ran.faults, differs(ran[:3], (status, output, messages)), sent_not(ran.requests, asked))
 
 
 def row(number, value=1):
@@ -78,12 +75,20 @@ walks("-Cr2147483647 asks for 2147483647 rows", f"snmpbulkwalk -On -Cr2147483647
       asked=bulks(2147483647, R))
 walks("a bulk walk continues after a reply with fewer rows than it asked for", f"snmpbulkwalk -On AGENT {ROOT}",
       lambda seen: [reply(seen[-1], answer_bindings(ROWS, seen[-1])[:2])], LINES, asked=bulks(10, R, NAMES[2]))
-walks("-c sets the community", f"snmpwalk -On -c other AGENT {ROOT}", serving(ROWS), LINES,
-      asked=nexts(*NAMES, community=b"other"))
 walks("a community can have 255 octets", f"snmpwalk -On -c {'x' * 255} AGENT {ROOT}", serving(ROWS), LINES,
       asked=nexts(*NAMES, community=b"x" * 255))
-walks("-v 2c is accepted, and udp: before the host", f"snmpwalk -On -v 2c udp:AGENT {ROOT}", serving(ROWS), LINES,
-      asked=nexts(*NAMES))
+for words, output, asked in (("snmpwalk -v 2c", LINES, nexts(*NAMES)), ("snmpbulkwalk", LINES, bulks(10, R)),
+                             ("snmpget", MISSING, get(R))):
+    walks(f"udp: is accepted before the host: {words}", f"{words} -On udp:AGENT {ROOT}", serving(ROWS), output,
+          asked=asked)
+    walks(f"-c sets the community: {words}", f"{words} -On -c secret AGENT {ROOT}", serving(ROWS), output,
+          asked=[it.replace(b"public", b"secret") for it in asked])
+for command in "snmpwalk", "snmpbulkwalk", "snmpget":
+    walks(f"{command} sends nothing if a name can't be sent", f"{command} AGENT .3", silent, "",
+          "Name cannot be sent: .3\n", 1)
+# 105 names of 128 numbers, of five octets each, are longer than the greatest datagram.
+walks("a request that is too long isn't sent", f"snmpget AGENT {' '.join(105 * ['.1.3.6' + 125 * '.4294967295'])}",
+      silent, "", "Request too long.\n", 1)
 walks("a host can be named", f"snmpwalk -On localhost:PORT {ROOT}", serving(ROWS), LINES, asked=nexts(*NAMES))
 walks("without a name the root is mib-2", "snmpwalk -On AGENT", serving({(1, 3, 6, 1, 2, 1, 1, 1, 0): text(b"x")}),
       '.1.3.6.1.2.1.1.1.0 = STRING: "x"\n', asked=nexts((1, 3, 6, 1, 2, 1), (1, 3, 6, 1, 2, 1, 1, 1, 0)))
@@ -142,18 +147,16 @@ walks("the longest datagram is read", f"snmpget -On AGENT {ROOT}", serving({R: t
 
 # Long requests and replies.
 for least, count in (2000, 130), (60000, 3600):
-    shown_as = {R + (i,): i % 100 for i in range(count)}
-    many = {name: integer(value) for name, value in shown_as.items()}
+    many = {R + (i,): integer(i % 100) for i in range(count)}
     assert all(least <= len(it) <= 65507 for it in [*get(*many), reply_from(many, read(*get(*many)))])
     walks(f"a get of {count} names sends a request of {least} octets or more and reads its reply",
-          f"snmpget -On AGENT {' '.join(map(dotted, many))}", serving(many), lines_of(shown_as), asked=get(*many))
+          f"snmpget -On AGENT {' '.join(map(dotted, many))}", serving(many), lines_of(many), asked=get(*many))
 for least, count in (5000, 280), (65000, 3600):
-    shown_as = {R + (i,): i % 100 for i in range(count)} | {R + (count,): "x" * 300}
-    many = [(name, integer(it) if isinstance(it, int) else text(it.encode())) for name, it in shown_as.items()]
-    many.append((R + (count,), END))
-    assert least <= len(message(RESPONSE, 1, many)) <= 65507
+    many = {R + (i,): integer(i % 100) for i in range(count)} | {R + (count,): text(b"x" * 300)}
+    bound = [*many.items(), (R + (count,), END)]
+    assert least <= len(message(RESPONSE, 1, bound)) <= 65507
     walks(f"a bulk walk reads a reply of {least} octets or more", f"snmpbulkwalk -On -Cr9999 AGENT {ROOT}",
-          saying(many), lines_of(shown_as), asked=bulks(9999, R))
+          saying(bound), lines_of(many), asked=bulks(9999, R))
 
 # Lost datagrams: the same request is sent again, at most -r times.
 walks("a request without a reply is sent again", f"snmpwalk -On -r 2 AGENT {ROOT}", losing(2, serving(ROWS)), LINES,
@@ -174,15 +177,14 @@ def retries_by_default():
     said = programs.run("snmpget", "--help").output
     retries, = re.findall(r"^ +-r <RETRIES> .* by default (\d+)$", said, re.M)
     ran = run(["snmpget", "AGENT", ROOT], silent)
-    return wrongs(differs((ran.status, ran.output, ran.messages), (1, "", SILENT)),
-                  sent_not(ran.requests, get(R) * (1 + int(retries))), *ran.faults)
+    return wrongs(differs(ran[:3], (1, "", SILENT)), sent_not(ran.requests, get(R) * (1 + int(retries))), *ran.faults)
 
 
 # Neither this test nor the next shows how long a try is, only that -t has an effect and that the program ends.
 @test("two tries of a second each end in time")
 def tries_end():
     ran = run(["snmpget", "-r", "1", "-t", "1", "AGENT", ROOT], silent)
-    return wrongs(differs((ran.status, ran.output, ran.messages), (1, "", SILENT)), *ran.faults,
+    return wrongs(differs(ran[:3], (1, "", SILENT)), *ran.faults,
                   differs(1.5 <= ran.seconds <= 30, True) and f"it took {ran.seconds:.1f} seconds")
 
 
@@ -212,8 +214,6 @@ walks("a reply from another port is ignored", f"snmpget -On -r 0 AGENT {ROOT}.1.
       asked=get(NAMES[1]))
 walks("a request whose only reply is from another port times out", f"snmpget -On -r 0 AGENT {ROOT}.1.0",
       lambda seen: [Elsewhere(reply_from(ROWS, seen[-1]))], "", SILENT, 1, asked=get(NAMES[1]))
-walks("a program that is stopped for a moment continues", f"snmpget -On -r 0 -t 5 AGENT {ROOT}.1.0",
-      lambda seen: [0.1, stopping, reply_from(ROWS, seen[-1])], FIRST, asked=get(NAMES[1]))
 WRONG = [(NAMES[1], integer(7))]
 RIGHT = message(RESPONSE, 1, WRONG)
 STRAYS = {
@@ -336,7 +336,7 @@ walks("all rows disappear during a walk", f"snmpwalk -On -Cp AGENT {ROOT}",
 @test("walks over networks that lose, repeat and delay datagrams print all rows")
 def unlucky_walks():
     rows = {R + (i,): integer(i) for i in range(12)}
-    lines = "".join(f"{ROOT}.{i} = INTEGER: {i}\n" for i in range(12))
+    lines = lines_of(rows)
 
     def walk(seed):
         rng = random.Random(seed)
@@ -347,7 +347,7 @@ def unlucky_walks():
             return rng.sample(own + earlier, len(own + earlier))
         ran = run(["snmpbulkwalk", "-On", "-Cr3", "-r", "1000", "AGENT", ROOT], unlucky)
         sent = [datagram for datagram, _ in itertools.groupby(ran.requests)]
-        right = (ran.status, ran.output, ran.messages, sent) == (0, lines, "", bulks(3, R, *list(rows)[2::3]))
+        right = (*ran[:3], sent) == (0, lines, "", bulks(3, R, *list(rows)[2::3]))
         return "" if right else f"seed {seed}: {ran}"
     return wrongs(*side_by_side(walk, range(8), 8))
 
@@ -364,7 +364,7 @@ def faulty_replies():
         asked = read(ran.requests[0])
         datagrams = [faulty, reply_from(ROWS, asked)]
         ends.add(ran.status)
-        found = list(faults_of(words, ran, [(asked, datagram) for datagram in datagrams]))
+        found = [*faults_of(words, ran, [(asked, datagram) for datagram in datagrams]), *ran.faults]
         if ran[:3] not in ends_of_get(asked, datagrams):
             found.append("a Get can't end like this after these datagrams")
         wrong += [f"{faulty.hex()}: {fault}\n    {ran}" for fault in found]
@@ -435,9 +435,8 @@ def snmpd_random():
 
     wrong = []
     for size in 200, 1472:
-        rows = {some_name(): rng.randrange(-200, 200) for _ in range(40)}
+        rows = {some_name(): integer(rng.randrange(-200, 200)) for _ in range(40)}
         with Server("--max-size", str(size), table=table_text(rows), datagrams=500) as server:
-            rows = {name: integer(value) for name, value in rows.items()}
             for _ in range(250):
                 names = [(some_name(), NULL) for _ in range(rng.randint(0, 5))]
                 kind, id = rng.choice([GET, NEXT, BULK]), rng.randrange(-2 ** 31, 2 ** 31)
@@ -459,9 +458,7 @@ def snmpd_octets():
                 replies += 1
                 if got != shortest or it.kind != RESPONSE:
                     wrong.append(f"{changed.hex()} has the reply {got.hex()}")
-    if replies < 1000:
-        wrong.append(f"{replies} replies")
-    return "\n  ".join(wrong[:5])
+    return wrongs(*wrong[:5], "" if replies >= 1000 else f"{replies} replies")
 
 
 # This script may read a datagram as a request that snmpd, which checks more, drops. So a datagram may have no reply,
@@ -497,12 +494,11 @@ def snmpd_community():
 
 @test("snmpd sends at most --max-size octets")
 def snmpd_sizes():
-    six = {R + (i, 0): i for i in range(1, 7)}
-    rows = {name: integer(value) for name, value in six.items()}
+    rows = {R + (i, 0): integer(i) for i in range(1, 7)}
     bulk = message(BULK, 1, [(R, NULL)], 0, 10)
     wrong = []
     for size, count, octets in (134, 5, 116), (135, 6, 135), (152, 6, 135), (153, 7, 153), (1472, 7, 153):
-        with Server("--max-size", str(size), table=table_text(six)) as server:
+        with Server("--max-size", str(size), table=table_text(rows)) as server:
             whole = reply(read(bulk), answer_bindings(rows, read(bulk))[:count])
             assert len(whole) == octets
             wrong.append(differs(server.ask(bulk), [whole]))
@@ -527,14 +523,13 @@ def snmpd_sizes():
 # missing.
 @test("snmpd replies to requests of 2,000 and of 60,000 octets with each of their bindings")
 def snmpd_long_requests():
-    rows, wrong = {R + (i,): i for i in range(0, 500, 8)}, []
-    values = {name: integer(value) for name, value in rows.items()}
+    rows, wrong = {R + (i,): integer(i) for i in range(0, 500, 8)}, []
     with Server("--max-size", "65507", table=table_text(rows)) as server:
         for size, count in (2000, 110), (60000, 3300):
             names = [R + (i * 7 % 501,) for i in range(count)]
             for kind, a, b in (GET, 0, 0), (NEXT, 0, 0), (SET, 0, 0), (BULK, count, 0), (BULK, count - 9, 30):
                 asked = asking(size, kind, names, a, b)
-                wrong.append(sent_not(server.ask(asked), [reply_within(values, read(asked), 65507)]))
+                wrong.append(sent_not(server.ask(asked), [reply_within(rows, read(asked), 65507)]))
     return wrongs(*wrong)
 
 
@@ -550,8 +545,7 @@ def snmpd_long_replies():
         for name, octets in (exact, size), (longer, size + 1):
             whole = of_size(octets, lambda left, name=name: message(RESPONSE, 1, [(name, text(b"x" * left))]))
             bound.update(read(whole).bindings)
-        rows = {name: value.count(b"x") * "x" or value[-1] for name, value in bound.items()}
-        with Server("--max-size", str(size), table=table_text(rows)) as server:
+        with Server("--max-size", str(size), table=table_text(bound)) as server:
             for kind, name, right in ((GET, exact, bound[exact]), (NEXT, E + (2,), bound[exact]), (GET, longer, None),
                                       (NEXT, exact, None)):
                 it = message(RESPONSE, 1, [(exact, right)] if right else [], 0 if right else 1)
@@ -577,13 +571,11 @@ def snmpd_unsent():
 
 @test("snmpd serves a table with names of objects to the program's own commands")
 def snmpd_names():
-    modules, table = (os.path.join(programs.TESTS, "data", name) for name in ("tiny.txt", "two.tab"))
-    with open(table, encoding="ascii") as file:
-        server = Server("--mib", modules, "--turns", "600", table=file.read())
+    modules, table = f"{programs.TESTS}/data/tiny.txt", programs.read_file("tests/data/two.tab")
     lines = ["TINY-MIB::tinyState.0 = INTEGER: up(1)\n", 'TINY-MIB::tinyMac."a|b" = STRING: 0:16:3e:5a:78:8e\n',
              "TINY-MIB::tiny.9.0 = OID: TINY-MIB::tinyMac\n"]
     wrong = []
-    with server:
+    with Server("--mib", modules, "--turns", "600", table=table) as server:
         for command, names, wanted in (("snmpwalk", ["tiny"], lines), ("snmpbulkwalk", ["tiny"], lines),
                                        ("snmpget", ["tiny.9.0", 'tinyMac."a|b"'], [lines[2], lines[1]])):
             ran = programs.run(command, "--mib", modules, server.address, *names)
@@ -591,17 +583,6 @@ def snmpd_names():
         server.program.send_signal(signal.SIGTERM)
         wrong.append(differs(server.end().messages, WARNINGS))
     return wrongs(*wrong)
-
-
-@test("snmpd ends after its turns and prints their counts")
-def snmpd_turns():
-    with Server("--turns", "15") as server:
-        said = server.listening
-        for id in range(1, 6):
-            server.send(message(GET, id, [], community=b"public" if id % 2 else b"other"))
-        replies = [read(server.receive()).id for _ in range(3)]
-        return differs((said, replies, server.end()),
-                       (f"listening on {server.address}\n", [1, 3, 5], (0, "3 replies, 2 dropped\n", "")))
 
 
 # If all datagrams were sent within a second of the server's start, each turn received one. Otherwise turns may have
@@ -619,12 +600,6 @@ def snmpd_as_many_turns():
         if prompt or outcome not in counts:
             return differs(outcome, counts[5])
     return "in each of fifty rounds, fifteen datagrams took a second to send"
-
-
-@test("a turn of snmpd can pass without a datagram")
-def snmpd_idle():
-    with Server("--turns", "1") as server:
-        return differs(server.end(), (0, "0 replies, 0 dropped\n", ""))
 
 
 @test("snmpd replies to each sender")
@@ -651,9 +626,7 @@ def snmpd_hosts():
 @test("an snmpd that is stopped for a moment continues")
 def snmpd_stopped():
     with Server() as server:
-        os.kill(server.program.pid, signal.SIGSTOP)
-        time.sleep(0.1)
-        os.kill(server.program.pid, signal.SIGCONT)
+        programs.stop(server.program.pid, 0.1)
         return differs(server.ask(message(GET, 1, [])), [message(RESPONSE, 1, [])])
 
 
@@ -680,36 +653,35 @@ def snmpd_killed():
                                       (0, f"listening on {server.address}\n0 replies, 0 dropped\n", "")))
 
 
-@test("the walkers print all of 500 rows that snmpd serves")
-def walks_of_snmpd():
-    rows = {R + (i // 7, i): i for i in range(500)}
-    with Server(table=table_text(rows), datagrams=1000) as server:
-        return wrongs(*(differs(programs.run(*words, "-On", server.address, ROOT), (0, lines_of(rows), ""))
-                        for words in (["snmpwalk"], ["snmpbulkwalk"], ["snmpbulkwalk", "-Cr1000"])))
-
-
 # -- walks of snmpd over a network with faults
 
+WALKS, SEED = int(os.environ.get("WALKS", 16)), int(os.environ.get("SEED", 0))
+
+
 def relayed_walk(seed):
-    """Walks a random table through a relay. Returns what is wrong, and whether all rows were printed."""
+    """Walks a random table through a relay, which mutates datagrams if the seed is odd. Returns what is wrong, and
+    whether all rows were printed. If a mutated datagram was still a message, less is required: whole lines with names
+    that increase below the root, each from a reply to the waiting request, and one of the known ends."""
     rng = random.Random(seed)
-    walk = random_walk(rng, 40, [0, 1, 127, 128, 4294967295])
-    with Server("--max-size", str(walk.size), table=walk.table) as server, \
-            Unlucky(server.port, rng, rng.choice([5, 10]) / len(walk.lines)) as relay:
-        words = [*walk.words, "-r", str(rng.choice([0, 5, 5])), relay.address, ROOT]
+    walk = random_walk(rng)
+    with Server("--max-size", str(walk.size), table=walk.table, datagrams=10000) as server, \
+            Relay(server.port, rng, rng.choice([2, 5, 10]) / len(walk.lines), seed % 2 == 1) as relay:
+        words = [*walk.words, "-t", "1", "-r", str(rng.choice([0, 1, 5, 5])), relay.address, ROOT]
         ran = programs.run_command([programs.PROGRAM, *words])
-        status, output, messages = ran
+    ran = ran._replace(messages=ran.messages.replace(relay.address, "AGENT"))
     if ran == (0, "".join(walk.lines), ""):
         return "", True
-    broken = (status, messages) == (1, SILENT.replace("AGENT", relay.address)) and (
-        output.splitlines(True) == walk.lines[:output.count("\n")])
-    return "" if broken else f"seed {seed}: {words}: {ran}", False
+    wrong = differs(ran, (1, "".join(walk.lines[:ran.output.count("\n")]), SILENT))
+    if wrong and relay.tainted:
+        wrong = wrongs(*faults_of(words, ran, relay.sent))
+    return wrong and f"seed {seed}: {words}: {wrong}\n  {ran}", False
 
 
 @test("over a network with faults a walk prints all rows, or some from the first on and that the agent didn't reply")
 def relayed_walks():
-    outcomes = list(side_by_side(relayed_walk, range(8), 8))
-    return wrongs(*(wrong for wrong, _ in outcomes)) or differs(any(whole for _, whole in outcomes), True)
+    outcomes = list(side_by_side(relayed_walk, range(SEED, SEED + WALKS), 16))
+    return wrongs(*(wrong for wrong, _ in outcomes),
+                  differs(WALKS < 16 or any(whole for _, whole in outcomes), True))
 
 
 if __name__ == "__main__":

@@ -1,19 +1,22 @@
 #!/usr/bin/env python3
 """Runs walks of the built program over random tables, and compares what they print with what a simple model computes.
 
-usage: random_walks.py RUNS [SEED] [WORD..]
+usage: random_walks.py [WORD..]
 
 The model shares no code with the program: it follows docs/REFERENCE.md for tables, their order, walks and lines. The
-title of a run is `run N of seed S: ` and the run's arguments. If there are words, only those runs are made whose titles
-contain one of them. The last line is 'N passed, M failed, K skipped'.
+title of a run is `run N of seed S: ` and the run's arguments; if there are words, only runs are made whose titles
+contain one of them. The environment variables RUNS and SEED set the number of runs and the seed.
 """
+import os
 import random
 import sys
-import tempfile
 
-from lib import programs
-from lib.runner import Counts, chosen_by, differs, end_at_signals
+from lib import pipes, programs
+from lib.runner import Tests, differs
 from lib.texts import NO_INSTANCE, NO_OBJECT, dotted, hexadecimal, string, ticks
+
+tests = Tests("tests/random_walks.py")
+RUNS, SEED = int(os.environ.get("RUNS", 1000)), int(os.environ.get("SEED", 1))
 
 
 def random_name(rng):
@@ -121,37 +124,21 @@ def random_walk(rng, rows, objects):
     return words + ["table:t.tab", dotted(root)], lines + f"Variables found: {len(bindings)}\n" * counts
 
 
-def one_run(rng):
-    """Returns a random table file, the arguments of a walk, and what the walk has to print."""
-    rows, objects, text = random_table(rng)
-    return (text, *random_walk(rng, rows, objects))
+def add_run(number, rng):
+    """Adds a test that makes a random walk of a random table."""
+    rows, objects, table = random_table(rng)
+    words, lines = random_walk(rng, rows, objects)
+
+    @tests.test(f"run {number} of seed {SEED}: {' '.join(words)}")
+    def run():
+        with pipes.folder({"t.tab": table}) as folder:
+            wrong = differs(programs.run_command([programs.PROGRAM, *words], cwd=folder), (0, lines, ""))
+        return wrong and f"{wrong}\n  over\n{table}"
 
 
-def main(words):
-    if not words or not words[0].isdigit() or int(words[0]) == 0:
-        print("usage: tests/random_walks.py RUNS [SEED] [WORD..]", file=sys.stderr)
-        return 2
-    count, words = int(words[0]), words[1:]
-    seed, words = (int(words[0]), words[1:]) if words and words[0].isdigit() else (1, words)
-    rng, runs = random.Random(seed), {}
-    for number in range(count):
-        text, *run = one_run(rng)
-        runs[f"run {number} of seed {seed}: {' '.join(run[0])}"] = text, run
-    chosen = chosen_by(words, "tests/random_walks.py", runs)
-    if not programs.are_current("tests/random_walks.py", programs.BUILT):
-        return 1
-    end_at_signals()
-    counts = Counts()
-    with tempfile.TemporaryDirectory() as folder:
-        for title, (text, (words, lines)) in runs.items():
-            if chosen(title):
-                with open(f"{folder}/t.tab", "w", newline="", encoding="ascii") as file:
-                    file.write(text)
-                ran = programs.run_command([programs.PROGRAM, *words], cwd=folder)
-                wrong = differs(ran, (0, lines, ""))
-                counts.record(title, wrong and f"{wrong}\n  over\n{text}")
-    return counts.end()
-
+generator = random.Random(SEED)
+for at in range(RUNS):
+    add_run(at, generator)
 
 if __name__ == "__main__":
-    sys.exit(main(sys.argv[1:]))
+    sys.exit(tests.main(sys.argv[1:], programs.BUILT))

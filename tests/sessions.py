@@ -1,8 +1,10 @@
 #!/usr/bin/env python3
 """Runs the sessions in the pages, and compares what the commands print with what the pages show.
 
-    tests/sessions.py [WORD..]      runs the tests whose titles contain one of the words; without words, all. The title
-                                    of a session is PAGE:LINE: and its first command
+usage: sessions.py [WORD..]
+
+Runs the tests whose titles contain one of the words; without words, all. The title of a session is PAGE:LINE: and its
+first command.
 
 A session is a block whose first line begins with `$ `. In a Markdown page it is a fenced block, or one indented by four
 blanks; in a manual page it is between .Bd -literal and .Ed. A command begins with `$ ` and continues on lines that
@@ -13,7 +15,7 @@ by one of `text`: a session of one command, and what it prints.
 Each session runs in a folder of its own with links to the files of the repository, so that arguments such as ./snmp and
 examples/three.tab work. The program is installed into a new folder, whose path replaces /usr/local. Port 1161 is
 replaced by a free one. Each line of a page that begins with `$ ` has to be in a session, so that no command is
-overlooked. The last line is 'N passed, M failed, K skipped'.
+overlooked.
 """
 import glob
 import os
@@ -21,11 +23,15 @@ import re
 import subprocess
 import sys
 import tempfile
-import time
 
-from lib import ports, programs, runner
+from lib import pipes, programs
+from lib.ports import over_free_port
+from lib.programs import TOP, read_file
+from lib.runner import Tests, differs
 
-TOP = programs.TOP
+tests = Tests("tests/sessions.py")
+# The folder where the program is installed.
+PREFIX = tempfile.TemporaryDirectory()
 # The least number of sessions that the pages have to have.
 LEAST = 15
 
@@ -39,8 +45,7 @@ def pages():
 
 def blocks_of(path):
     """Yields each block of a page, with the number of its first line before it."""
-    with open(os.path.join(TOP, path), encoding="utf-8") as file:
-        text = file.read()
+    text = read_file(path)
     if path.endswith(".1"):
         found = re.finditer(r"^\.Bd -literal.*\n((?:.*\n)*?)\.Ed$", text, re.MULTILINE)
     else:
@@ -67,50 +72,41 @@ def trim(text):
     return [line.rstrip(" ") for line in text.split("\n")]
 
 
-def start(command, shown, path, folder, environment):
-    """Starts a command that runs until the end of the session, with its output in a file at `path`. Waits until it has
-    printed as many lines as `shown`, or has ended. Returns the process and what it printed. An snmpd without --turns
-    gets 600, so that it ends even if nothing kills it."""
+def start(command, shown, **where):
+    """Starts a command that runs until the end of the session. Waits until it has printed as many lines as `shown`, or
+    has ended. Returns the process and what it printed. An snmpd without --turns gets 600, so that it ends even if
+    nothing kills it."""
     command = command.rstrip().removesuffix("&")
     if "snmpd" in command and "--turns" not in command:
         command += " --turns 600"
-    with open(path, "wb") as out:
-        process = programs.Program(["bash", "-c", command], cwd=folder, env=environment, stdin=subprocess.DEVNULL,
-                                   stdout=out, stderr=out)
-    end = time.monotonic() + programs.PATIENCE
-    while True:
-        has_ended = process.poll() is not None
-        with open(path, encoding="utf-8") as file:
-            printed = file.read()
-        if len(trim(printed)) >= len(trim(shown)) or has_ended or time.monotonic() > end:
-            return process, printed
-        time.sleep(0.02)
+    process = programs.spawn(["bash", "-c", command], stderr=subprocess.STDOUT, **where)
+    printed = "".join(pipes.line(process.stdout) for _ in shown.splitlines())
+    more = os.read(process.stdout.fileno(), pipes.waiting_octets(process.stdout))
+    return process, printed + more.decode()
 
 
-def run(block, prefix, port):
-    """Runs a session with `port` instead of 1161 and `prefix` instead of /usr/local. Returns what is wrong."""
-    status, going = 0, []
+def run(block, port):
+    """Runs a session with `port` instead of 1161. Returns what is wrong."""
+    status, going, prefix = 0, [], PREFIX.name
     block = block.replace("127.0.0.1:1161", f"127.0.0.1:{port}").replace("/usr/local", prefix)
-    environment = dict(os.environ, PATH=f"{prefix}/bin:{os.environ['PATH']}")
     with tempfile.TemporaryDirectory() as folder:
         for name in [name for name in os.listdir(TOP) if name[0] != "."]:
             os.symlink(os.path.join(TOP, name), os.path.join(folder, name))
+        where = {"cwd": folder, "env": {**os.environ, "PATH": f"{prefix}/bin:{os.environ['PATH']}"}}
         try:
             for command, shown in commands_of(block):
                 if command.rstrip().endswith("&"):
-                    path = os.path.join(folder, f".printed{len(going)}")
-                    process, printed = start(command, shown, path, folder, environment)
+                    process, printed = start(command, shown, **where)
                     going.append(process)
                 else:
-                    outcome = programs.run_command(["bash", "-c", f"(exit {status}); {command}"], cwd=folder,
-                                                   env=environment, stderr=subprocess.STDOUT)
-                    status, printed = outcome.status, outcome.output
+                    status, printed, _ = programs.run_command(["bash", "-c", f"(exit {status}); {command}"],
+                                                              stderr=subprocess.STDOUT, **where)
                 if trim(printed) != trim(shown):
                     return f"$ {command}\n{printed}-- expected\n{shown}"
         finally:
             for process in going:
                 process.kill()
-                process.wait()
+                process.wait(programs.PATIENCE)
     return ""
 
 
@@ -123,8 +119,7 @@ def sessions_of(path):
 
 def scripts_of(path):
     """The scripts of a page, each with its title, as sessions."""
-    with open(os.path.join(TOP, path), encoding="utf-8") as file:
-        text = file.read()
+    text = read_file(path)
     body = r"((?:(?!```).*\n)*)```"
     for match in re.finditer(rf"^```sh\n{body}\n\n```text\n{body}$", text, re.MULTILINE):
         command, printed = match.groups()
@@ -132,44 +127,27 @@ def scripts_of(path):
         yield f"{path}:{line}: a script", "$ " + command.rstrip("\n").replace("\n", "\n> ") + "\n" + printed
 
 
-def overlooked_lines(path, sessions):
-    """Counts the lines of a page that begin as a command does. Returns what is wrong if these aren't exactly the
-    commands of its sessions."""
-    with open(os.path.join(TOP, path), encoding="utf-8") as file:
-        lines = len(re.findall(r"^(?: {4})?\$ ", file.read(), re.MULTILINE))
-    known = sum(len(list(commands_of(block))) for _, block in sessions)
-    return "" if lines == known else f"{lines} lines begin with `$ `, and the sessions have {known} commands"
-
-
-def tests():
-    """Yields the title of each test and the test, which is called with the folder where the program is installed."""
+def add_tests():
+    """Adds the tests of all pages."""
     found = {path: list(sessions_of(path)) for path in pages()}
     count = sum(map(len, found.values()))
-    yield f"the pages have at least {LEAST} sessions", lambda prefix: "" if count >= LEAST else f"they have {count}"
+    tests.test(f"the pages have at least {LEAST} sessions")(lambda: "" if count >= LEAST else f"they have {count}")
     for path, sessions in found.items():
-        yield (f"{path}: each command is in a session",
-               lambda prefix, path=path, sessions=sessions: overlooked_lines(path, sessions))
+        @tests.test(f"{path}: each command is in a session")
+        def overlooked(path=path, sessions=sessions):
+            lines = len(re.findall(r"^(?: {4})?\$ ", read_file(path), re.MULTILINE))
+            return differs(sum(len(list(commands_of(block))) for _, block in sessions), lines)
         for title, block in [*sessions, *scripts_of(path)]:
-            yield title, lambda prefix, block=block: ports.over_free_port(lambda port: run(block, prefix, port))
+            tests.test(title)(lambda block=block: over_free_port(lambda port: run(block, port)))
 
 
-def main():
-    all_tests = list(tests())
-    chosen = runner.chosen_by(sys.argv[1:], "tests/sessions.py", [title for title, _ in all_tests])
-    if not programs.are_current("tests/sessions.py", programs.BUILT):
-        return 1
-    runner.end_at_signals()
-    counts = runner.Counts()
-    with tempfile.TemporaryDirectory() as prefix:
-        installed = programs.run_command([os.path.join(TOP, "snmp"), "--install", prefix])
-        if installed.status != 0:
-            print(f"FAILED: the program can't be installed\n  {installed.messages}")
-            return 1
-        for title, test in all_tests:
-            if chosen(title):
-                counts.record(title, runner.try_test(lambda test=test: test(prefix)))
-    return counts.end()
+def install():
+    """Installs the program."""
+    installed = programs.run_command([os.path.join(TOP, "snmp"), "--install", PREFIX.name])
+    if installed.status != 0:
+        raise RuntimeError(f"the program can't be installed: {installed.messages}")
 
 
+add_tests()
 if __name__ == "__main__":
-    sys.exit(main())
+    sys.exit(tests.main(sys.argv[1:], programs.BUILT, prepare=install, count=1))

@@ -6,9 +6,10 @@ shell substitutes.
 usage: users.py [WORD..]
 
 Runs the tests whose titles contain one of the words; without words, all tests. A test that can't run on this machine is
-skipped, and the reason is printed. The last line is 'N passed, M failed, K skipped'.
+skipped, and the reason is printed.
 """
 import os
+import pathlib
 import pty
 import re
 import shutil
@@ -22,14 +23,13 @@ from lib import pipes, programs
 from lib.agents import Agent
 from lib.commands import lacks, lacks_networks
 from lib.messages import nexts, reply_from, text
-from lib.programs import TOP, run, run_command, start
+from lib.programs import COMMANDS, TOP, read_file, run, run_command, start
 from lib.rows import FIRST, LINES, NAMES, NO_LINK, R, ROOT, ROWS, SECOND, SILENT, TABLE, THIRD, lines_of, table_text
 from lib.runner import Tests, differs, sent_not, wrongs
 from lib.server import Server
 
 tests = Tests("tests/users.py")
 test = tests.test
-COMMANDS = "snmp", "snmptranslate", "snmpget", "snmpwalk", "snmpbulkwalk", "snmpd"
 
 
 # -- ./snmp in a clone, with a mock of the program and no toolchain
@@ -48,44 +48,37 @@ class Clone:
 
     def __enter__(self):
         self.room = tempfile.TemporaryDirectory()
-        self.top = os.path.join(self.room.name, "a clöne")
-        for folder in "crates/snmp/src", "tests/data":
-            os.makedirs(os.path.join(self.top, folder))
-        for name in "snmp", "tests/is-current", "README.md":
-            shutil.copy2(os.path.join(TOP, name), os.path.join(self.top, name))
+        self.top, self.elsewhere = (pathlib.Path(self.room.name, name) for name in ("a clöne", "elsewhere"))
+        for folder in self.top / "crates/snmp/src", self.elsewhere / "bin":
+            folder.mkdir(parents=True)
         for name in "tools", "tests/data/help":
-            shutil.copytree(os.path.join(TOP, name), os.path.join(self.top, name))
-        self.write("crates.txt", "snmp:\n")
-        self.write("crates/snmp/src/main.rt", "fn main\n")
-        self.elsewhere = os.path.join(self.room.name, "elsewhere")
-        os.makedirs(os.path.join(self.elsewhere, "bin"))
-        os.symlink(os.path.join(self.top, "snmp"), os.path.join(self.elsewhere, "bin", "snmp"))
-        os.symlink("bin/snmp", os.path.join(self.elsewhere, "link"))
+            shutil.copytree(f"{TOP}/{name}", self.top / name)
+        for name in "snmp", "tests/is-current", "README.md":
+            shutil.copy2(f"{TOP}/{name}", self.top / name)
+        (self.top / "crates.txt").write_text("snmp:\n")
+        self.source, self.program = self.top / "crates/snmp/src/main.rt", self.top / "crates/snmp/out/snmp"
+        self.source.write_text("fn main\n")
+        (self.elsewhere / "bin/snmp").symlink_to(self.top / "snmp")
+        (self.elsewhere / "link").symlink_to("bin/snmp")
         return self
 
     def __exit__(self, *_):
         self.room.cleanup()
 
-    def write(self, name, text):
-        """Writes a file of the clone."""
-        with open(os.path.join(self.top, name), "w", encoding="utf-8") as file:
-            file.write(text)
-
     def build(self):
         """Writes the mock to the path of the program, with the note that it was built from the sources."""
-        program = os.path.join(self.top, "crates/snmp/out/snmp")
-        os.makedirs(os.path.dirname(program), exist_ok=True)
-        self.write("crates/snmp/out/snmp", MOCK)
-        os.chmod(program, 0o755)
-        asks = os.path.join(self.top, "tests/is-current")
-        sources = run_command([asks, "--sources", program]).output.strip()
-        return run_command([asks, "--built", program, sources])
+        self.program.parent.mkdir()
+        self.program.write_text(MOCK)
+        self.program.chmod(0o755)
+        asks = self.top / "tests/is-current"
+        sources = run_command([asks, "--sources", self.program]).output.strip()
+        return run_command([asks, "--built", self.program, sources])
 
     def ways(self):
         """Returns the ways to run ./snmp: the current folder and the command of each."""
-        there = self.elsewhere
-        return ((self.top, "./snmp"), (there, os.path.join("..", "a clöne", "snmp")), (there, "./link"),
-                (there, "snmp"), ("/", os.path.join(there, "link")))
+        there = str(self.elsewhere)
+        return ((str(self.top), "./snmp"), (there, "../a clöne/snmp"), (there, "./link"), (there, "snmp"),
+                ("/", f"{there}/link"))
 
     def run(self, *words, way=0, path=SYSTEM):
         """Runs ./snmp in one of these ways, with a folder on PATH that has a link to it."""
@@ -119,7 +112,7 @@ def no_toolchain():
         unbuilt = "snmp: the program isn't built, or not from the current sources: ./snmp --build\n"
         wrong.append(in_all_ways(clone, ["--install", "there"], lambda _: (1, "", unbuilt)))
         clone.build()
-        clone.write("crates/snmp/src/main.rt", "fn another\n")
+        clone.source.write_text("fn another\n")
         wrong += [in_all_ways(clone, words, lambda _: (1, "", STALE))
                   for words in (["snmpwalk", "127.0.0.1"], ["--build"])]
         wrong.append(in_all_ways(clone, ["--install", "there"], lambda _: (1, "", unbuilt)))
@@ -130,9 +123,8 @@ def no_toolchain():
 def help_without():
     wrong = []
     with Clone() as clone:
-        for name in COMMANDS:
-            with open(os.path.join(TOP, "tests/data/help", f"{name}.txt"), encoding="utf-8") as file:
-                page = file.read()
+        for name in "snmp", *COMMANDS:
+            page = read_file(f"tests/data/help/{name}.txt")
             words = [] if name == "snmp" else [name]
             for letters in "-h", "--help":
                 wrong.append(in_all_ways(clone, [*words, letters], lambda _, page=page: (0, page, "")))
@@ -144,8 +136,8 @@ def help_without():
 @test("./snmp --build ends with the reason if it can't write to the clone", LACKS_NOTHING)
 def build_of_nothing():
     with Clone() as clone:
-        clone.write("crates/snmp/out", "no folder")
-        os.symlink("/bin/false", os.path.join(clone.elsewhere, "bin", "rt"))
+        clone.program.parent.write_text("no folder")
+        (clone.elsewhere / "bin/rt").symlink_to("/bin/false")
         outcome = clone.run("--build")
         return wrongs(differs(outcome[:2], (1, "")), differs(outcome.messages.count("\n"), 1),
                       differs(("mkdir" in outcome.messages, "crates/snmp/out" in outcome.messages), (True, True)))
@@ -233,16 +225,14 @@ def all_addresses():
 
 # -- an agent with many walkers
 
-MANY = {R + (i, i % 7): i if i % 3 else f"row {i}" for i in range(1, 400)}
-
-
 @test("snmpd replies to 48 walkers at once, and each prints all rows")
 def many_walkers():
-    lines = lines_of(MANY)
-    with Server(table=table_text(MANY), datagrams=48 * 500) as server:
-        kinds = ["snmpwalk"], ["snmpbulkwalk"], ["snmpbulkwalk", "-Cr1"], ["snmpbulkwalk", "-Cr40"]
+    rows = {R + (i, i % 7): i if i % 3 else f"row {i}" for i in range(1, 400)}
+    # With -Cr1000 the replies are as long as the agent's messages can be.
+    kinds = ["snmpwalk"], ["snmpbulkwalk"], ["snmpbulkwalk", "-Cr1"], ["snmpbulkwalk", "-Cr1000"]
+    with Server(table=table_text(rows), datagrams=48 * 500) as server:
         going = [start(*kinds[i % 4], "-On", "-t", "30", server.address, ROOT) for i in range(48)]
-        return wrongs(*(differs(programs.finish(program), (0, lines, "")) for program in going))
+        return wrongs(*(differs(programs.finish(program), (0, lines_of(rows), "")) for program in going))
 
 
 # -- a terminal
@@ -288,19 +278,14 @@ class Terminal:
         return self
 
     def until(self, end):
-        """Reads until the terminal has shown `end`."""
-        while end not in self.shown:
-            self.more()
-
-    def more(self):
-        """Waits until the terminal shows more, and reads it."""
-        self.shown += pipes.some(self.master, 1 << 16).decode(errors="surrogateescape")
+        """Reads until the terminal has shown this regular expression. Returns all that was shown."""
+        while not re.search(end, self.shown):
+            self.shown += pipes.some(self.master, 1 << 16).decode(errors="surrogateescape")
+        return self.shown
 
     def to_end(self):
         """Reads until the job has ended. Returns all that was shown."""
-        while not re.search(r"ended by \d+ with \d+\n", self.shown):
-            self.more()
-        return self.shown
+        return self.until(r"ended by \d+ with \d+\n")
 
     def types(self, octets):
         """Types these keys."""
@@ -326,7 +311,7 @@ def interrupted_by_key():
             asked.set()
             return []
         with Agent(act) as agent, Terminal(*words, "-t", "600", agent.address, ROOT) as terminal:
-            terminal.until(printed)
+            terminal.until(re.escape(printed))
             asked.wait(programs.PATIENCE)
             terminal.types(b"\x03")
             wrong += [differs(terminal.to_end(), f"{printed}^Cended by 2 with 0\n"), *agent.faults,
@@ -346,14 +331,14 @@ def stopped_by_key():
         return [reply_from(ROWS, seen[-1])]
     with Agent(act) as agent, Terminal("snmpwalk", "-On", "-t", "600", agent.address, ROOT) as terminal:
         try:
-            terminal.until(FIRST)
+            terminal.until(re.escape(FIRST))
             asked.wait(programs.PATIENCE)
             terminal.types(b"\x1a")
             terminal.until("stopped\n")
         finally:
             going_on.set()
-        terminal.to_end()
-    return wrongs(differs(terminal.shown, f"{FIRST}^Zstopped\n{SECOND}{THIRD}ended by 0 with 0\n"), *agent.faults,
+        shown = terminal.to_end()
+    return wrongs(differs(shown, f"{FIRST}^Zstopped\n{SECOND}{THIRD}ended by 0 with 0\n"), *agent.faults,
                   sent_not(agent.seen, nexts(*NAMES)))
 
 
@@ -394,22 +379,20 @@ def lacks_latin():
 @test("in each locale a file name in UTF-8 is used unchanged, and one in Latin-1 is refused", lacks_latin())
 def names_of_files():
     wrong, refused = [], (1, "", "error: invalid UTF-8 was detected in one or more arguments\n")
-    with tempfile.TemporaryDirectory() as room:
+    names = {encoding: os.fsdecode("m\u00f6dul ".encode(encoding)) for encoding in ("utf-8", "latin-1")}
+    files = {f"{name}.tab": TABLE for name in names.values()}
+    for encoding, name in names.items():
+        files[f"{name}.txt"] = os.fsdecode(MODULE.encode(encoding))
+    with pipes.folder(files) as room:
         run_command(["localedef", "-i", "de_DE", "-f", "ISO-8859-1", f"{room}/de_DE"])
         wrong.append(differs(os.path.isdir(f"{room}/de_DE"), True))
         for locale in ({"LC_ALL": "C"}, {"LC_ALL": "C.UTF-8"}, {"LC_ALL": "de_DE", "LOCPATH": room}):
-            for encoding in "utf-8", "latin-1":
-                name = os.fsdecode("m\u00f6dul ".encode(encoding))
-                path = os.path.join(room, name)
+            for encoding, name in names.items():
                 where = {"cwd": room, "env": {**os.environ, **locale}}
-                with open(f"{path}.txt", "w", encoding=encoding) as file:
-                    file.write(MODULE)
-                with open(f"{path}.tab", "w", encoding="ascii") as file:
-                    file.write(TABLE)
                 for words, wanted in (
                         (["snmptranslate", "--mib", f"{name}.txt", "-On", "names"], (0, f"{ROOT}\n", "")),
                         (["snmpget", "-On", f"table:{name}.tab", f"{ROOT}.1.0"], (0, FIRST, "")),
-                        (["snmpd", f"--table={path}.tab", "--listen", "127.0.0.1:0", "--turns", "0"],
+                        (["snmpd", f"--table={room}/{name}.tab", "--listen", "127.0.0.1:0", "--turns", "0"],
                          (1, "", "Bad agent address: 127.0.0.1:0\n")),
                         (["snmptranslate", f"--mib={name}.tab", "names"], (1, "", f"{name}.tab:1: syntax\n")),
                         (["snmpget", f"table:{name}.txt", ROOT], (1, "", f"{name}.txt:1: bad line\n")),

@@ -34,23 +34,17 @@ static __attribute__((unused)) void *volatile block;
 
 // -- sockets
 
-#ifdef BOUND_TO_LOOPBACK
+#if defined BOUND_TO_LOOPBACK || defined BOUND_TO_ALL
 int bind(int s, const struct sockaddr *a, socklen_t n) {
     NEXT(bind);
     struct sockaddr_in it;
     if (a->sa_family != AF_INET) return next(s, a, n);
     memcpy(&it, a, sizeof it);
-    if (it.sin_addr.s_addr == 0) it.sin_addr.s_addr = htonl(INADDR_LOOPBACK);
-    return next(s, (struct sockaddr *)&it, sizeof it);
-}
-#endif
 #ifdef BOUND_TO_ALL
-int bind(int s, const struct sockaddr *a, socklen_t n) {
-    NEXT(bind);
-    struct sockaddr_in it;
-    if (a->sa_family != AF_INET) return next(s, a, n);
-    memcpy(&it, a, sizeof it);
     it.sin_addr.s_addr = htonl(INADDR_ANY);
+#else
+    if (it.sin_addr.s_addr == 0) it.sin_addr.s_addr = htonl(INADDR_LOOPBACK);
+#endif
     return next(s, (struct sockaddr *)&it, sizeof it);
 }
 #endif
@@ -73,9 +67,10 @@ int setsockopt(int s, int level, int name, const void *v, socklen_t n) {
     return next(s, level, name, name == SO_RCVTIMEO && it->tv_sec == 1 ? &two : v, n);
 }
 #endif
+#define GETADDRINFO int getaddrinfo(const char *restrict h, const char *restrict p, \
+    const struct addrinfo *restrict hints, struct addrinfo **restrict r)
 #ifdef ANY_FAMILY
-int getaddrinfo(const char *restrict h, const char *restrict p, const struct addrinfo *restrict hints,
-                struct addrinfo **restrict r) {
+GETADDRINFO {
     NEXT(getaddrinfo);
     struct addrinfo any = *hints;
     any.ai_family = AF_UNSPEC;
@@ -89,8 +84,7 @@ int getaddrinfo(const char *restrict h, const char *restrict p, const struct add
 }
 #endif
 #ifdef LAST_ADDRESS
-int getaddrinfo(const char *restrict h, const char *restrict p, const struct addrinfo *restrict hints,
-                struct addrinfo **restrict r) {
+GETADDRINFO {
     NEXT(getaddrinfo);
     struct addrinfo *first = NULL, *last = NULL;
     int e = next(h, p, hints, r);
@@ -101,8 +95,7 @@ int getaddrinfo(const char *restrict h, const char *restrict p, const struct add
 }
 #endif
 #ifdef UNKNOWN_IS_LOOPBACK
-int getaddrinfo(const char *restrict h, const char *restrict p, const struct addrinfo *restrict hints,
-                struct addrinfo **restrict r) {
+GETADDRINFO {
     NEXT(getaddrinfo);
     int e = next(h, p, hints, r);
     return e ? next("127.0.0.1", p, hints, r) : 0;
@@ -248,9 +241,9 @@ static int writes;
 #endif
 #ifdef OUTSIDE_OF_THE_ROOT
 #define WRITES \
-    char *at = d == 1 ? memmem(b, n, ".32473.1.", 9) : NULL; \
-    if (at) { next(d, b, (size_t)(at - (char *)b)); next(d, ".32473.2.", 9); \
-        next(d, at + 9, n - 9 - (size_t)(at - (char *)b)); return (ssize_t)n; }
+    char *at = d == 1 ? memmem(b, n, ".32473.", 7) : NULL; \
+    if (at) { next(d, b, (size_t)(at - (char *)b)); next(d, ".32474.", 7); \
+        next(d, at + 7, n - 7 - (size_t)(at - (char *)b)); return (ssize_t)n; }
 #endif
 #ifdef ANOTHER_VALUE
 // Changes the last octet of the last value that snmpget prints.

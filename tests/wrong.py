@@ -2,57 +2,55 @@
 """Makes the built program wrong in one way after the other, and checks that the tests listed for each way fail. It
 isn't a part of the gate, where each change of the program would have to wait for it.
 
-usage: wrong.py [NAME..]
+usage: wrong.py [WORD..]
        wrong.py --stale
 
-The ways are defined in wrong.c, a library that the program loads before the C library (LD_PRELOAD). Without names, all
-are tried. Prints for each way and test the beginning of what the test found wrong. It is also a failure if no test has
-the title listed for a way, or if no way is listed for a test of edge.py. The last line is 'N passed, M failed, K
-skipped'.
+The ways are defined in wrong.c, a library that the program loads before the C library (LD_PRELOAD). The title of a test
+here is `WAY by TITLE`: it passes if the test with that title fails, and prints the beginning of what was wrong. The way
+NOTHING_IS_WRONG is the correct program, which each of the listed tests has to accept. Runs the tests whose titles
+contain one of the words; without words, all.
 
-If all ways were tried and caught, tests/wrong.txt contains the hash of the tests and of the ways, but not of the
-program, which differs after each change. With --stale, which the gate uses, nothing is tried: a line says if that hash
-is out of date.
+If all tests passed, tests/wrong.txt contains the hash of the tests and of the ways, but not of the program, which
+differs after each change. With --stale, which the gate uses, nothing is tried: a line says if that hash is out of date.
 """
 import contextlib
 import glob
 import hashlib
-import io
-import itertools
-import multiprocessing
 import os
-import random
-import shutil
-import subprocess
 import sys
 import tempfile
 
-from lib import ports, programs, runner
-from lib.commands import lacks
+from lib import programs
+from lib.commands import lacks_compiler
+from lib.runner import Test, Tests, wrongs
 
 import attack
-import edge
+import files
 import fleet
 import heap
+import limits
+import manual
 import network
+import outputs
 import program
+import sockets
 
-TESTS, TOP = programs.TESTS, programs.TOP
-RECORD = os.path.join(TESTS, "wrong.txt")
-WALKED = 40
-# The number of processes that try tests at the same time. They spend most of their time waiting.
-TOGETHER = 4
-# A blank or a colon in a path would end a name of LD_PRELOAD, so the folder is in /tmp. Each process has its own folder
-# in it.
+TESTS = programs.TESTS
+RECORD = f"{TESTS}/wrong.txt"
+tests = Tests("tests/wrong.py")
+# A blank or a colon in a path would end a name of LD_PRELOAD, so the folder of the wrong programs is in /tmp.
 FOLDER = tempfile.TemporaryDirectory(dir="/tmp")
-own = FOLDER.name
 
-# Words from the titles of the tests of edge.py that no way can fail: the C library has no part in what they count.
+
+# -- the ways, and words from the titles of the tests that catch each
+
+# The tests of the machine: of its sockets, outputs, files and limits. No way can fail those of BY_NO_WAY, since the C
+# library has no part in what they count.
+MACHINE = [*sockets.tests, *outputs.tests, *files.tests, *limits.tests]
 BY_NO_WAY = ["twice as many rows", "twice as many names"]
-# For each way, words from the titles of the tests of edge.py that catch it.
 AT_THE_EDGE = {
     "BOUND_TO_LOOPBACK": ["from one socket, bound", "another of this machine's addresses"],
-    "BOUND_TO_ALL": ["another of this machine's addresses is asked"],
+    "BOUND_TO_ALL": ["another of this machine's addresses is asked", "another loopback address"],
     "SECOND_SOCKET": ["open one socket and send"],
     "ANY_FAMILY": ["first IPv4 address of a host"],
     "LAST_ADDRESS": ["first IPv4 address of a host"],
@@ -90,7 +88,7 @@ AT_THE_EDGE = {
     "MANY_BLOCKS_ARE_REFUSED": ["200,000 rows"],
     "CRASHES_WITHOUT_MEMORY": ["less and less memory"],
 }
-# The same for heap.py, for its tests of command lines and of single calls.
+# The tests of heap.py of command lines and of single calls.
 WITHOUT_MEMORY = {
     "HALF_A_LINE": ["snmpbulkwalk -On -Cr", "over UDP"],
     "LINES_ARE_LEFT_OUT": ["snmpbulkwalk -On -Cr", "snmptranslate --mib MODULES -"],
@@ -108,18 +106,27 @@ WITHOUT_MEMORY = {
                                "run_walk by GetNext, with", "parse_modules", "line, with"],
     "ASKS_FOR_MEMORY": ["answer to a Get asks"],
 }
-# The same for its test of snmpd as it serves. That test uses no heap that refuses memory.
+# Its test of snmpd as it serves, which uses no heap that refuses memory.
 AS_IT_SERVES = {"KEEPS_MEMORY": ["as it serves"]}
-# The ways that each of the two tests of attack.py catches.
 UNDER_ATTACK = {
-    attack.attack_snmpd: ["KEEPS_MEMORY", "LAST_OCTET_WRONG", "A_REPLY_IS_LOST", "DIES_OF_A_DATAGRAM",
-                          "LINES_COME_TWICE"],
-    attack.attack_walkers: ["ANY_ID", "ANY_SENDER", "HALF_A_LINE", "LINES_COME_TWICE", "OUTSIDE_OF_THE_ROOT",
-                            "ANOTHER_VALUE", "NOTHING_IS_SAID", "ANOTHER_MESSAGE", "STATUS_0", "NEVER_ENDS"],
+    "KEEPS_MEMORY": ["snmpd"],
+    "LAST_OCTET_WRONG": ["snmpd"],
+    "A_REPLY_IS_LOST": ["snmpd"],
+    "DIES_OF_A_DATAGRAM": ["snmpd"],
+    "LINES_COME_TWICE": ["snmpd", "walkers"],
+    "ANY_ID": ["walkers"],
+    "ANY_SENDER": ["walkers"],
+    "HALF_A_LINE": ["walkers"],
+    "OUTSIDE_OF_THE_ROOT": ["walkers"],
+    "ANOTHER_VALUE": ["walkers"],
+    "NOTHING_IS_SAID": ["walkers"],
+    "ANOTHER_MESSAGE": ["walkers"],
+    "STATUS_0": ["walkers"],
+    "NEVER_ENDS": ["walkers"],
 }
-# The ways that fleet.py catches; the same for network.py and program.py, with words from titles; and for scripts in
-# shell, with the script and a word from the titles of the tests to run.
-IN_A_FLEET = ["NOTHING_IS_SAID", "STATUS_0", "HALF_A_LINE", "LINES_ARE_LEFT_OUT", "LINK_IS_MEMORY"]
+WHOLE_FLEET = "the commands of docs/MANY-DEVICES.md"
+IN_A_FLEET = {name: [WHOLE_FLEET] for name in ("NOTHING_IS_SAID", "STATUS_0", "HALF_A_LINE", "LINES_ARE_LEFT_OUT",
+                                               "LINK_IS_MEMORY")}
 IN_A_NETWORK = {
     "RECEIVES_484_OCTETS": ["requests of 2,000", "of 2000 octets", "of 5000 octets"],
     "RECEIVES_4096_OCTETS": ["requests of 2,000", "of 60000 octets", "of 5000 octets", "the longest datagram is read"],
@@ -133,27 +140,18 @@ IN_A_NETWORK = {
     "LAST_OCTET_WRONG": ["after 300 requests with random faults"],
 }
 BY_COMMAND_LINES = {"SOCKET_FIRST": ["after a wait"], "ANOTHER_MESSAGE": ["listen udp:"]}
-IN_SHELL = {
-    "REFUSES_ITS_MOST": [("operator.sh", "with the range")],
-    "ANOTHER_MESSAGE": [("operator.sh", "with the range")],
-}
+BY_THE_HELP = {"REFUSES_ITS_MOST": ["with the range"], "ANOTHER_MESSAGE": ["with the range"]}
 
 
-def library(name, *words):
-    """Builds the library that makes a program wrong in the way `name`, and returns its path. `words` are more arguments
-    of the compiler."""
-    path = f"{own}/{name}.so"
-    subprocess.run(["cc", "-O1", "-w", "-shared", "-fPIC", f"-D{name}", *words, "-o", path, f"{TESTS}/wrong.c"],
-                   check=True, timeout=programs.PATIENCE)
-    return path
-
+# -- how the program is made wrong
 
 def wrong_program(name):
-    """Writes a script that runs the built program with such a library, and returns its path."""
-    path = f"{own}/{name}-snmp"
+    """Writes a script that runs the built program, made wrong in the way `name`, and returns its path."""
+    path = f"{tempfile.mkdtemp(dir=FOLDER.name)}/snmp"
+    programs.library(f"{path}.so", "wrong.c", f"-D{name}")
     with open(path, "w", encoding="ascii") as file:
         # LD_PRELOAD may already name another library, such as heap.c.
-        file.write(f'#!/bin/sh\nLD_PRELOAD="{library(name)}${{LD_PRELOAD:+:$LD_PRELOAD}}" '
+        file.write(f'#!/bin/sh\nLD_PRELOAD="{path}.so${{LD_PRELOAD:+:$LD_PRELOAD}}" '
                    f'exec "{os.path.realpath(programs.BUILT)}" "$@"\n')
     os.chmod(path, 0o755)
     return path
@@ -164,6 +162,12 @@ def use(name):
     programs.PROGRAM = wrong_program(name)
 
 
+def use_in_attack(name):
+    """The same with smaller attacks."""
+    use(name)
+    attack.DATAGRAMS, attack.WALKS = 20000, 80
+
+
 def use_in_fleet(name):
     """Lets fleet.py poll by this wrong program, while the correct one serves its agents."""
     programs.PROGRAM, fleet.PROGRAM = programs.BUILT, wrong_program(name)
@@ -172,111 +176,67 @@ def use_in_fleet(name):
 def use_heap(name):
     """Lets the tests run the built program with a heap whose library also makes it wrong. So the library knows whether
     a request for memory was refused."""
-    programs.PROGRAM = programs.BUILT
-    os.replace(library(name, f'-DHEAP="{TESTS}/heap.c"'), f"{heap.heap.folder.name}/heap.so")
+    programs.PROGRAM, heap.heap = programs.BUILT, heap.Heap(FOLDER.name)
+    heap.heap.make(f"-D{name}", f'-DHEAP="{TESTS}/heap.c"', source="wrong.c")
 
 
-def use_in_shell(name):
-    """Makes a copy of the checkout whose program is this wrong one, for the tests in shell."""
-    top = f"{own}/checkout"
-    shutil.rmtree(top, ignore_errors=True)
-    hidden = shutil.ignore_patterns(".*", "crates", "modules", "__pycache__")
-    shutil.copytree(TOP, top, ignore=lambda folder, names: hidden(folder, names) if folder == TOP else [])
-    os.symlink(f"{TOP}/modules", f"{top}/modules")
-    for crate in os.listdir(f"{TOP}/crates"):
-        os.makedirs(f"{top}/crates/{crate}")
-        if os.path.isdir(f"{TOP}/crates/{crate}/src"):
-            os.symlink(f"{TOP}/crates/{crate}/src", f"{top}/crates/{crate}/src")
-    built = f"{top}/crates/snmp/out/snmp"
-    os.makedirs(os.path.dirname(built))
-    shutil.copy(wrong_program(name), built)
-    hashed = programs.run_command([f"{top}/tests/is-current", "--sources", built]).output.strip()
-    programs.run_command([f"{top}/tests/is-current", "--built", built, hashed])
+def whole_fleet():
+    """Runs the tests of fleet.py in their order, and returns what is wrong."""
+    with contextlib.ExitStack() as stack:
+        fleet.start(stack)
+        return wrongs(*(test.wrong() for test in fleet.tests))
 
 
-def by_shell(script, word):
-    """Runs the tests of a script whose titles contain this word, in that copy. Returns what they print if one fails,
-    and otherwise an empty string."""
-    ran = programs.run_command([f"{own}/checkout/tests/{script}", word], 1800)
-    if ran.status not in (0, 1):
-        raise RuntimeError(f"{script} {word}: status {ran.status}\n{ran.messages}")
-    return ran.output if ran.status else ""
+# -- the tests
+
+# The longest are tried first.
+LISTED = [(use_in_fleet, [Test(WHOLE_FLEET, whole_fleet, fleet.LACKS)], IN_A_FLEET),
+          (use_in_attack, attack.tests, UNDER_ATTACK), (use, MACHINE, AT_THE_EDGE),
+          (use, network.tests, IN_A_NETWORK), (use, program.tests, BY_COMMAND_LINES),
+          (use, manual.tests, BY_THE_HELP), (use, heap.tests, AS_IT_SERVES),
+          (use_heap, heap.tests, WITHOUT_MEMORY)]
 
 
-def split_by_title(tests, word):
-    """Returns the tests whose titles contain a word, and those that can't run on this machine, with the reasons."""
-    return [it for it in tests if word in it[0]], [it for it in tests.untried if word in it[0]]
-
-
-def tests_of(name, counts):
-    """Yields each test that is listed for a way: the function that makes the program wrong, the title, and the test."""
-    for how, tests, words in [(use, edge.tests, AT_THE_EDGE), (use, network.tests, IN_A_NETWORK),
-                              (use, program.tests, BY_COMMAND_LINES), (use, heap.tests, AS_IT_SERVES),
-                              (use_heap, heap.tests, WITHOUT_MEMORY)]:
-        for word in words.get(name, []):
-            chosen, untried = split_by_title(tests, word)
-            if not chosen and not untried:
-                counts.record(f"{name}: {tests.script}", f"no test has {word!r} in its title")
-            for title, reason in untried:
-                counts.left_out(f"{name} by {title!r}", reason)
-            yield from ((how, *it) for it in chosen)
-    for part, names in UNDER_ATTACK.items():
-        if name in names:
-            count = 20000 if part is attack.attack_snmpd else 2 if name == "NEVER_ENDS" else WALKED
-            yield use, part.__name__, lambda part=part, count=count: part(random.Random(1), count)
-    if name in IN_A_FLEET:
-        yield use_in_fleet, "fleet.py", lambda: fleet.main([])
-    for script, word in IN_SHELL.get(name, []):
-        yield use_in_shell, f"{script} {word!r}", lambda script=script, word=word: by_shell(script, word)
-
-
-def begin():
-    """Prepares a process of the pool, which gets folders of its own and begins its choice of ports at random, so that
-    two processes rarely choose the same."""
-    global own, left
-    # The folder inherited from the parent would be removed here if nothing referred to it.
-    left = heap.heap.folder
-    own = tempfile.mkdtemp(dir=FOLDER.name)
-    heap.heap.folder = tempfile.TemporaryDirectory(dir=own)
-    ports.numbers = itertools.count(random.randrange(ports.END - ports.FIRST))
-    runner.end_at_signals()
-
-
-# What is tried: the name of a way, the function that makes the program wrong, the title of a test, and the test.
-tasks = []
-
-
-def run_task(number):
-    """Makes the program wrong, runs the test, and returns as one string what the test finds wrong."""
-    name, how, _, test = tasks[number]
-    with contextlib.redirect_stdout(io.StringIO()) as printed:
-        wrong = runner.try_test(lambda: how(name) or test())
-    return "\n".join(wrong) if isinstance(wrong, list) else printed.getvalue() if wrong == 1 else wrong or ""
-
-
-def all_ways():
-    """Returns the names of all ways, each once."""
-    return list(dict.fromkeys([*AT_THE_EDGE, *WITHOUT_MEMORY, *AS_IT_SERVES, *sum(UNDER_ATTACK.values(), []),
-                               *IN_A_FLEET, *IN_A_NETWORK, *BY_COMMAND_LINES, *IN_SHELL]))
-
-
-def without_a_way():
-    """Returns the titles of the tests of edge.py that are listed for no way."""
+@tests.test("the words listed for each way are in titles, and each test of the machine is listed for a way")
+def all_listed():
+    astray = [f"{name}: {word!r} is in no title" for _, of, ways in LISTED for name, words in ways.items()
+              for word in words if not any(word in test.title for test in of)]
     words = sum(AT_THE_EDGE.values(), BY_NO_WAY)
-    return [title for title, _ in [*edge.tests, *edge.tests.untried] if not any(word in title for word in words)]
+    return wrongs(*astray, *(f"{test.title!r} is listed for no way" for test in MACHINE
+                             if not any(word in test.title for word in words)))
 
+
+def add(name, how, test):
+    """Adds the test that a way is caught by a test."""
+    @tests.test(f"{name} by {test.title}", test.lacks)
+    def it():
+        how(name)
+        wrong = test.wrong()
+        if name == "NOTHING_IS_WRONG":
+            return wrong
+        print(f"{name}: caught by {test.title!r}\n  {wrong[:300]}" if wrong else f"{name}: missed", flush=True)
+        return "" if wrong else "it isn't caught"
+
+
+for how, of, ways in LISTED:
+    for name, words in {"NOTHING_IS_WRONG": sum(ways.values(), []), **ways}.items():
+        for test in of:
+            if any(word in test.title for word in words):
+                add(name, how, test)
+
+
+# -- the record of a complete run
 
 def hash_of_tests():
     """Returns the hash of the files that contain the tests and the ways."""
-    names = ["wrong.py", "wrong.c", "heap.c", "edge.py", "heap.py", "attack.py", "fleet.py", "network.py", "program.py",
-             "operator.sh", "lib/tests.sh"]
-    paths = [f"{TESTS}/{name}" for name in names] + sorted(glob.glob(f"{glob.escape(TESTS)}/lib/*.py")
-                                                           + glob.glob(f"{glob.escape(program.TABLES)}/*.rt"))
+    scripts = attack, files, fleet, heap, limits, manual, network, outputs, program, sockets
+    paths = [__file__, f"{TESTS}/wrong.c", f"{TESTS}/heap.c", *(script.__file__ for script in scripts)]
+    for folder, form in (f"{TESTS}/lib", "*.py"), (program.TABLES, "*.rt"):
+        paths += sorted(glob.glob(f"{glob.escape(folder)}/{form}"))
     hashed = hashlib.sha256()
     for path in paths:
-        with open(path, "rb") as file:
-            text = file.read()
-        hashed.update(f"{os.path.relpath(path, TESTS)} {len(text)}\n".encode() + text)
+        text = programs.read_file(path)
+        hashed.update(f"{os.path.relpath(path, TESTS)} {len(text)}\n{text}".encode())
     return hashed.hexdigest()
 
 
@@ -292,40 +252,15 @@ def say_stale():
     return 0
 
 
-def main(names):
-    if names == ["--stale"]:
+def main(words):
+    if words == ["--stale"]:
         return say_stale()
-    unknown = [name for name in names if name not in all_ways()]
-    if unknown:
-        print(f"tests/wrong.py: no way is named {unknown[0]}; the ways are {' '.join(all_ways())}", file=sys.stderr)
-        return 2
-    if not programs.are_current("tests/wrong.py", programs.BUILT, programs.CHECKS):
-        return 1
-    counts, before = runner.Counts(), hash_of_tests()
-    if lacks("cc"):
-        counts.left_out("all ways of tests/wrong.py", f"{lacks('cc')}, a C compiler", len(names or all_ways()))
-        return counts.end()
-    for title in without_a_way():
-        counts.record(title, "a test of edge.py for which no way is listed")
-    wrong = [(name, *it) for name in names or all_ways() for it in tests_of(name, counts)]
-    # A test that the correct program fails too proves nothing about a wrong one.
-    right = {}
-    for _, how, title, test in wrong:
-        right.setdefault(title, ("NOTHING_IS_WRONG", how, title, test))
-    tasks.extend([*right.values(), *wrong])
-    runner.end_at_signals()
-    with multiprocessing.get_context("fork").Pool(TOGETHER, begin) as pool:
-        said = pool.imap(run_task, range(len(tasks)))
-        as_it_is = dict(zip(right, said))
-        for (name, _, title, _), caught in zip(wrong, said):
-            counts.record(f"{name} by {title!r}", f"the correct program fails too: {as_it_is[title][:600]}"
-                          if as_it_is[title] else "" if caught else "it isn't caught")
-            if caught and not as_it_is[title]:
-                print(f"{name}: caught by {title!r}\n  {caught[:300]}", flush=True)
-    if not names and not counts.failed and not counts.skipped and hash_of_tests() == before:
+    before = hash_of_tests()
+    status = tests.main(words, programs.BUILT, programs.CHECKS, lacks=lacks_compiler(), count=4, processes=True)
+    if status == 0 and not words and not any(test.lacks for test in tests) and hash_of_tests() == before:
         with open(RECORD, "w", encoding="ascii") as file:
             file.write(f"# The hash of the tests that caught all wrong programs: tests/wrong.py wrote it.\n{before}\n")
-    return counts.end()
+    return status
 
 
 if __name__ == "__main__":

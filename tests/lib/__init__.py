@@ -10,8 +10,9 @@
     server     starts the program's own snmpd
     relays     a network with faults between a walker and an agent
     mutations  makes faulty datagrams from good ones, and checks what the program did with them
-    heaps      runs programs with a heap that refuses memory
     commands   checks which commands this machine has, and what they can do here
+    smi        reads module files, to compare them with what the program reads
+    packages   compares the facts of modules with packages of Debian
     runner     chooses and runs the tests of a script, and counts them
 
 Python 3.9 or later is required. A script that imports this package uses only the syntax of Python 3.6, so that an

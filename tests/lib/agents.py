@@ -6,8 +6,6 @@ a list of datagrams to send and of pauses in seconds. The datagram of an `Elsewh
 """
 import collections
 import concurrent.futures
-import os
-import signal
 import socket
 import threading
 import time
@@ -48,7 +46,7 @@ def failing(status, index, bindings=()):
 class Agent:
     """Runs an agent at a port of `host`, one of this machine's addresses. `seen` and `senders` record the requests and
     where each came from, `faults` the exceptions that the agent raised. An agent that stops or kills the program needs
-    its process id: the test sets it as the result of `pid`."""
+    its process id: `finish` sets it as the result of `pid`."""
 
     def __init__(self, agent, host="127.0.0.1"):
         self.agent, self.host, self.over = agent, host, False
@@ -73,8 +71,13 @@ class Agent:
         self.player.join()
         self.door.close()
 
+    def finish(self, program, seconds=programs.PATIENCE):
+        """Lets the agent know the program that asks it, and waits for the end of this program."""
+        self.pid.set_result(program.pid)
+        return programs.finish(program, seconds)
+
     def wait_for_pid(self):
-        """Returns the process id of the program, once the test has set it."""
+        """Returns the process id of the program, once it is known."""
         return self.pid.result(programs.PATIENCE)
 
     def play(self):
@@ -98,10 +101,7 @@ class Agent:
         try:
             for act in self.agent([read(request) for request in self.seen]):
                 if act is stopping:
-                    pid = self.wait_for_pid()
-                    os.kill(pid, signal.SIGSTOP)
-                    time.sleep(0.1)
-                    os.kill(pid, signal.SIGCONT)
+                    programs.stop(self.wait_for_pid(), 0.1)
                 elif isinstance(act, Elsewhere):
                     other.sendto(act.datagram, sender)
                 elif isinstance(act, bytes):
@@ -122,8 +122,7 @@ def run(words, agent):
         begun = time.monotonic()
         words = [word.replace("AGENT", player.address).replace("PORT", str(player.port)) for word in words]
         with programs.spawn([programs.PROGRAM, *words]) as program:
-            player.pid.set_result(program.pid)
-            ran = programs.finish(program, 60)
+            ran = player.finish(program, 60)
         seconds = time.monotonic() - begun
     output, messages = (text.replace(player.address, "AGENT") for text in ran[1:])
     return Run(ran.status, output, messages, player.seen, seconds, player.faults)

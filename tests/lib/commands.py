@@ -5,7 +5,6 @@ import functools
 import shutil
 import socket
 import subprocess
-import tempfile
 
 
 def lacks(*names):
@@ -14,13 +13,14 @@ def lacks(*names):
     return f"no {missing[0]} here" if missing else ""
 
 
-def fails(*words):
-    """Returns whether a command is missing or fails, or takes longer than a minute."""
+@functools.lru_cache(None)
+def unless(reason, *words):
+    """Returns `reason` if a command fails or takes longer than a minute, and what is missing if it doesn't exist."""
     try:
-        return subprocess.run(words, stdin=subprocess.DEVNULL, capture_output=True, timeout=60,
-                              check=False).returncode != 0
+        ran = subprocess.run(words, stdin=subprocess.DEVNULL, capture_output=True, timeout=60, check=False)
+        return reason if ran.returncode else ""
     except (OSError, subprocess.TimeoutExpired):
-        return True
+        return lacks(words[0]) or reason
 
 
 def lacks_compiler():
@@ -28,34 +28,28 @@ def lacks_compiler():
     return "no C compiler here (cc)" if lacks("cc") else ""
 
 
-@functools.lru_cache(None)
 def lacks_traces():
     """Returns what is missing for tracing system calls and replacing their results."""
-    return lacks("strace") or ("strace sees no program here" if fails("strace", "-o", "/dev/null", "true") else "")
+    return unless("strace sees no program here", "strace", "-o", "/dev/null", "true")
 
 
-@functools.lru_cache(None)
 def lacks_counts():
     """Returns what is missing for counting the instructions of a program."""
-    return lacks("valgrind") or ("valgrind runs no program here" if fails("valgrind", "--tool=none", "true") else "")
+    return unless("valgrind runs no program here", "valgrind", "--tool=none", "true")
 
 
-@functools.lru_cache(None)
 def lacks_mounts():
     """Returns what is missing for mounting files and disks that only one program sees."""
-    with tempfile.NamedTemporaryFile() as file:
-        wrong = fails("unshare", "-rm", "mount", "--bind", file.name, "/etc/hosts")
-    return lacks("unshare", "mount") or ("no file can be mounted here (unshare -rm)" if wrong else "")
+    return lacks("mount") or unless("no file can be mounted here (unshare -rm)",
+                                    "unshare", "-rm", "mount", "--bind", "/etc/hosts", "/etc/hosts")
 
 
-@functools.lru_cache(None)
 def lacks_networks():
     """Returns what is missing for a network that only one program sees."""
-    wrong = fails("unshare", "-rn", "sh", "-c", "echo 40000 40001 >/proc/sys/net/ipv4/ip_local_port_range")
-    return lacks("unshare") or ("no network to itself here (unshare -rn)" if wrong else "")
+    return unless("no network to itself here (unshare -rn)", "unshare", "-rn", "sh", "-c",
+                  "echo 40000 40001 >/proc/sys/net/ipv4/ip_local_port_range")
 
 
-@functools.lru_cache(None)
 def lacks_raw_datagrams():
     """Returns what is missing for sending datagrams whose source port is 0."""
     try:
@@ -65,24 +59,18 @@ def lacks_raw_datagrams():
     return ""
 
 
-@functools.lru_cache(None)
 def lacks_limits():
     """Returns what is missing for limiting the resources of a program."""
-    return lacks("prlimit") or ("prlimit sets no limits here" if fails("prlimit", "--fsize=1000", "true") else "")
+    return unless("prlimit sets no limits here", "prlimit", "--fsize=1000", "true")
 
 
-@functools.lru_cache(None)
 def lacks_signals():
     """Returns what is missing for starting a program that ignores no signal, or that ignores one."""
-    wrong = fails("env", "--default-signal=HUP", "true") or fails("env", "--ignore-signal=HUP", "true")
-    return "env has no --default-signal here (coreutils 8.31)" if wrong else ""
+    return unless("env has no --default-signal here (coreutils 8.31)", "env", "--default-signal=HUP",
+                  "env", "--ignore-signal=HUP", "true")
 
 
-@functools.lru_cache(None)
 def lacks_parallel():
     """Returns what is missing for running GNU parallel. Another command is also called `parallel`."""
-    if lacks("parallel"):
-        return lacks("parallel")
-    said = subprocess.run(["parallel", "--version"], stdin=subprocess.DEVNULL, capture_output=True, text=True,
-                          timeout=60, check=False).stdout
-    return "" if "GNU parallel" in said else "the parallel here isn't GNU parallel"
+    return lacks("parallel") or unless("the parallel here isn't GNU parallel", "sh", "-c",
+                                       "parallel --version | grep -q 'GNU parallel'")

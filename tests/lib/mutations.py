@@ -2,8 +2,9 @@
 import itertools
 
 from lib.agents import Elsewhere
-from lib.messages import END, INSTANCE, OBJECT, RESPONSE, STATUSES, answer_bindings, integer, read_or_none, reply
-from lib.rows import BAD, R, SILENT
+from lib.messages import (END, INSTANCE, OBJECT, RESPONSE, STATUSES, answer_bindings, integer, read_or_none, reply,
+                          reply_from)
+from lib.rows import BAD, SILENT
 from lib.texts import line
 
 
@@ -65,11 +66,6 @@ ENDS = ["", SILENT, BAD, "Error in packet: ", "No progress after ", "Error: OID 
         "Too many requests.\n"]
 
 
-def good_reply(rows, asked):
-    """Returns the agent's reply to the request."""
-    return reply(asked, answer_bindings(rows, asked))
-
-
 def marked_reply(rows, asked, mark):
     """Returns the good reply with each value, but no exception, replaced by the mark."""
     return reply(asked, [(name, value if value in (OBJECT, INSTANCE, END) else integer(mark))
@@ -84,14 +80,14 @@ def attacking(rng, rows, sent):
 
     def agent(seen):
         asked = seen[-1]
-        datagrams = [corrupt(rng, rng.choice([good_reply(rows, asked), marked_reply(rows, asked, next(marks))]))
+        datagrams = [corrupt(rng, rng.choice([reply_from(rows, asked), marked_reply(rows, asked, next(marks))]))
                      for _ in range(rng.randint(0, 3))]
         wrong_id = asked._replace(id=asked.id + rng.choice([-1, 1, 256]))
         datagrams += rng.choice([[], [marked_reply(rows, wrong_id, next(marks))],
                                  [Elsewhere(marked_reply(rows, asked, next(marks)))]])
         datagrams = [it for it in datagrams if isinstance(it, Elsewhere) or len(it) > 0]
         if rng.randrange(20):
-            datagrams.append(good_reply(rows, asked))
+            datagrams.append(reply_from(rows, asked))
         sent.extend((asked, it) for it in datagrams if isinstance(it, bytes))
         return datagrams
     return agent
@@ -128,8 +124,8 @@ def split(output):
 
 
 def faults_of(words, ran, sent):
-    """Yields what is wrong with a run of a walker or a Get. `sent` lists the datagrams that were sent to it, each with
-    the request that was waiting."""
+    """Yields what is wrong with a run of a walker, whose last argument is the root in numbers, or of a Get. `sent`
+    lists the datagrams that were sent to it, each with the request that was waiting."""
     messages = ran.messages
     if ran.status not in (0, 1, 2):
         yield f"status {ran.status}"
@@ -150,11 +146,10 @@ def faults_of(words, ran, sent):
         yield f"lines that no reply contains: {strange}"
     names = [name for name, _ in printed]
     if words[0] != "snmpget":
-        below = [name for name in names if name != R]
-        if any(name[:len(R)] != R for name in names) or any(a >= b for a, b in zip(below, below[1:])):
+        root = tuple(int(number) for number in words[-1].split(".")[1:])
+        below = [name for name in names if name != root]
+        if any(name[:len(root)] != root for name in names) or any(a >= b for a, b in zip(below, below[1:])):
             yield f"names that aren't below the root and in increasing order: {names}"
-    if ran.faults:
-        yield f"this script: {ran.faults}"
 
 
 def ends_of_get(asked, datagrams):

@@ -11,7 +11,7 @@ import tempfile
 import termios
 import time
 
-from lib.programs import PATIENCE
+from lib.programs import PATIENCE, start
 
 
 @contextlib.contextmanager
@@ -32,6 +32,16 @@ def file(octets=b"", size=None):
         if size is not None:
             it.truncate(size)
         yield it.name
+
+
+@contextlib.contextmanager
+def folder(files):
+    """Yields the path of a temporary folder with these files, whose contents are strings."""
+    with tempfile.TemporaryDirectory() as path:
+        for name, content in files.items():
+            with open(f"{path}/{name}", "w", encoding="utf-8", errors="surrogateescape", newline="") as it:
+                it.write(content)
+        yield path
 
 
 def waiting_octets(pipe):
@@ -95,6 +105,19 @@ def open_for_writing(path, program):
         yield pipe
     finally:
         os.close(pipe)
+
+
+@contextlib.contextmanager
+def feeding(path, *words, **where):
+    """Starts the program, and waits until it opens the named pipe at `path` for reading. In its arguments `FIFO` is
+    replaced by this path. Yields the program and the end to write to. Kills the program if the test fails meanwhile."""
+    program = start(*(word.replace("FIFO", path) for word in words), **where)
+    try:
+        with open_for_writing(path, program) as pipe:
+            yield program, pipe
+    except BaseException:
+        program.kill()
+        raise
 
 
 def write(pipe, octets):

@@ -3,11 +3,21 @@ that ask for none.
 """
 import contextlib
 import itertools
+import os
 import random
 import socket
 
 FIRST, END = 10000, 32000
-numbers = itertools.count(random.randrange(END - FIRST))
+
+
+def begin():
+    """Begins the choice of ports at random, so that two processes rarely choose the same."""
+    global numbers
+    numbers = itertools.count(random.randrange(END - FIRST))
+
+
+begin()
+os.register_at_fork(after_in_child=begin)
 
 
 def is_free(port):

@@ -4,9 +4,11 @@ correct program does, and when the script ends.
 import atexit
 import collections
 import os
+import signal
 import subprocess
 import sys
 import threading
+import time
 import weakref
 
 TESTS = os.path.dirname(os.path.dirname(os.path.abspath(__file__)))
@@ -14,10 +16,17 @@ TOP = os.path.dirname(TESTS)
 # The programs that `rt` built from the sources.
 BUILT = os.path.join(TOP, "crates", "snmp", "out", "snmp")
 CHECKS = os.path.join(TOP, "crates", "heap_checks", "out", "heap_checks")
+COMMANDS = "snmptranslate", "snmpget", "snmpwalk", "snmpbulkwalk", "snmpd"
 # The program that tests run. tests/wrong.py replaces it by a wrong one.
 PROGRAM = BUILT
 # A correct program ends, writes or reads in fewer seconds than this.
 PATIENCE = 300
+
+
+def read_file(path):
+    """Returns the text of a file, whose path may be relative to the repository."""
+    with open(os.path.join(TOP, path), encoding="utf-8") as file:
+        return file.read()
 
 
 def are_current(script, *programs):
@@ -95,6 +104,21 @@ def finish(program, seconds=PATIENCE):
     return Ended(program.returncode, decode(output), decode(messages))
 
 
+def until(holds):
+    """Waits until `holds` returns true. Raises TimeoutError after PATIENCE seconds."""
+    end = time.monotonic() + PATIENCE
+    while not holds():
+        if time.monotonic() > end:
+            raise TimeoutError(f"the condition wasn't met in {PATIENCE} seconds")
+        time.sleep(0.01)
+
+
+def state(pid):
+    """Returns the state of a process: R if it runs, S if it waits, T if it is stopped."""
+    with open(f"/proc/{pid}/stat", encoding="utf-8") as file:
+        return file.read().rpartition(")")[2].split()[0]
+
+
 def spawn(words, **where):
     """Starts a command without input, with pipes to the script for its output and messages. `where` overrides these,
     and has more arguments of `Popen`."""
@@ -123,3 +147,25 @@ def start(*words, before=(), **where):
 def run(*words, **how):
     """Runs the program and waits for its end."""
     return finish(start(*words, **how))
+
+
+def library(path, source, *words):
+    """Builds a library that a program loads before the C library, from a source of tests/ and with these options of the
+    compiler."""
+    subprocess.run(["cc", "-O1", "-w", "-shared", "-fPIC", *words, "-o", path, f"{TESTS}/{source}"], check=True,
+                   timeout=PATIENCE)
+
+
+def strace(log, calls, *injected):
+    """Returns the command that runs a program and writes these of its system calls to a log. Each of `injected` says
+    which of them are answered in place of the system, and how."""
+    return ["strace", "-f", "-o", log, "-e", f"trace={calls}", *(f"-einject={it}" for it in injected)]
+
+
+def stop(pid, seconds=0):
+    """Stops a process for some seconds."""
+    os.kill(pid, signal.SIGSTOP)
+    until(lambda: state(pid) == "T")
+    time.sleep(seconds)
+    os.kill(pid, signal.SIGCONT)
+    until(lambda: state(pid) != "T")

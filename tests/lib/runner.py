@@ -1,14 +1,19 @@
-"""Chooses and runs the tests of a script, and counts them.
+"""Runs the tests of a script, which are unittest's, up to 16 at the same time.
 
-The last line of a script is 'N passed, M failed, K skipped'. Its status is 0 if no test failed and at least one passed
-or was skipped. Each reason for skipping is on standard error, as 'not tried: WHAT: REASON'.
+The arguments of a script choose its tests: those whose titles contain one of them, or all if there are none. The last
+line of a script is 'N passed, M failed, K skipped'. Its status is 0 if no test failed and at least one passed or was
+skipped. Each skipped test is on standard error, as 'not tried: TITLE: REASON'.
 """
 import concurrent.futures
+import multiprocessing.connection
 import signal
 import sys
-import traceback
+import unittest
 
 from lib import programs
+
+# Because of this name unittest leaves the lines of this module out of the tracebacks that it prints.
+__unittest = True
 
 
 def differs(got, wanted):
@@ -31,108 +36,129 @@ def wrongs(*found):
     return "\n  ".join(filter(None, found))
 
 
-class Counts:
-    """The numbers of tests that passed, failed and were skipped."""
+class Test(unittest.TestCase):
+    """A test with a title. It fails if its function raises an exception, or returns a string that isn't empty, which
+    says what is wrong. If `lacks` isn't empty, it is the reason why the test is skipped."""
 
-    def __init__(self):
-        self.passed = self.failed = self.skipped = 0
+    def __init__(self, title, function, lacks=""):
+        super().__init__("check")
+        self.title, self.function, self.lacks = title, function, lacks
 
-    def record(self, title, wrong):
-        """Counts a test. `wrong` says what is wrong, and is empty if the test passed."""
-        self.passed, self.failed = self.passed + (not wrong), self.failed + bool(wrong)
-        if wrong:
-            print(f"FAILED: {title}\n  {wrong}", flush=True)
+    def __str__(self):
+        return self.title
 
-    def left_out(self, what, reason, count=1):
-        """Counts tests that are skipped, and prints why."""
-        self.skipped += count
-        print(f"not tried: {what}: {reason}", file=sys.stderr, flush=True)
+    def check(self):
+        if self.lacks:
+            self.skipTest(self.lacks)
+        if wrong := self.function():
+            self.fail(wrong)
 
-    def end(self):
-        """Prints the last line, and returns the script's status."""
-        print(f"{self.passed} passed, {self.failed} failed, {self.skipped} skipped", flush=True)
-        return 0 if self.failed == 0 and self.passed + self.skipped > 0 else 1
-
-
-def chosen_by(words, script, titles):
-    """Returns a function that returns whether a title contains one of the words. Without words, it always returns true.
-    If a word is in no title, ends the script with status 2."""
-    for word in words:
-        if not any(word in title for title in titles):
-            print(f"{script}: no test here has {word!r} in its title", file=sys.stderr)
-            sys.exit(2)
-    return lambda title: not words or any(word in title for word in words)
+    def wrong(self):
+        """Runs the test, and returns what is wrong, or an empty string if it passes or is skipped."""
+        failures, errors, _ = outcome(self)
+        return "".join(text.removeprefix("AssertionError: ") for text in failures + errors)
 
 
-def end_by_signal(number, _):
-    """Kills all programs that the script started, so that no thread waits for one any longer, and ends the script."""
-    programs.end_all()
-    raise SystemExit(128 + number)
+def outcome(test):
+    """Runs a test. Returns the messages of its failures, those of its errors, and the reasons why it was skipped."""
+    result = unittest.TestResult()
+    test.run(result)
+    return [[text for _, text in found] for found in (result.failures, result.errors, result.skipped)]
 
 
-def end_at_signals():
-    """From now on SIGINT, SIGTERM and SIGHUP, unless they are ignored, end the script and all programs that it
-    started."""
-    for number in signal.SIGINT, signal.SIGTERM, signal.SIGHUP:
-        if signal.getsignal(number) is not signal.SIG_IGN:
-            signal.signal(number, end_by_signal)
+def in_processes(tests, count):
+    """Runs each test in a process of its own, up to `count` at the same time. Yields each with its outcome as it ends.
+    The processes end when the script does."""
+    fork, left, running = multiprocessing.get_context("fork"), list(tests), {}
+    while left or running:
+        while left and len(running) < count:
+            test, (back, there) = left.pop(0), fork.Pipe(duplex=False)
+            process = fork.Process(target=lambda: there.send(outcome(test)), daemon=True)
+            process.start()
+            there.close()
+            running[back] = process, test
+        for back in multiprocessing.connection.wait(list(running)):
+            process, test = running.pop(back)
+            try:
+                found = back.recv()
+            except EOFError:
+                process.join()
+                found = [[f"its process ended with status {process.exitcode}"], [], []]
+            yield test, found
+
+
+class SideBySide(unittest.TestSuite):
+    """Tests that run up to `count` at the same time: in threads, since most spend their time waiting, or in
+    processes."""
+
+    def __init__(self, tests, count, processes):
+        super().__init__(tests)
+        self.count, self.processes = count, processes
+
+    def run(self, result, debug=False):
+        in_threads = zip(self, side_by_side(outcome, self, self.count))
+        for test, found in in_processes(self, self.count) if self.processes else in_threads:
+            result.startTest(test)
+            for texts, listed in zip(found, (result.failures, result.errors, result.skipped)):
+                listed.extend((test, text) for text in texts)
+            result.stopTest(test)
+        return result
 
 
 class Tests(list):
-    """The tests of a script. An item is a title and a function, which returns what is wrong or an empty string.
-    `untried` lists the titles of tests that can't run on this machine, with the reasons."""
+    """The tests of a script."""
 
     def __init__(self, script):
         super().__init__()
-        self.script, self.untried = script, []
+        self.script = script
 
     def test(self, title, lacks=""):
-        """Returns a decorator that makes a function a test with this title. If `lacks` isn't empty, it is the reason
+        """Returns a decorator that adds a function as a test with this title. If `lacks` isn't empty, it is the reason
         why the test can't run here."""
         def mark(function):
-            if lacks:
-                self.untried.append((title, lacks))
-            else:
-                self.append((title, function))
+            self.append(Test(title, function, lacks))
             return function
         return mark
 
-    def main(self, words, *built, lacks="", prepare=None):
-        """Runs the tests that the words choose, and returns the script's status. No test runs, and the status is 1, if
-        one of the programs `built` isn't current. If `lacks` isn't empty, the tests are skipped for this reason.
-        `prepare` is called before the first test."""
-        titles = [title for title, _ in [*self, *self.untried]]
-        chosen = chosen_by(words, self.script, titles)
+    def main(self, words, *built, lacks="", prepare=None, count=16, processes=False):
+        """Runs the tests that the words choose, up to `count` at the same time, and returns the script's status: 2 if
+        a word is in no title, and 1 if one of the programs `built` isn't current. If `lacks` isn't empty, the tests are
+        skipped for this reason. Otherwise `prepare` is called before the first test. With `processes`, each runs in a
+        process of its own and not in a thread: they compute much, or change what all threads share."""
+        for word in words:
+            if not any(word in test.title for test in self):
+                print(f"{self.script}: no test here has {word!r} in its title", file=sys.stderr)
+                return 2
         if not programs.are_current(self.script, *built):
             return 1
         end_at_signals()
-        counts = Counts()
-        if lacks:
-            count = sum(map(chosen, titles))
-            counts.left_out(f"{count} tests of {self.script}", lacks, count)
-            return counts.end()
-        if prepare:
+        chosen = [test for test in self if not words or any(word in test.title for word in words)]
+        for test in chosen:
+            test.lacks = test.lacks or lacks
+        if prepare and not lacks:
             prepare()
-        tests = [test for test in self if chosen(test[0])]
-        for (title, _), wrong in zip(tests, side_by_side(try_test, [function for _, function in tests], 16)):
-            counts.record(title, wrong)
-        for title, reason in self.untried:
-            if chosen(title):
-                counts.left_out(title, reason)
-        return counts.end()
+        result = unittest.TextTestRunner(sys.stdout).run(SideBySide(chosen, count, processes))
+        for test, reason in result.skipped:
+            print(f"not tried: {test}: {reason}", file=sys.stderr)
+        failed, skipped = len(result.failures) + len(result.errors), len(result.skipped)
+        print(f"{result.testsRun - failed - skipped} passed, {failed} failed, {skipped} skipped", flush=True)
+        return 0 if chosen and not failed else 1
 
 
-def try_test(function):
-    """Returns what the test returns, or the traceback of the exception that it raises."""
-    try:
-        return function()
-    except Exception:
-        return traceback.format_exc()
+def end_at_signals():
+    """Lets SIGINT, SIGTERM and SIGHUP, unless they are ignored, end the script. First they kill all programs that it
+    started, so that no thread waits for one any longer."""
+    def end(number, _):
+        programs.end_all()
+        raise SystemExit(128 + number)
+
+    for number in signal.SIGINT, signal.SIGTERM, signal.SIGHUP:
+        if signal.getsignal(number) is not signal.SIG_IGN:
+            signal.signal(number, end)
 
 
 def side_by_side(function, items, count):
-    """Yields what the function returns for each item, in the order of the items. Up to `count` calls run at once, since
-    tests spend most of their time waiting."""
+    """Yields what the function returns for each item, in the order of the items. Up to `count` calls run at once."""
     pool = concurrent.futures.ThreadPoolExecutor(count)
     try:
         yield from pool.map(function, items)

@@ -91,8 +91,7 @@ class Server:
         probe = message(GET, 7777777, [], community=community)
         self.send(datagram)
         self.send(probe)
-        replies, last = [], message(RESPONSE, 7777777, [], community=community)
-        replies.append(self.receive())
+        replies, last = [self.receive()], message(RESPONSE, 7777777, [], community=community)
         while replies[-1] != last:
             replies.append(self.receive())
         return replies[:-1]

@@ -1,10 +1,14 @@
 """A simple reader of module files, with which tests compare what the program reads: it returns the clauses of each
-definition and finds what names refer to. It checks nothing."""
+definition and finds what names refer to. It checks nothing. tools/join-modules, which operators install by itself,
+divides a file into modules, and a module into tokens.
+"""
 import re
+import runpy
+import types
 
-TOKEN = re.compile(r"""
-    "[^"]*" | --(?:(?!--)[^\n])*(?:--)? | '[^']*'[HhBb] | ::= | \.\. | [{}()\[\],;|]
-    | [^\s{}()\[\],;|"']+?(?=::=|\.\.|[\s{}()\[\],;|"']|--|$)""", re.X)
+from lib.programs import TOP
+
+join_modules = types.SimpleNamespace(**runpy.run_path(f"{TOP}/tools/join-modules"))
 OPEN, CLOSE = "{([", "})]"
 BASES = {"INTEGER", "OCTET STRING", "OBJECT IDENTIFIER", "BITS", "Integer32", "Unsigned32", "Gauge32", "Counter32",
          "Counter64", "TimeTicks", "IpAddress", "Opaque"}
@@ -68,21 +72,17 @@ class Definition:
                 at += 1
 
 
-class Module:
-    """A module: its definitions by label, the labels that it defines twice, and for each import the module."""
+class Module(join_modules.Module):
+    """A module of tools/join-modules, with its definitions by label, the labels that it defines twice, and the module
+    of each import."""
 
-    def __init__(self, name, tokens):
-        self.name, self.definitions, self.twice, self.imports = name, {}, [], {}
-        at = 0
-        if tokens[:1] == ["IMPORTS"]:
-            at = tokens.index(";") + 1
-            names = []
-            for word in tokens[1:at]:
-                if names[-1:] == ["FROM"]:
-                    self.imports.update({label: word for label in names if label not in (",", "FROM")})
-                    names = []
-                else:
-                    names.append(word)
+    def __init__(self, module):
+        super().__init__(module.text, module.tokens)
+        self.definitions, self.twice, self.imports = {}, [], {}
+        tokens = module.tokens[module.tokens.index("BEGIN") + 1:-1]
+        at = tokens.index(";") + 1 if tokens[:1] == ["IMPORTS"] else 0
+        for names, source in re.findall(r"(.*?) FROM (\S+)", " ".join(tokens[1:at])):
+            self.imports.update(dict.fromkeys(names.replace(",", " ").split(), source))
         while at < len(tokens):
             at = self.definition(tokens, at)
 
@@ -110,20 +110,9 @@ class Module:
         return end
 
 
-def read(text):
-    """Returns the modules in the content of a module file, in order."""
-    tokens = [token for token in TOKEN.findall(text) if not token.startswith("--")]
-    found, at = [], 0
-    while at < len(tokens):
-        begin = tokens.index("BEGIN", at)
-        end = begin + 1
-        while tokens[end] != "END":
-            if tokens[end] == "MACRO":
-                end = tokens.index("END", end)
-            end = group_end(tokens, end) if tokens[end] in OPEN else end + 1
-        found.append(Module(tokens[at], tokens[begin + 1:end]))
-        at = end + 1
-    return found
+def read(path):
+    """Returns the modules of a file, in order."""
+    return [Module(module) for module in join_modules.modules_of(join_modules.read(path), path)]
 
 
 class World:

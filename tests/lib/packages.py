@@ -2,12 +2,13 @@
 keepalived has VRRP-MIB; python3-pysnmp4-mibs has the modules of the RFCs as Python. Of SNMP's own modules, erlang-snmp
 has module files and python3-pysnmp4 has Python. The first package that has a module counts. Numbers, syntaxes, named
 numbers, access, indexes and hints are compared. Statuses are only in module files; so are units, but
-python3-pysnmp4-mibs has the units of scalars too."""
+python3-pysnmp4-mibs has the units of scalars too.
+"""
 import glob
 import os
 import re
 
-import module_texts
+from lib import smi
 
 PYTHON = "usr/lib/python3/dist-packages/pysnmp_mibs", "usr/lib/python3/dist-packages/pysnmp/smi/mibs"
 TEXTS = "usr/share/snmp/mibs/{}.txt", "usr/lib/erlang/lib/snmp-*/mibs/{}.mib"
@@ -87,14 +88,9 @@ def of_python(path):
     return found
 
 
-def syntax_of(kind):
-    """Returns the name, ranges and named numbers of a type."""
-    return NAMES.get(kind.name, kind.name), merge(kind.ranges), kind.names
-
-
 def of_text(world, module, definition):
     """Returns the facts of a definition in a module file."""
-    fact, clauses = {}, definition.clauses
+    fact, clauses, kind = {}, definition.clauses, definition.type
     if definition.value:
         fact["numbers"] = world.numbers(module, definition)
     if "STATUS" in clauses:
@@ -103,10 +99,11 @@ def of_text(world, module, definition):
     row = clauses.get("INDEX") or ["AUGMENTS " + label for label in clauses.get("AUGMENTS", [])]
     if row:
         fact["index"] = row
-    elif definition.macro == "OBJECT-TYPE" and not definition.type.name.startswith("SEQUENCE"):
-        fact |= {"syntax": syntax_of(definition.type), "access": clauses["ACCESS"], "units": clauses.get("UNITS")}
+    elif definition.macro == "OBJECT-TYPE" and not kind.name.startswith("SEQUENCE"):
+        fact |= {"syntax": (NAMES.get(kind.name, kind.name), merge(kind.ranges), kind.names),
+                 "access": clauses["ACCESS"], "units": clauses.get("UNITS")}
     elif definition.macro == "TEXTUAL-CONVENTION":
-        base, ranges, names, hint = world.meaning(module, definition.type, clauses.get("DISPLAY-HINT"))
+        base, ranges, names, hint = world.meaning(module, kind, clauses.get("DISPLAY-HINT"))
         fact |= {"base": (NAMES.get(base, base), merge(ranges), names), "hint": hint}
     for clause in ("OBJECTS", "NOTIFICATIONS"):
         if clause in clauses:
@@ -114,16 +111,15 @@ def of_text(world, module, definition):
     return fact
 
 
-def of_package(root, name):
-    """Returns what the packages below a root contain of a module: a list of modules, or facts by label; or None."""
+def of_package(root, world, module):
+    """Returns the facts that the packages below a root have of a module, by label or type name, or None."""
     for text, folder in zip(TEXTS, PYTHON):
-        texts, python = glob.glob(f"{root}/{text.format(name)}"), f"{root}/{folder}/{name}.py"
-        if texts and not (folder == PYTHON[1] and name in OTHER):
-            read = []
-            for path in [*texts, *glob.glob(f"{root}/{text.format('*')}")]:
-                with open(path, encoding="latin-1") as file:
-                    read += module_texts.read(file.read())
-            return read
+        texts, python = glob.glob(f"{root}/{text.format(module.name)}"), f"{root}/{folder}/{module.name}.py"
+        if texts and not (folder == PYTHON[1] and module.name in OTHER):
+            paths = [*texts, *glob.glob(f"{root}/{text.format('*')}")]
+            other = smi.World([*(found for path in paths for found in smi.read(path)), *world.modules.values()])
+            owner = other.modules[module.name]
+            return {label: of_text(other, owner, found) for label, found in owner.definitions.items()}
         if os.path.exists(python):
             return of_python(python)
     return None
@@ -134,35 +130,18 @@ def agree(names, others):
     return all(number == others.get(name, number) for name, number in names.items())
 
 
-def package_facts(root, world, module):
-    """Returns the facts that the packages have of a module, by label or type name, or None."""
-    theirs = of_package(root, module.name)
-    if isinstance(theirs, list):
-        other = module_texts.World(theirs + list(world.modules.values()))
-        owner = other.modules[module.name]
-        theirs = {label: of_text(other, owner, found) for label, found in owner.definitions.items()}
-    return theirs
-
-
-def lacks(root, world, module):
-    """Returns the labels and textual conventions of a module that the packages have, and that it neither defines nor
-    imports."""
-    there = {*module.definitions, *module.imports, *LATER.get(module.name, ())}
-    return [label for label, fact in (package_facts(root, world, module) or {}).items()
-            if label not in there and ("numbers" in fact or "base" in fact)]
-
-
-def differences(root, world, module):
-    """Returns the number of facts of a module that agree with the packages, and a message about each that doesn't.
-    Returns None if no package has the module."""
-    theirs = package_facts(root, world, module)
+def compare(root, world, module):
+    """Compares a module with the packages below a root. Returns the number of facts that agree, a message about each
+    that doesn't, and the labels and textual conventions that only the packages have. Returns None if no package has the
+    module."""
+    theirs = of_package(root, world, module)
     if theirs is None:
         return None
-    same, faults = 0, []
+    same, faults, revised = 0, [], LATER.get(module.name, set())
     for label, definition in module.definitions.items():
         if definition.macro in ("type", "macro"):
             continue
-        ours, wanted, later = of_text(world, module, definition), theirs.get(label), label in LATER.get(module.name, ())
+        ours, wanted, later = of_text(world, module, definition), theirs.get(label), label in revised
         if wanted is None:
             faults += [] if later else [f"{module.name}::{label}: the package doesn't have it"]
             continue
@@ -173,4 +152,5 @@ def differences(root, world, module):
                 same += 1
             else:
                 faults.append(f"{module.name}::{label}: {what} is {ours[what]}, in the package {wanted[what]}")
-    return same, faults
+    return same, faults, [label for label, fact in theirs.items() if {"numbers", "base"} & set(fact)
+                          and label not in {*module.definitions, *module.imports, *revised}]
