@@ -98,7 +98,7 @@ WITHOUT_MEMORY = {
     "TABLE_IS_MEMORY": ["snmpwalk table:x"],
     "A_BLOCK_IS_KEPT": ["snmpwalk -On table", "line, with"],
     "GIVES_UP": ["that are gathered", "gathered twice", "run_walk by GetNext, with", "run_walk by GetBulk, with",
-                 "MemoryLink::reserve", "LineWriter::line", "Table::remove"],
+                 "MemoryLink::reserve", "LineWriter::line"],
     "ANOTHER_ANSWER": ["Value::from_ref", "Table::", "run_walk", "run_get", "MemoryLink::reserve", "parse_modules",
                        "Tree::load", "write_hint", "_text, with", "line, with", "detail, with", "Hint::parse",
                        "answer to a Get asks", "resolve of iso", "look-up"],
