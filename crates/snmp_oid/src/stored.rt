@@ -1,16 +1,18 @@
-//! An object identifier on the heap, for lists of many.
+//! An object identifier for lists of many identifiers.
 ghost use Rattle.std.specs.Prelude.{◌≡◌, ◌+◌, ◌≤◌, ◌++◌, length, IfOk};
 ghost use Rattle.snmp_oid.specs.Identifier.{IsIdentifier};
 
 use crate::Oid;
+use smallvec::SmallVec;
 use std::alloc::{AllocError, Global};
 use std::marker::Model;
 
-/// An object identifier on the heap, which takes no more memory than its numbers need. An [`Oid`]
-/// takes the memory of 128 numbers.
+/// An object identifier that takes little memory. Up to 14 numbers are stored in the value itself;
+/// most identifiers in modules have no more. Others are on the heap. An [`Oid`] always takes memory
+/// for 128.
 #[derive(Debug, Drop)]
 pub struct StoredOid {
-    numbers: Vec<u32>,
+    numbers: SmallVec<u32, 14>,
 }
 
 impl Model for StoredOid {
@@ -30,7 +32,7 @@ impl StoredOid {
         requires { length prefix.now + length suffix.now ≤ 128 }
         ensures { IfOk result (λ o. o ≡ prefix.now ++ suffix.now) }
     {
-        let mut numbers = Vec::with_capacity(alloc, prefix.len() + suffix.len())?;
+        let mut numbers = SmallVec::with_capacity(alloc, prefix.len() + suffix.len())?;
         numbers.extend_from_slice(prefix)?;
         numbers.extend_from_slice(suffix)?;
         Ok(StoredOid { numbers })
@@ -40,7 +42,8 @@ impl StoredOid {
     pub fn copy(&self, alloc: Global) -> Result<StoredOid, AllocError>
         ensures { IfOk result (λ o. o ≡ self.now) }
     {
-        StoredOid::join(alloc, self.as_slice(), &[])
+        let numbers = SmallVec::from_slice(alloc, self.as_slice())?;
+        Ok(StoredOid { numbers })
     }
 
     /// Returns the numbers, from the left.
