@@ -37,6 +37,7 @@ where
     let files = KeyedFiles {
         files: MachineFiles { rt },
         key: RandomState::new(rt).ok(),
+        ends_process: true,
     };
     let mut links = MachineLinks::new(rt);
     run_words(rt.alloc(), words.as_slice(), &files, &mut links, out, err)

@@ -34,12 +34,19 @@ pub trait Files {
     /// The keys that `hash_key` can return; by default there are none.
     ghost keys: { Self → RandomState → Type 0 } = { λ _ _. ⊥ };
 
-    /// Returns the key with which maps hash the names from these files, or `None` if they use a
-    /// fixed one.
+    /// Returns the key with which maps hash the names from these files, or `None` if the maps use
+    /// a fixed key.
     fn hash_key(&self) -> Option<RandomState>
         ensures key_of_files { IfSome result (keys self.now) }
     {
         None
+    }
+
+    /// Returns whether the process exits right after the job that reads these files. If so, the
+    /// job needn't free what it made of them: the exit returns all memory at once. By default it
+    /// doesn't.
+    fn ends_process(&self) -> bool {
+        false
     }
 }
 
@@ -51,6 +58,8 @@ pub struct KeyedFiles<F> {
     pub files: F,
     /// The key, or `None` for the fixed one.
     pub key: Option<RandomState>,
+    /// Whether the process exits right after the job that reads the files.
+    pub ends_process: bool,
 }
 
 impl<F: Files> Files for KeyedFiles<F> {
@@ -67,5 +76,11 @@ impl<F: Files> Files for KeyedFiles<F> {
         ensures own_key { result ≡ self.now.key }
     {
         self.key
+    }
+
+    fn ends_process(&self) -> bool
+        ensures own_end { result ≡ self.now.ends_process }
+    {
+        self.ends_process
     }
 }

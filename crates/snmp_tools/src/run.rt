@@ -11,7 +11,7 @@ mod lines;
 mod start;
 
 use crate::failure::Failure;
-use crate::load::ModuleLoader;
+use crate::load::{ModuleLoader, discard};
 use crate::messages::Messages;
 use crate::plan::{AskJob, Orders, Plan};
 use crate::table_names::table_at;
@@ -41,7 +41,9 @@ pub(crate) fn ask<'a, F: ModuleLoader<E>, L: Links, O: Output, E: Messages>(
 {
     let orders = Orders::read(job)?;
     let tree = files.load(alloc, &job.asking.mibs, err)?;
-    ask_by(alloc, job, orders, &tree, files, links, out)
+    let done = ask_by(alloc, job, orders, &tree, files, links, out);
+    discard(files, tree);
+    done
 }
 
 /// Asks an agent and prints the lines of its answer. Names and types are looked up in `tree`.

@@ -17,7 +17,7 @@ ghost use Rattle.smi_value.specs.Letters.{has_letter};
 ghost use Rattle.snmp_tools.specs.translate.Style.{IsStyleOf, first_other_of_t};
 
 use crate::failure::Failure;
-use crate::load::ModuleLoader;
+use crate::load::{ModuleLoader, discard};
 use crate::messages::Messages;
 use crate::names::read_name;
 use smi_show::{detail, name_text};
@@ -48,7 +48,9 @@ pub(crate) fn translate<'a, F: ModuleLoader<E>, O: Output, E: Messages>(
 {
     let style = Style::read(job)?;
     let tree = files.load(alloc, &job.mibs, err)?;
-    print_names(alloc, &tree, style, &job.names, out)
+    let done = print_names(alloc, &tree, style, &job.names, out);
+    discard(files, tree);
+    done
 }
 
 /// How each name is printed.

@@ -76,6 +76,7 @@ fn a_tree_loaded_with_a_key_has_as_many_nodes(rt: HostRuntime) -> Result<(), Fai
             files: files.as_slice(),
         },
         key: RandomState::new(&rt).ok(),
+        ends_process: false,
     };
     let tree = load_tree(rt.alloc(), &files, &["across.txt", "well.txt"], &mut err)?;
     assert_across(&rt, &tree);

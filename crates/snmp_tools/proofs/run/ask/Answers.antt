@@ -20,12 +20,12 @@ returns-in_err-tree g c =
     (ap (seen files c.args.links.now (g.O.Output.stream c.args.out.now)) c.in_err-tree.ensures.untold)
     (outcome_as _ _ c.from_residual-in_err-tree.ensures.1)
 
-pub ask_by-requires-clause-known : goal.ask_by-requires-clause-known
-ask_by-requires-clause-known g c = grind (arith, common_steps, loads_from)
+pub ask_by-done-requires-clause-known : goal.ask_by-done-requires-clause-known
+ask_by-done-requires-clause-known g c = grind (arith, common_steps, loads_from)
 
 pub returns : goal.returns
 returns g c =
     let files = g.F.Files.text_at c.args.files.now in
     let is = loads_from files _ _ _ _ _ c.deref.ensures.value c.in_ok-tree.ensures.loaded in
     loaded _ is.warnings is.loaded
-    (loads_of (g.F.ModuleLoader.loads c.args.files.now) _ _ _ _ c.deref.ensures.value c.in_ok-tree.ensures.loads) is.was_reported (c.ask_by.ensures _)
+    (loads_of (g.F.ModuleLoader.loads c.args.files.now) _ _ _ _ c.deref.ensures.value c.in_ok-tree.ensures.loads) is.was_reported (c.ask_by-done.ensures _)

@@ -26,4 +26,4 @@ returns g c =
     ran c.in_ok-style.style c.in_ok-tree.tree c.in_ok-style.ensures.style is
     (loads_of (g.F.ModuleLoader.loads c.args.files.now) _ _ _ _ c.deref.ensures.value c.in_ok-tree.ensures.loads)
     (subst (λ (ns : List (Bor (List ℕ))). IsPrinting c.in_ok-tree.tree c.in_ok-style.style (texts_at ns) (g.O.Output.stream c.args.out.now)
-    (g.O.Output.stream c.print_names.new.out) (outcome_of c.print_names.result)) names c.print_names.ensures)
+    (g.O.Output.stream c.print_names-done.new.out) (outcome_of c.print_names-done.result)) names c.print_names-done.ensures)
