@@ -64,7 +64,8 @@ module _ (codec : Codec) (view : MibView) (good : IsMibView view) where
       let same : a.0 ≡ b.0 = one_after i o a.0 b.0 a.1 b.1 in
       one_next b.0.name p q (subst (λ (r : VarBind). IsNext view r.name p) same a.2) b.2
 
-  -- o is the name reached from `asked` by i GetNexts, each of the name that the one before returned; i is the second argument
+  -- o is the name that i GetNexts reach from `asked`: each after the first asks from the name that the one before it returned. If i is 0, o is `asked`. The
+  -- arguments are `asked`, i and o.
   abbrev IsSuccessor : List ℕ → ℕ → List ℕ → Type 0
   IsSuccessor asked zero o = o ≡ asked
   IsSuccessor asked (suc i) o = (q : VarBind) × IsNextAfter view i asked q × (q.name ≡ o)
@@ -73,7 +74,8 @@ module _ (codec : Codec) (view : MibView) (good : IsMibView view) where
   next_after asked zero o p at h = subst (λ (n : List ℕ). IsNext view n p) (sym at) h
   next_after asked (suc i) o p at h = grind (arith, common_steps, one_after)
 
-  -- of the rounds of a GetBulk of one name, each has one binding; those after `before` are a chain from o, the name that `before` reached
+  -- Each round of a GetBulk of one name has one binding. If the rounds `before` have reached the name o, the bindings of the other rounds, `rest`, are a chain
+  -- from o.
   chained : (asked : List ℕ) (repetitions : ℕ) (rounds : List (List VarBind)) → AreRounds view repetitions (asked_of asked) rounds
       → (rest before : List (List VarBind)) (o : List ℕ) → rounds ≡ before ++ rest → IsSuccessor asked (length before) o
       → IsChain (IsNext view) o (joined rest) × (length (joined rest) ≡ length rest)

@@ -31,7 +31,8 @@ pub record Cases (w : WalkState) (m : Message) (P : Step × WalkState → Type 0
   pub first : w.phase ≡ phase.First → (b : VarBind) → got w.asked m.bindings ≡ Some b → P (goes_on w phase.Rows (if_present b))
   pub last : w.phase ≡ phase.Last → (b : VarBind) → got w.asked m.bindings ≡ Some b → P (stops w (b ∷ []) (ending.Done (w.count + 1)))
   pub empty : w.phase ≡ phase.Rows → P (stops w [] (ending.NoProgress w.asked))
-  -- a reply with the next instances: the name of one isn't greater, one is outside the subtree, or all of them are rows
+  -- P holds in each of three cases for a reply with the next instances: a name isn't greater than the one before; a binding isn't below the root or has
+  -- endOfMibView; or all bindings are rows
   pub next : w.phase ≡ phase.Rows → m.a ≡ pos 0 → 1 ≤ length m.bindings → list_any (λ p. is_missing p.value) m.bindings ≡ false
       → ((name last : List ℕ) → P (stops w (given_of w m.bindings) (ending.NotIncreasing last name))) × P (closes w (given_of w m.bindings))
       × ((reply_rows w.root w.asked m.bindings).after ≡ nothing → P (goes_on w phase.Rows (given_of w m.bindings)))
@@ -62,7 +63,7 @@ module _ (w : WalkState) (m : Message) (P : Step × WalkState → Type 0) (h : C
   take_by = cond_both (is_awaited w m) (reads_reply w m) (step.Stray, w) P
       (λ _. cond_both (int_eq m.a (pos 0)) _ _ P (λ is. by_phase ((Decides-int_eq m.a (pos 0)).0 is) w.phase refl) (λ _. h.fault)) (λ other. h.stray other)
 
--- a step that ends the walk by an error status or by a reply without bindings passes on no rows
+-- if the step ends the walk by an error status or by a reply without bindings, it passes on no rows
 abbrev pub EndsEmpty : Step → Type 0
 EndsEmpty (step.Last rows why) = DeliversNoRows why rows
 EndsEmpty _ = Unit {0}

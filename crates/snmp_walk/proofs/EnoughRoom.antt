@@ -31,7 +31,7 @@ pub opening_is_get : (m : Mode) → opening_gets m ≤ gets m
 opening_is_get mode.Plain = omega arith
 opening_is_get _ = omega arith
 
--- each request of a walk is of a kind that agents serve
+-- a request of a walk, in any phase and with any method, is of a kind that agents serve
 served : (p : Phase) (m : Method) → IsServed (request_kind p m)
 served phase.Rows method.Next = tt
 served _ _ = tt
@@ -50,7 +50,7 @@ pub few_asked : (Next Got : List ℕ → VarBind → Type 0) (first w : WalkStat
     → w.id ≤ first.id + length given + gets first.mode
 few_asked Next Got first w given h = grind (arith, common_steps, opening_is_get, few_replies)
 
--- over one table, a trail has at most as many rows as the rest of the walk
+-- over one table, a trail from the name that the walk begins from has at most as many rows as the rest of the walk after this name
 pub trail_in_rest : (agents : Agents) (first : WalkState) (view : MibView) (answer : VarBind) → IsOneTable (variables view) answer (IsNextFrom agents)
     (IsGotFrom agents) first
     → (s : List ℕ) → first.asked ≡ first.root ++ s → HasFew (IsNextFrom agents) first (length (rest_of first.root first.asked (variables view)))
@@ -66,7 +66,7 @@ module _ (codec : Codec) (agents : Agents) (first : WalkState) (good_views : Are
   abbrev Got : List ℕ → VarBind → Type 0
   Got = IsGotFrom agents
 
-  -- the name has room with endOfMibView
+  -- the agents' messages have room for the name o with endOfMibView
   abbrev EndRoom : List ℕ → Type 0
   EndRoom o = HasRoom agents (record { name = o; value = end_of_mib_view })
 
@@ -85,7 +85,7 @@ module _ (codec : Codec) (agents : Agents) (first : WalkState) (good_views : Are
       trail_room p.name trail (room_exception codec agents p.name end_of_mib_view p.value tt
       ((rooms h.0.0 h.0.1).rows p (row_of_next h.0.0 o p h.0.2 (end_test p.value h.1.value)))) h.2
 
-  -- the name in the waiting request has room with endOfMibView
+  -- if there is room for the name that the walk begins from with endOfMibView, there is also room for the name o in the waiting request with endOfMibView
   stage_room : (given : List VarBind) (o : List ℕ) (p : Phase) → EndRoom first.asked → IsStage Next Got first given o p → EndRoom o
   stage_room given o phase.First own h = subst EndRoom (sym h.1) own
   stage_room given o phase.Rows own h = subst EndRoom (sym h.last) (trail_room first.asked h.trail own h.is_trail)

@@ -36,7 +36,7 @@ lawful_whole : (agents : Agents) (Silent : WalkState → Type 0) (first : WalkSt
 lawful_whole agents Silent first rows (ending.Done n) d h = h.5.1
 lawful_whole agents Silent first rows _ d h = absurd d
 
--- if no reply to the request of w arrived in at least one try, and no delivery was ahead, then one of the agents has no reply to it
+-- if no reply to the request of w arrived, at least one try was allowed, and no delivery was ahead, then one of the agents has no reply to it
 none_lost : (agents : Agents) (tries : ℕ) (old new : Traffic) (w : WalkState) → 0 < tries → old.ahead ≡ [] → HasNoReply agents tries old new w
     → HasNone agents w
 none_lost agents tries old new w some none h = elim h.lost [
@@ -53,14 +53,14 @@ none_lost agents tries old new w some none h = elim h.lost [
       absurd (omega (arith, some, zero_tries))
 ]
 
--- a lawful end is lawful with a weaker statement about the state that got no reply
+-- if `Silent` implies `Other`, an end that is lawful with `Silent` is lawful with `Other`
 pub lawful_by : (agents : Agents) (Silent Other : WalkState → Type 0) (first : WalkState) (rows : List VarBind) (end : WalkEnd) → ((w : WalkState) → Silent w
     → Other w)
     → IsLawfulEnd agents Silent first rows end → IsLawfulEnd agents Other first rows end
 lawful_by agents Silent Other first rows ending.NoResponse by h = (h.0, h.1, h.2, by h.0 h.3)
 lawful_by agents Silent Other first rows _ by h = h
 
--- a trail has at most as many rows as there are names below the root
+-- if `CountsNames` holds of k, each trail from the name that the walk begins from has at most k rows
 pub counted_few : Codec → (agents : Agents) → AreViews agents.tables → (first : WalkState) → IsFresh first → (k : ℕ) → CountsNames agents first k
     → HasFew (IsNextFrom agents) first k
 counted_few codec agents views first fresh k (of_table view e is) =

@@ -24,8 +24,8 @@ given_all : (root o : List ℕ) (bindings : List VarBind) → (reply_rows root o
 given_all root = prefixes_by root (λ o all prefix. prefix.after ≡ nothing → list_any (λ q. is_end q.value) all ≡ false) (λ o e. refl)
     (λ o p more prefix i u later e. or_from _ _ (inside_value root p i) (later e)) (λ o p more i f e. absurd cc) (λ o p more f e. absurd cc)
 
--- if the step continues the walk w, then m is the reply to the first Get; or the last Get is next; or m has no error, all its bindings are rows, and none has
--- endOfMibView
+-- if the step continues the walk w, whose next state is v, then m is the reply to the first Get; or v waits for the reply to the last Get; or m has no error,
+-- all its bindings are rows, and none has endOfMibView
 abbrev pub GoesFull : WalkState → Message → Step → WalkState → Type 0
 GoesFull w m (step.Rows rows) v =
     (w.phase ≡ phase.First)
@@ -59,8 +59,8 @@ take_full w m =
 abbrev pub AreRoomy : Agents → List Try → Type 0
 AreRoomy agents requests = (t : Try) → OneOf requests t → t.by.phase ≡ phase.Rows → HasRoomForAll agents t.by
 
--- if there is room, and the waiting request is for the next instances, then at most `n` such requests came before it, and `n` of them ask for at most as
--- many rows as were returned
+-- If there is room (`Roomy`) and the waiting request is for the next instances, some n exists: at most n such requests came before it, and n of them ask for
+-- at most as many rows as were returned below the root.
 abbrev pub IsFast : (Next Got : List ℕ → VarBind → Type 0) → Type 0 → WalkState → List VarBind → ℕ → Phase → Type 0
 IsFast Next Got Roomy first given id phase.Rows =
     Roomy → (prefix : List VarBind) × (trail : List VarBind) × (given ≡ prefix ++ trail) × IsOpening Got first.mode first.asked prefix

@@ -52,7 +52,7 @@ for_decided names bindings = ((λ e. absurd (false≢true e)), (λ h. let named 
 pub means_to_get : (names : List (List ℕ)) (m : Message) → MeansToGet names m (answers_of names m)
 means_to_get names m = grind (arith, common_steps, Decides-int_eq, for_decided)
 
--- a Get of these names can end so, if the link may do anything
+-- a Get of these names can end with `end`, if the link may deliver anything
 abbrev pub MayEnd : Message → List (List ℕ) → WalkEnd → Type 0
 MayEnd request names end = IsEndOfGet (λ _ _. Unit {0}) (Unit {0}) (Unit {0}) request names end
 
@@ -204,7 +204,7 @@ module _ (codec : Codec) (community : List ℕ) (id : ℕ) (names : List (List �
 
   module _ {L : Type 0} (facts : LinkFacts L) (recording : (link : L) → facts.honest link → facts.records link) (link after : L) (tries : ℕ)
       (lawful : facts.honest link → AreLawful (facts.agents link)) where
-    -- the message that arrived is a reply to the Get's request
+    -- if the datagram d answered the Get's request and encodes m, and m is awaited, then m is the reply to that request (`IsDelivered`)
     pub brought : (m : Message) (d : List ℕ) → IsGetTried facts link after tries community id names (outcome.answered d) → Spells m d
         → awaits community id m ≡ true
         → IsDelivered (IsGetTried facts link after tries community id names) (facts.agents link) (IsHonestFrom facts id link) community id names m

@@ -35,7 +35,7 @@ pub written_more : (names : List (List ℕ)) (i : ℕ) (o : List ℕ) (p : VarBi
     → canon_bindings (asked_names (take (i + 1) names)) ≡ canon_bindings (asked_names (take i names)) ++ canon_binding p
 written_more names i o p h e is = rw (take_more names i o h, ← e, is, map-append, canon_append, canon_one)
 
--- the bindings for the first names aren't longer than those for all
+-- the encoding of the bindings for the first i names isn't longer than the encoding of the bindings for all names
 pub longer_all : (names : List (List ℕ)) (i : ℕ) → length (canon_bindings (asked_names (take i names))) ≤ length (canon_bindings (asked_names names))
 longer_all names i =
     let whole : canon_bindings (asked_names names) ≡ canon_bindings (asked_names (take i names)) ++ canon_bindings (asked_names (drop i names)) =
@@ -43,7 +43,7 @@ longer_all names i =
     ∙ ap canon_bindings (map-append _ (take i names) (drop i names)) ∙ canon_append (asked_names (take i names)) (asked_names (drop i names)) in
     omega (arith, ap length whole, length-append (canon_bindings (asked_names (take i names))) (canon_bindings (asked_names (drop i names))))
 
--- the encoding of a message before its bindings depends on their total length, but not on the bindings
+-- the encoded head of m, for a total length of the bindings, doesn't depend on the bindings of m
 pub head_of : (m : Message) (total : ℕ) → canon_head (record m { bindings = [] }) total ≡ canon_head m total
 unfolding canon_head canon_prefix canon_opening canon_fields
 head_of m total = refl

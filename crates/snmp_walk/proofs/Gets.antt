@@ -6,7 +6,8 @@ use Rattle.std.specs.Prelude.{Result, Ok, Err, replicate, Some, None}
 use Rattle.snmp_walk.specs.{declared.end.LinkFault.LinkFault, private.Codec.Codec, declared.end.SinkFault.SinkFault, declared.end.WalkEnd.WalkEnd}
 use Rattle.snmp_walk.specs.{declared.tries.Course.Course, Traffic.Traffic, Traffic.Lost, Facts.IsDone, Facts.IsDoneOrCutOff, Facts.IsDoneOrStopped}
 use Rattle.snmp_walk.specs.{private.Course.Heard, private.Course.heard_of, Read.IsReadAs, Read.Tells, Moved.AreFew, Moved.IsMoved, StepRules.IsResponseTo}
-use Rattle.snmp_walk.specs.{Network.AreRepliesOf, declared.link.Link.Ghosts as LinkFacts, Responses.IsResponseFrom, Responses.MayRespond, Link.Agents}
+use Rattle.snmp_walk.specs.{Network.AreRepliesOf, Network.tried, declared.link.Link.Ghosts as LinkFacts, Responses.IsResponseFrom}
+use Rattle.snmp_walk.specs.{Responses.MayRespond, Link.Agents}
 use Rattle.snmp_walk.specs.{Link.OneOf, Link.AreLawful, Link.IsReplyFrom, Link.agent_in, Link.Outcome, Tries.AreTried, Tries.Happens, Tries.InTurn}
 use Rattle.snmp_walk.specs.{Tries.IsNotAwaited, RunResult.HasHappened, RunResult.but_for_errors, RunResult.IsHonestFrom, RunResult.IsGetTried}
 use Rattle.snmp_walk.specs.{RunResult.IsGotOver, RunResult.IsRun}
@@ -21,7 +22,7 @@ use Rattle.snmp_walk.specs.Get.{IsTooBig, GetFacts, GotFacts}
 use Rattle.std.proofs.Common.{◌+◌, ◌*◌}
 use Rattle.snmp_walk.proofs.{Networks.begins_tries, OwnReply.all_lower_more, OwnReply.all_lower_sent}
 use Rattle.snmp_walk.specs.{RunResult.AreOfLowerIds}
-use Rattle.snmp_walk.proofs.{Names.no_end, Variables.get_one, Networks.all_tries, Networks.answered_tries}
+use Rattle.snmp_walk.proofs.{Members.one_same, Names.no_end, Variables.get_one, Networks.all_tries, Networks.answered_tries, Networks.sends_of}
 use Rattle.snmp_walk.proofs.OwnReply.{no_drop, error_or_none, may_be, of_community, own as spelt_own}
 use Rattle.snmp_walk.proofs.SortedRows.{view_of, only_one, get_name, get_value}
 use Rattle.snmp_walk.proofs.GetEnds.{brought, lost_get, no_set, response_of, IsByReply, IsPrefixOfReply, IsGot, MayEnd, by_reply, for_more}
@@ -143,7 +144,8 @@ module _ (agents : Agents) (lawful : AreLawful agents) (community : List ℕ) (i
           λ room. absurd (big.1.1.2 (room.response_fits from.0 big.1.1.0 from.1 big.1.1.1)),
         )
 
-    -- with one table, `rows` and `refused` are a prefix of the results `all`, and `rows` are all of these if the Get is done
+    -- if `rows` and `refused` are a prefix of a reply's bindings (`IsPrefixOfReply`), then with one table they are a prefix of the results `all`, and `rows`
+    -- are all of these if the Get is done
     given_prefix : IsPrefixOfReply names Tried Brought rows refused end → (view : MibView) (all : List VarBind) → agents.tables ≡ view ∷ []
         → AreGot view names all
         → ((more : List VarBind) × (all ≡ (rows ++ refused) ++ more)) × (IsDone end → rows ≡ all)
@@ -165,7 +167,7 @@ module _ (agents : Agents) (lawful : AreLawful agents) (community : List ℕ) (i
         }
 
   module _ (codec : Codec) (own : length (canon Request) ≤ 65507 → Spells Request (canon Request)) (tries : ℕ) (some : 0 < tries) (old new : Traffic) where
-    -- if there is room and no deliveries are ahead, the reply isn't lost
+    -- if there is room and no deliveries were ahead, the reply isn't lost
     never_lost : HasRoomForGet agents Request names → old.ahead ≡ [] → IsLostGet agents tries old (canon Request) new → ⊥
     never_lost room none lost = elim lost.lost [
       | inl u ↦ no_drop codec Request (own room.request_fits) refl (agent_in agents u.view) room.community tt (response_fits room u.view u.one) u.why u.dropped
@@ -191,8 +193,23 @@ module _ (agents : Agents) (lawful : AreLawful agents) (community : List ℕ) (i
 
 -- ---- the events at the link
 
+-- tries of the request changed the link, as `IsGotOver` says
+abbrev HasMoved : {W : Type 0} → LinkFacts W → (link : W) → (tries : ℕ) → (community : List ℕ) → (id : ℕ) → (names : List (List ℕ)) → (after : W)
+    → WalkEnd → Type 0
+HasMoved {W} facts link tries community id names after end = (times : ℕ) × (times ≤ tries)
+    × (names ≢ [] → end ≢ ending.RequestTooLong → 0 < times) × (receives : ℕ)
+    × IsMoved facts link (replicate times (canon (get_request community id names))) receives (end ≡ ending.Link) after
+    × AreFew facts link receives after × (receives ≤ 64 * times)
+
+-- the Get ended as `HasHappened` says, its tries changed the link as `HasMoved` says, and the events have the sends of these tries
+pub record HasEnded {W : Type 0} (facts : LinkFacts W) (link : W) (tries : ℕ) (community : List ℕ) (id : ℕ) (names : List (List ℕ)) (after : W)
+    (rows refused : List VarBind) (end : WalkEnd) : Type 0 where
+  pub happened : HasHappened facts link after end (λ agents why. GotFacts agents (get_request community id names) names rows refused why)
+  pub moved : HasMoved facts link tries community id names after end
+  pub sends : tried happened.events ≡ replicate moved.0 (canon (get_request community id names))
+
 module _ {W : Type 0} (codec : Codec) (facts : LinkFacts W) (link after : W) (tries : ℕ) (community : List ℕ) (id : ℕ) (names : List (List ℕ))
-    (ranged : IsMessageInRange (get_request community id names)) where
+    (ranged : IsMessageInRange (get_request community id names)) (some : 0 < tries) where
   abbrev Was : Outcome → Type 0
   Was what = IsGetTried facts link after tries community id names what
 
@@ -212,7 +229,8 @@ module _ {W : Type 0} (codec : Codec) (facts : LinkFacts W) (link after : W) (tr
     from_agents Sort m d response spelt h replies sorted =
         let a = answered_tries facts q (IsNotAwaited community id) tries link after d h in
         let sent_it = replies a.1.0 [] tt d refl m spelt sorted in
-        let reply = subst (λ (x : List ℕ). IsReplyFrom agents x d ⊎ IsResponseFrom agents x m) (a.1.2 sent_it.0 sent_it.1) sent_it.2 in (
+        let reply = subst (λ (x : List ℕ). IsReplyFrom agents x d ⊎ IsResponseFrom agents x m)
+        (one_same (h.0 + 1) q sent_it.0 (subst (λ (ds : List (List ℕ)). OneOf ds sent_it.0) a.1.2 sent_it.1)) sent_it.2 in (
           response,
           (λ _. elim reply [
             | inl own ↦
@@ -230,7 +248,7 @@ module _ {W : Type 0} (codec : Codec) (facts : LinkFacts W) (link after : W) (tr
 
   module _ (rows refused : List VarBind) where
     abbrev Known : WalkEnd → Type 0
-    Known end = HasHappened facts link after end (λ agents why. GotFacts agents (get_request community id names) names rows refused why)
+    Known end = HasEnded facts link tries community id names after rows refused end
 
     -- an error status ended the Get, and nothing was passed to the sink
     abbrev IsFailed : WalkEnd → Type 0
@@ -241,23 +259,29 @@ module _ {W : Type 0} (codec : Codec) (facts : LinkFacts W) (link after : W) (tr
         → ((m : Message) → Sort m ⊎ (Errors × (m.a ≢ pos 0))) → AreRepliesOf Sort agents all
         → IsReasonOfGet Was (IsFromThese agents good) names rows refused end ⊎ (Errors × IsFailed end)
 
-    known : (end : WalkEnd) (what : Outcome) (h : Was what) → MayEnd (get_request community id names) names end → HasReason (tried_events what h).0 end
-        → Known end
-    known end what h may reason =
+    known : (end : WalkEnd) (what : Outcome) → Suits what end → (h : Was what) → MayEnd (get_request community id names) names end
+        → HasReason (tried_events what h).0 end → Known end
+    known end what suits h may reason =
         let e = tried_events what h in
+        let a = agrees what end suits in
+        let m = tries_as facts (IsNotAwaited community id) q a.0 a.1 (moved_of facts (IsNotAwaited community id) q tries some what link after h) in
         record {
-          events = e.0;
-          in_turn = e.1;
-          begins = begins_tries facts q (IsNotAwaited community id) tries link after what h;
-          replied = λ agents good replies. elim (reason agents good (λ m. Unit {0}) ⊥ (λ m. inl tt) replies) [
-            | inl why ↦ got_facts agents good community id names (Unit {0}) tt Was rows refused end why may
-            | inr none ↦ absurd none.0
-          ];
-          replied_or_failed = λ agents good replies. elim (reason agents good (λ m. m.a ≡ pos 0) (Unit {0}) error_or_none replies) [
-            | inl why ↦ got_but agents end (got_facts agents good community id names (Unit {0}) tt Was rows refused end why may)
-            | inr failed ↦ subst (λ (x : WalkEnd). GotFacts agents (get_request community id names) names rows refused (but_for_errors x)) (sym failed.1.1.2)
-                (got_facts agents good community id names (Unit {0}) tt (λ what. Unit {0}) rows refused ending.Link (tt, failed.1.0) tt)
-          ];
+          happened = record {
+            events = e.0;
+            in_turn = e.1;
+            begins = begins_tries facts q (IsNotAwaited community id) tries link after what h;
+            replied = λ agents good replies. elim (reason agents good (λ m. Unit {0}) ⊥ (λ m. inl tt) replies) [
+              | inl why ↦ got_facts agents good community id names (Unit {0}) tt Was rows refused end why may
+              | inr none ↦ absurd none.0
+            ];
+            replied_or_failed = λ agents good replies. elim (reason agents good (λ m. m.a ≡ pos 0) (Unit {0}) error_or_none replies) [
+              | inl why ↦ got_but agents end (got_facts agents good community id names (Unit {0}) tt Was rows refused end why may)
+              | inr failed ↦ subst (λ (x : WalkEnd). GotFacts agents (get_request community id names) names rows refused (but_for_errors x))
+                  (sym failed.1.1.2) (got_facts agents good community id names (Unit {0}) tt (λ what. Unit {0}) rows refused ending.Link (tt, failed.1.0) tt)
+            ];
+          };
+          moved = (m.0, m.1, (λ _ _. m.2), m.3, m.4, m.5, m.6);
+          sends = sends_of facts q (IsNotAwaited community id) tries some what link after h;
         }
       where
         got_but : (agents : Agents) (end : WalkEnd) → GotFacts agents (get_request community id names) names rows refused end
@@ -276,24 +300,24 @@ module _ {W : Type 0} (codec : Codec) (facts : LinkFacts W) (link after : W) (tr
           → (end ≡ ending.RequestTooLong → ⊥) → Known end
       happened_by (ending.Sink fault) r may short =
           let from = r.3 in
-          known (ending.Sink fault) (outcome.answered from.2.0) from.2.1 may
+          known (ending.Sink fault) (outcome.answered from.2.0) ((λ e. cc), λ e. cc) from.2.1 may
           (λ agents good Sort Errors sort replies. elim (sort r.0) [
             | inl sorted ↦ inl (r.0, r.1, r.2, from_agents agents good Sort r.0 from.2.0 from.0 from.2.2 from.2.1 replies sorted, r.4, r.5)
             | inr error ↦ absurd (error.1 r.4.0)
           ])
       happened_by (ending.Done count) r may short =
           let from = r.1 in
-          known (ending.Done count) (outcome.answered from.2.0) from.2.1 may
+          known (ending.Done count) (outcome.answered from.2.0) ((λ e. cc), λ e. cc) from.2.1 may
           (λ agents good Sort Errors sort replies. elim (sort r.0) [
             | inl sorted ↦ inl (r.0, from_agents agents good Sort r.0 from.2.0 from.0 from.2.2 from.2.1 replies sorted, r.2, r.3)
             | inr error ↦ absurd (error.1 r.2.0)
           ])
-      happened_by ending.NoResponse r may short = known ending.NoResponse outcome.missed r.0 may (λ agents good Sort Errors sort replies. inl r)
-      happened_by ending.Link r may short = known ending.Link outcome.cut_off r.0 may (λ agents good Sort Errors sort replies. inl r)
+      happened_by ending.NoResponse r may short = known ending.NoResponse outcome.missed refl r.0 may (λ agents good Sort Errors sort replies. inl r)
+      happened_by ending.Link r may short = known ending.Link outcome.cut_off refl r.0 may (λ agents good Sort Errors sort replies. inl r)
       happened_by ending.RequestTooLong none may short = absurd (short refl)
       happened_by end r may short =
           let from = r.1 in
-          known end (outcome.answered from.2.0) from.2.1 may
+          known end (outcome.answered from.2.0) ((λ e. cc), λ e. cc) from.2.1 may
           (λ agents good Sort Errors sort replies. elim (sort r.0) [
             | inl sorted ↦ inl (r.0, from_agents agents good Sort r.0 from.2.0 from.0 from.2.2 from.2.1 replies sorted, r.2, r.3)
             | inr error ↦ elim r.2 [
@@ -325,11 +349,6 @@ module _ {W S : Type 0} (facts : LinkFacts W) (link : W) (tries : ℕ) (communit
       × ((facts.traffic after).sent ≡ (facts.traffic link).sent ++ replicate times (canon Asked)) × (end ≡ ending.NoResponse → times ≡ tries)
       × (names ≢ [] → end ≢ ending.RequestTooLong → end ≢ ending.Link → 0 < times)
 
-  abbrev HasMoved : W → WalkEnd → Type 0
-  HasMoved after end = (times : ℕ) × (times ≤ tries) × (names ≢ [] → end ≢ ending.RequestTooLong → 0 < times) × (receives : ℕ)
-      × IsMoved facts link (replicate times (canon Asked)) receives (end ≡ ending.Link) after × AreFew facts link receives after
-      × (receives ≤ 64 * times)
-
   abbrev pub IsGotSo : W → S → WalkEnd → Type 0
   IsGotSo after sunk end = IsGot takes Asked names (Tried after) (From after) before sunk end
 
@@ -347,7 +366,8 @@ module _ {W S : Type 0} (facts : LinkFacts W) (link : W) (tries : ℕ) (communit
   sent_none : (end : WalkEnd) → (end ≡ ending.NoResponse → ⊥) → (names ≢ [] → end ≢ ending.RequestTooLong → ⊥) → Sent link end
   sent_none end heard unsent keeps = grind (arith, common_steps, append-nil)
 
-  moved_none : (end : WalkEnd) → (end ≡ ending.Link → ⊥) → (names ≢ [] → end ≢ ending.RequestTooLong → ⊥) → HasMoved link end
+  abbrev moved_none : (end : WalkEnd) → (end ≡ ending.Link → ⊥) → (names ≢ [] → end ≢ ending.RequestTooLong → ⊥)
+      → HasMoved facts link tries community id names link end
   moved_none end fine unsent = (
     0,
     omega arith,
@@ -386,17 +406,17 @@ module _ {W S : Type 0} (facts : LinkFacts W) (link : W) (tries : ℕ) (communit
         replied = λ agents good replies. nothing_got agents none;
         replied_or_failed = λ agents good replies. nothing_got agents none;
       };
+      sends = refl;
     };
   }
 
   module _ (codec : Codec) (lawful : facts.honest link → AreLawful (facts.agents link)) (some : 0 < tries) (named : names ≢ []) where
     got_over : (length (canon Asked) ≤ 65507 → Spells Asked (canon Asked)) → (after : W) (sunk : S) (end : WalkEnd) → (g : IsGotSo after sunk end)
-        → HasHappened facts link after end (λ agents why. GotFacts agents Asked names g.rows g.refused why)
+        → HasEnded facts link tries community id names after g.rows g.refused end
         → (end ≡ ending.NoResponse → IsHonestFrom facts id link → IsLostGet (facts.agents link) tries (facts.traffic link) (canon Asked) (facts.traffic after))
         → (65507 < length (canon Asked) → end ≡ ending.RequestTooLong) → (end ≡ ending.RequestTooLong → after ≡ link) → Sent after end
-        → HasMoved after end
         → (facts.records link → AreOfLowerIds (facts.traffic link).sent id → AreOfLowerIds (facts.traffic after).sent (id + 1)) → IsOver after sunk end
-    got_over spells after sunk end g happened lost long unasked sent moved later = record {
+    got_over spells after sunk end g known lost long unasked sent later = record {
       rows = g.rows;
       refused = g.refused;
       took = g.took;
@@ -408,9 +428,10 @@ module _ {W S : Type 0} (facts : LinkFacts W) (link : W) (tries : ℕ) (communit
         sent = sent;
         judged = λ fresh. get_facts (facts.agents link) (lawful fresh.0) community id names codec spells tries some (facts.traffic link) (facts.traffic after)
             (IsHonestFrom facts id link) fresh (Tried after) g.rows g.refused end (λ silent. lost silent fresh) g.reason g.ends;
-        moved = moved;
+        moved = known.moved;
         later = later;
-        happened = happened;
+        happened = known.happened;
+        sends = known.sends;
       };
     }
 
@@ -420,15 +441,18 @@ module _ {W S : Type 0} (facts : LinkFacts W) (link : W) (tries : ℕ) (communit
         got_over (λ fits. absurd (omega (arith, fits, long))) link before ending.RequestTooLong
         (record { rows = []; refused = []; took = (refl, refl); reason = refl; ends = long })
         (record {
-          events = [];
-          in_turn = refl;
-          begins = tt;
-          replied = λ agents good replies. too_long agents good;
-          replied_or_failed = λ agents good replies. too_long agents good;
+          happened = record {
+            events = [];
+            in_turn = refl;
+            begins = tt;
+            replied = λ agents good replies. too_long agents good;
+            replied_or_failed = λ agents good replies. too_long agents good;
+          };
+          moved = moved_none ending.RequestTooLong (λ e. cc) (λ _ fits. fits refl);
+          sends = refl;
         })
         (λ silent. let no : ⊥ = cc in absurd no) (λ _. refl)
         (λ _. refl) (sent_none ending.RequestTooLong (λ silent. cc) (λ _ fits. fits refl))
-        (moved_none ending.RequestTooLong (λ e. cc) (λ _ fits. fits refl))
         (λ k. all_lower_more (facts.traffic link).sent id (id + 1) (omega arith))
       where
         too_long : (agents : Agents) → AreLawful agents → GotFacts agents Asked names [] [] ending.RequestTooLong
@@ -443,10 +467,8 @@ module _ {W S : Type 0} (facts : LinkFacts W) (link : W) (tries : ℕ) (communit
       got_asked what tried sunk end suits short g =
           let a = agrees what end suits in
           let x = sent_of facts (IsNotAwaited community id) (canon Asked) tries some what link after tried in
-          let m = tries_as facts (IsNotAwaited community id) (canon Asked) a.0 a.1
-          (moved_of facts (IsNotAwaited community id) (canon Asked) tries some what link after tried) in
           got_over (λ _. spelt_own codec Asked ranged no_set) after sunk end g
-          (happened_by codec facts link after tries community id names ranged g.rows g.refused (facts.agents link)
+          (happened_by codec facts link after tries community id names ranged some g.rows g.refused (facts.agents link)
           (IsHonestFrom facts id link) end g.reason g.ends short)
           (λ silent fresh.
           let none = a.2 silent in
@@ -455,7 +477,6 @@ module _ {W S : Type 0} (facts : LinkFacts W) (link : W) (tries : ℕ) (communit
           (y.2 ∙ ap (λ (n : ℕ). (facts.traffic link).sent ++ replicate n (canon Asked)) (y.4 none)))
           (λ long. absurd (omega (arith, long, ap length is, few, length-take n octets))) (λ long. absurd (short long))
           (λ keeps. let y = x keeps in (y.0, y.1, y.2, (λ silent. y.4 (a.2 silent)), λ _ sent fine. y.3 (λ cut. fine (a.0 cut))))
-          (m.0, m.1, (λ _ _. m.2), m.3, m.4, m.5, m.6)
           (λ k low.
           let y = x k in
           all_lower_sent Asked ranged no_set id (id + 1) refl (omega arith) (facts.traffic link).sent (facts.traffic after).sent y.0 y.2

@@ -33,5 +33,6 @@ pub mod GetEnds
 pub mod Gets
 pub mod FreshWalk
 pub mod Networks
+mod RunEvents
 mod ReplyFacts
 pub mod LooseLinks

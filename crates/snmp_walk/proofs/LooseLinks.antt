@@ -31,7 +31,7 @@ use Rattle.snmp_walk.proofs.{Bulk.chain_prefix, Bulk.one_bulk, OwnReply.one_spel
 
 -- ---- an element with its length in another form
 
--- if two contents, each after its own length, are the same octets, then they are the same content
+-- if a length and its content are the same octets as another length and its content, then the two contents are equal
 by_lengths : (l k a b : List ℕ) → IsLength l (length a) → IsLength k (length b) → l ++ a ≡ k ++ b → a ≡ b
 by_lengths l k a b (inl s) (inl t) e =
     let both : length a ∷ a ≡ length b ∷ b = sym (ap (λ (x : List ℕ). x ++ a) s.one) ∙ e ∙ ap (λ (x : List ℕ). x ++ b) t.one in cc
@@ -83,7 +83,7 @@ respelt m reply longer h s =
           (All-append (λ o. o < 256) h.size h.content h.are_octets (content_octets sequence_tag h.content reply h.same s.are_octets)));
     }
 
--- if the second octet of an element is at least 128, its length is long, and its content begins at the offset `long` - 126
+-- if the second octet of an element, `long`, is at least 128, then the content of the element begins at the offset `long` - 126
 pub long_content : (tag long : ℕ) (content octets : List ℕ) → IsElement tag content octets → get_or octets 1 0 ≡ long → 128 ≤ long
     → take (length octets - (long - 126)) (drop (long - 126) octets) ≡ content
 long_content tag long content octets h first low = long_by h.length_octets content h.is_length h.parts
@@ -109,7 +109,7 @@ framed six rest ys n k long e =
     take-put_mid 6 k (six ++ rest) ys n e (omega (arith, length-append six rest, long))
     ∙ ap (λ (xs : List ℕ). xs ++ ys) (subst (λ (m : ℕ). take m (six ++ rest) ≡ six) long (take-append_seam six rest))
 
--- the tag, a length in five octets and the content are the element with its length in five octets
+-- the tag, the length of the content in five octets, and the content are the element `reply` with its length in five octets
 pub lengthened : (reply content longer : List ℕ) (high low : ℕ) → IsElement sequence_tag content reply
     → longer ≡ (sequence_tag ∷ 132 ∷ 0 ∷ 0 ∷ high ∷ low ∷ []) ++ content → length content ≡ high * 256 + low → high < 256 → low < 256
     → IsLengthened reply longer
@@ -207,7 +207,7 @@ first_large view max_size q o (p ∷ later) bindings none chain some longest = (
       absurd (omega (arith, short, ap length none)),
 )
 
--- what may be sent to a GetBulk for fewer repetitions may also be sent to q
+-- if q is a GetBulk for more than n repetitions, what may be sent to q with n repetitions may also be sent to q
 fewer_may : (view : MibView) (max_size n : ℕ) (q m : Message) → q.kind ≡ kind.GetBulkRequest → pos n <ℤ q.b
     → MayRespond view max_size (with_repetitions n q) m → MayRespond view max_size q m
 fewer_may view max_size n q m k more (sending.whole (got bindings other answers e)) = let never : ⊥ = cc in absurd never

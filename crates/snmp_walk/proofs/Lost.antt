@@ -1,4 +1,5 @@
--- What an honest link delivers for a request: its reply (`reply_of`) or, if each try misses that, deliveries that lose the tries (`lost_of`).
+-- Over an honest link, a datagram that answers a request is a reply to it (`reply_of`). If each try misses the reply, an agent has none, or the deliveries
+-- used lost it (`lost_of`).
 use Rattle.std.proofs.lemmas.Grind.{common_steps}
 use Rattle.std.proofs.Common.{◌≡◌, ◌≢◌, ◌⊎◌, inl, inr, ℕ, zero, suc, ◌+◌, ◌<◌, List, [], ◌∷◌, ◌++◌, length, replicate, refl, sym, ◌∙◌, ap, subst}
 use Rattle.std.proofs.Common.{arith, append-nil, Option, Some, None}
@@ -119,8 +120,8 @@ module _ {L : Type 0} (facts : LinkFacts L) (recording : (link : L) → facts.ho
     given_by : (old new : L) (given : Option (List ℕ)) → Serves sent old → Gets facts old given new → Receives agents sent (Ahead old) given (Ahead new)
     given_by old new given s h = rw (s.agents_are, s.sent_is) at (h.1 s.honest)
 
-    -- if a try has received `count` others, and then `strays`, `all` in total, and misses the reply, and the deliveries after it lose t tries, then the
-    -- deliveries from `strays` on lose t + 1 tries
+    -- A try that has received `count` other replies receives `strays` too (`all` in total), and misses the reply. If the deliveries after the try lose t
+    -- tries, then with the deliveries of this try from `strays` on they lose t + 1.
     try_lost : (t : ℕ) (final : List (Option ℕ)) (strays : List (List ℕ)) (count all : ℕ) (old now new : L) → all ≡ count + length strays → Serves sent old
         → count < 64 → InTurn (ReceivesDatagram facts) old strays now → ((d : List ℕ) → OneOf strays d → Other d) → EndsTry facts all now outcome.missed new
         → Loses agents Other q (resent sent q t) (Ahead new) t 0 final → Loses agents Other q sent (Ahead old) (suc t) count final
@@ -148,7 +149,7 @@ module _ {L : Type 0} (facts : LinkFacts L) (recording : (link : L) → facts.ho
               (omega (arith, is, few)) h.2 (λ x one. others x (inr one)) over l,
         ))
 
-  -- if each of the tries missed the reply, the deliveries that they used lose as many tries
+  -- if each try of q missed the reply, then the deliveries that the tries used lose `length received` tries, the number of these tries
   tries_lost : (received : List (List (List ℕ))) (old new : L) (sent : List (List ℕ)) → Serves sent old → IsAsked agents Other q sent
       → InTurn (IsTry facts Other q outcome.missed) old received new
       → Loses agents Other q (sent ++ q ∷ []) (Ahead old) (length received) 0 (Ahead new)

@@ -16,7 +16,7 @@ views_push : (views : List MibView) (v : MibView) → AreViews views → IsMibVi
 views_push [] v h good = (good, tt)
 views_push (u ∷ views) v h good = (h.0, views_push views v h.1 good)
 
--- if the first i tables are views, and the next one is, then so are the first i + 1
+-- if the first i of these tables are MIB views, and the table at the index i is one too, then the first i + 1 are
 pub views_more : (views : List MibView) (i : ℕ) (v : MibView) → i < length views → v ≡ get_or views i v → IsMibView v → AreViews (take i views)
     → AreViews (take (i + 1) views)
 views_more views i v less is good h = grind (arith, common_steps, take_more, views_push)
@@ -26,7 +26,8 @@ latest_found [] = refl
 latest_found (d ∷ []) = refl
 latest_found (d ∷ e ∷ sent) = latest_found (e ∷ sent)
 
--- if the next delivery is for datagram `number`, and `reply` is returned for that, then the receive delivers `reply`
+-- if the next receive is for datagram `number`, or for none if that is 0, and the agents may return `reply` for it (`Gives`), then the receive delivers
+-- `reply`
 pub received_at : (agents : Agents) (sent : List (List ℕ)) (ahead : List (Option ℕ)) (number : ℕ) (left : List (Option ℕ)) (reply : Option (List ℕ))
     → IsNextNumber sent ahead number left
     → Gives agents (datagram_at sent number) reply → Receives agents sent ahead reply left
@@ -49,7 +50,7 @@ pub brought_by : (r : Option ℕ) (out rest : List ℕ) (number : ℕ) (Next : �
 brought_by None out rest number Next Reply h e next reply = tt
 brought_by (Some n) out rest number Next Reply h e next reply = grind (arith, common_steps, take-append-le)
 
--- if nothing was received, the next delivery delivers nothing
+-- if nothing was received, the receive is for some number k (`Next k`) that has no reply (`NoReply k`)
 pub silent_by : (r : Option ℕ) (number : ℕ) (Next NoReply : ℕ → Type 0) → Next number → IfNone r (NoReply number) → IfNone r ((k : ℕ) × Next k × NoReply k)
 silent_by None number Next NoReply next none = (number, next, none)
 silent_by (Some n) number Next NoReply next none = tt

@@ -8,7 +8,6 @@ use Rattle.snmp_walk.specs.{Moves.AreSent, Moves.AreUsed, Moves.Moves, Moves.oct
 use Rattle.snmp_walk.specs.{declared.link.Link.Ghosts as LinkFacts, Link.Outcome, Traffic.Traffic, declared.end.WalkEnd.WalkEnd}
 use Rattle.snmp_walk.specs.Link as outcome
 use Rattle.snmp_walk.specs.Tries.{InTurn, ReceivesDatagram, EndsTry, IsTry, IsLastTry, AreMissed, AreTried}
-use Rattle.snmp_walk.specs.Link as outcome
 use Rattle.snmp_walk.specs.declared.end.WalkEnd.TheVariants as ending
 
 -- ---- what was sent
@@ -124,7 +123,7 @@ module _ {L : Type 0} (facts : LinkFacts L) (Other : List ℕ → Type 0) (q : L
   moved_ending count old new outcome.missed (inr h) = grind (arith, common_steps, moves_as, moves_none)
   moved_ending count old new outcome.cut_off h = moves_as facts (omega (arith, h.0)) (λ f. refl) (λ e. tt) h.1.2
 
-  moved_try : (what : Outcome) (old new : L) (strays : List (List ℕ)) → IsTry facts Other q what old strays new
+  pub moved_try : (what : Outcome) (old new : L) (strays : List (List ℕ)) → IsTry facts Other q what old strays new
       → IsMoved facts old (q ∷ []) 64 (what ≡ outcome.cut_off) new
   moved_try what old new strays t =
       let few = few_strays (length strays) t.received.last new what t.received.over in
@@ -148,17 +147,17 @@ module _ {L : Type 0} (facts : LinkFacts L) (Other : List ℕ → Type 0) (q : L
       → (facts.traffic new).sent ≡ (facts.traffic old).sent ++ replicate tries q
   sent_before tries old new h keeps = sent_all (λ f. f) ((moved_before tries old new h).sent keeps)
 
-  few_before : (tries : ℕ) (old new : L) → AreMissed facts Other q tries old new → AreFew facts old (64 * tries) new
+  pub few_before : (tries : ℕ) (old new : L) → AreMissed facts Other q tries old new → AreFew facts old (64 * tries) new
   few_before tries old new h keeps =
       omega (arith, ap length (sent_before tries old new h keeps), length-append (facts.traffic old).sent (replicate tries q), length-replicate tries q)
 
   -- over a link that lists what is sent, a try of the request adds it to the list
-  sent_try : (what : Outcome) (old new : L) (strays : List (List ℕ)) → IsTry facts Other q what old strays new → facts.records old
+  pub sent_try : (what : Outcome) (old new : L) (strays : List (List ℕ)) → IsTry facts Other q what old strays new → facts.records old
       → (facts.traffic new).sent ≡ (facts.traffic old).sent ++ q ∷ []
   sent_try what old new strays t keeps = grind (arith, common_steps, sent_none, moves_on, moved_delivering, moved_ending, sent_all)
 
   -- if at least one try is allowed, the tries of a request move the link (`IsMovedByTries`), which failed if and only if the outcome is `cut_off`
-  pub moved_of : (tries : ℕ) → 0 < tries → (what : Outcome) (old new : L) → AreTried facts Other q tries old what new
+  unfoldable pub moved_of : (tries : ℕ) → 0 < tries → (what : Outcome) (old new : L) → AreTried facts Other q tries old what new
       → IsMovedByTries facts old q tries (what ≡ outcome.cut_off) new
   moved_of tries some outcome.missed old new h = (
     tries,
@@ -224,7 +223,7 @@ module _ {L : Type 0} (facts : LinkFacts L) (Other : List ℕ → Type 0) (q : L
       )
 
   -- if `IsMovedByTries` holds with `failed`, it holds with any proposition equivalent to `failed`
-  pub tries_as : {old new : L} {tries : ℕ} {failed other : Type 0} → (failed → other) → (other → failed) → IsMovedByTries facts old q tries failed new
+  abbrev pub tries_as : {old new : L} {tries : ℕ} {failed other : Type 0} → (failed → other) → (other → failed) → IsMovedByTries facts old q tries failed new
       → IsMovedByTries facts old q tries other new
   tries_as there back h = (h.0, h.1, h.2, h.3, moves_as facts (omega arith) there back h.4, h.5, h.6)
 

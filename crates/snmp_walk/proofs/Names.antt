@@ -1,4 +1,4 @@
--- What the tests of names and values decide (`below_decided`, `end_decided`, `inside_decided`); in their order, the names below a root are consecutive
+-- What the tests of names and values decide (`below_decided`, `end_decided`, `inside_decided`). If names are sorted, those below a root are consecutive
 -- (`outside_after`).
 use Rattle.std.proofs.Common.{◌≡◌, ℕ, ◌<◌, true, List, [], ◌∷◌, ◌++◌, length, take, drop, refl, sym, ◌∙◌, ap, subst, arith, length-append}
 use Rattle.std.proofs.Common.{length-drop, append-nil, append_assoc, ◌⊎◌, inl, inr, zero, suc, ◌≤◌, false, ◌≢◌, Bool, cond}
@@ -65,7 +65,7 @@ after-irrefl o = ap is_lt (tied_itself nat_list_cmp_total o)
 pub not_after : (o p r : List ℕ) → comes_after o p ≡ true → comes_after o r ≡ false → comes_after p r ≡ false
 not_after o p r a b = false_from_ne_true (comes_after p r) (λ c. let both : comes_after o r ≡ true = after-trans o p r a c in cc)
 
--- if the first numbers are equal, the others decide the order
+-- if two names have the same first number, the order of the names is the order of what follows it
 pub same_first : (x : ℕ) (o p : List ℕ) → slice_cmp nat_cmp (x ∷ o) (x ∷ p) ≡ slice_cmp nat_cmp o p
 same_first x o p = grind (arith, common_steps)
 
@@ -96,7 +96,7 @@ gap_first x y a c Less e h k = grind (arith, common_steps)
 gap_first x y a c Equal e h k = grind (arith, common_steps)
 gap_first x y a c Greater e h k = absurd cc
 
--- If p comes after a name of the subtree and isn't below the root, then no name below the root comes after p.
+-- If p comes after the root or a name below it, and isn't below the root, then no name below the root comes after p.
 after_gap : (root s p rest : List ℕ) → slice_cmp nat_cmp (root ++ s) p ≡ Less → (IsBelow p root → ⊥) → slice_cmp nat_cmp p (root ++ rest) ≡ Less → ⊥
 after_gap [] s [] rest h out k = not_less_none s h
 after_gap [] s (y ∷ p) rest h out k = out (y ∷ p, (λ e. cc), refl)
@@ -176,7 +176,7 @@ miss_test b h = false_from_ne_true (is_missing b.value) (λ e. h ((missing_decid
 pub outside : (root : List ℕ) (b : VarBind) → is_inside root b ≡ false → IsInside root b → ⊥
 outside root b e is = false≢true (sym e ∙ (inside_decided root b).1 is)
 
--- the value of an instance isn't endOfMibView
+-- if b is below the root and isn't endOfMibView (`is_inside`), then the test for endOfMibView fails
 pub inside_value : (root : List ℕ) (b : VarBind) → is_inside root b ≡ true → is_end b.value ≡ false
 inside_value root b i = not-true (is_end b.value) (and_parts (not (is_end b.value)) (is_below b.name root) i).0
 

@@ -1,9 +1,10 @@
 -- Over a faithful network, each message that arrives at the walk is a reply of the agents at the other end (`replies_over`).
 use Rattle.std.proofs.Common.{◌≡◌, inl, inr, ℕ, List, [], ◌∷◌, ◌++◌, refl, sym, ◌∙◌, ap, subst, append_assoc, append-nil, flat_map, arith, length}
-use Rattle.std.proofs.Common.{map, Option, Some, None, Ok, Err, take}
+use Rattle.std.proofs.Common.{map, Option, Some, None, Ok, Err, take, replicate, ◌+◌, ◌<◌}
 use Rattle.std.specs.Prelude.{Result}
 use Rattle.std.specs.{List.AllByRecursion, Prelude.IfSome, Prelude.IfNone}
 use Rattle.std.proofs.{lemmas.List.Elements.recursion_from_All, lemmas.List.Elements.All-nil, lemmas.Grind.common_steps}
+use Rattle.std.proofs.{lemmas.Grind.replicate_next, lemmas.List.replicate-append-replicate}
 use Rattle.snmp_agent.specs.Event.{Event, came, silence, receive_failed, sent, send_failed, InTurn}
 use Rattle.snmp_agent.specs.Serving.{IsTurn, TurnDone, AreTurns}
 use Rattle.snmp_agent.specs.Reply.{IsReply, IsDropped}
@@ -11,7 +12,7 @@ use Rattle.snmp_agent.specs.{declared.server.Turn.Turn, table.Table.MibView, Rep
 use Rattle.snmp_agent.specs.declared.server.Turn.TheVariants as turn
 use Rattle.snmp_wire.specs.{Message.Message, Message.VarBind, Spelling.Spells}
 use Rattle.snmp_walk.specs.Link.{Agents, OneOf, IsReplyFrom, agent_in, Outcome}
-use Rattle.snmp_walk.proofs.Members.{one_left, one_there, split_at, one_append}
+use Rattle.snmp_walk.proofs.{Members.one_left, Members.one_there, Members.split_at, Moves.moved_of}
 use Rattle.snmp_walk.specs.Network.{Happening, at_walk, at_agents, of_walk, of_agents, tried, AreReplies, IsFaithful, Service, AreServices, AreServed}
 use Rattle.snmp_walk.specs.Network.{event_of_got, requests_by, RepliesTo}
 use Rattle.snmp_walk.specs.{Traffic.Gives, Traffic.received, declared.end.LinkFault.LinkFault}
@@ -168,7 +169,7 @@ pub in_turn-append : {L X : Type 0} (step : L → X → L → Type 0) (xs ys : L
 in_turn-append step [] ys old between new h k = subst (λ l. InTurn step l ys new) h k
 in_turn-append step (x ∷ xs) ys old between new h k = (h.0, h.1, in_turn-append step xs ys h.0 between new h.2 k)
 
--- the first of these events is a send
+-- there are events, and the first of them is a send, which may have failed
 abbrev IsSendFirst : List (Event (Unit {0})) → Type 0
 IsSendFirst [] = ⊥
 IsSendFirst (sent peer d ∷ more) = Unit {0}
@@ -208,59 +209,59 @@ send_after (silence ∷ events) more h k = h
 send_after (receive_failed ∷ events) more h k = h
 
 module _ {L : Type 0} (facts : LinkFacts L) (q : List ℕ) where
-  -- events took the link from `old` to `new`, and no datagram but q was passed to a send in them
-  abbrev pub Grows : L → L → Type 0
-  Grows old new = (events : List (Event (Unit {0}))) × InTurn (Happens facts) old events new × ((d : List ℕ) → OneOf (tried events) d → d ≡ q)
+  -- events took the link from `old` to `new`, and the datagrams passed to sends in them are `times` times q
+  abbrev pub Grows : (times : ℕ) → L → L → Type 0
+  Grows times old new = (events : List (Event (Unit {0}))) × InTurn (Happens facts) old events new × (tried events ≡ replicate times q)
 
-  grows_none : (old : L) → Grows old old
-  grows_none old = ([], refl, λ d one. absurd one)
+  grows_none : (old : L) → Grows 0 old old
+  grows_none old = ([], refl, refl)
 
-  pub grows_on : (old between new : L) → Grows old between → Grows between new → Grows old new
-  grows_on old between new a b = (
+  pub grows_on : (m n times : ℕ) → times ≡ m + n → (old between new : L) → Grows m old between → Grows n between new → Grows times old new
+  grows_on m n times sum old between new a b = (
     a.0 ++ b.0,
     in_turn-append (Happens facts) a.0 b.0 old between new a.1 b.1,
-    λ d one. elim (one_append (tried a.0) (tried b.0) d (subst (λ (ds : List (List ℕ)). OneOf ds d) (tried-append a.0 b.0) one)) [
-      | inl o ↦ a.2 d o
-      | inr o ↦ b.2 d o
-    ],
+    tried-append a.0 b.0 ∙ ap (λ (ds : List (List ℕ)). ds ++ tried b.0) a.2 ∙ ap (λ (ds : List (List ℕ)). replicate m q ++ ds) b.2
+        ∙ replicate-append-replicate m n q ∙ ap (λ (k : ℕ). replicate k q) (sym sum),
   )
 
-  brought : (old new : L) (d : List ℕ) → ReceivesDatagram facts old d new → Grows old new
-  brought old new d h = (came tt d ∷ [], (new, h.0, refl), λ e one. absurd one)
+  brought : (old new : L) (d : List ℕ) → ReceivesDatagram facts old d new → Grows 0 old new
+  brought old new d h = (came tt d ∷ [], (new, h.0, refl), refl)
 
-  brought_all : (strays : List (List ℕ)) (old new : L) → InTurn (ReceivesDatagram facts) old strays new → Grows old new
-  brought_all [] old new h = subst (λ (l : L). Grows old l) (sym h) (grows_none old)
-  brought_all (d ∷ strays) old new h = grows_on old h.0 new (brought old h.0 d h.1) (brought_all strays h.0 new h.2)
+  brought_all : (strays : List (List ℕ)) (old new : L) → InTurn (ReceivesDatagram facts) old strays new → Grows 0 old new
+  brought_all [] old new h = subst (λ (l : L). Grows 0 old l) (sym h) (grows_none old)
+  brought_all (d ∷ strays) old new h = grows_on 0 0 0 refl old h.0 new (brought old h.0 d h.1) (brought_all strays h.0 new h.2)
 
-  sent_once : (old new : L) → Sends facts old q new → Grows old new
-  sent_once old new h = (sent tt q ∷ [], (new, h.0, refl), λ d one. elim one [ inl e ↦ e | inr none ↦ absurd none ])
+  sent_once : (old new : L) → Sends facts old q new → Grows 1 old new
+  sent_once old new h = (sent tt q ∷ [], (new, h.0, refl), refl)
 
-  over_try : (strays : ℕ) (old new : L) (o : Outcome) → EndsTry facts strays old o new → Grows old new
+  over_try : (strays : ℕ) (old new : L) (o : Outcome) → EndsTry facts strays old o new → Grows 0 old new
   over_try strays old new (outcome.answered d) h = brought old new d h.1
-  over_try strays old new outcome.missed (inl h) = (silence ∷ [], (new, h.1.0, refl), λ e one. absurd one)
-  over_try strays old new outcome.missed (inr h) = subst (λ (l : L). Grows old l) (sym h.1) (grows_none old)
-  over_try strays old new outcome.cut_off h = (receive_failed ∷ [], (new, h.1.0, refl), λ e one. absurd one)
+  over_try strays old new outcome.missed (inl h) = (silence ∷ [], (new, h.1.0, refl), refl)
+  over_try strays old new outcome.missed (inr h) = subst (λ (l : L). Grows 0 old l) (sym h.1) (grows_none old)
+  over_try strays old new outcome.cut_off h = (receive_failed ∷ [], (new, h.1.0, refl), refl)
 
   module _ (Other : List ℕ → Type 0) where
-    up_to : (old new : L) (strays : List (List ℕ)) (o : Outcome) → (t : IsTry facts Other q o old strays new) → Grows old t.received.last
+    up_to : (old new : L) (strays : List (List ℕ)) (o : Outcome) → (t : IsTry facts Other q o old strays new) → Grows 1 old t.received.last
     up_to old new strays o t =
-        grows_on old t.between t.received.last (sent_once old t.between t.sent) (brought_all strays t.between t.received.last t.received.brought)
+        grows_on 1 0 1 refl old t.between t.received.last (sent_once old t.between t.sent) (brought_all strays t.between t.received.last t.received.brought)
 
-    pub one_try : (old new : L) (strays : List (List ℕ)) (o : Outcome) → IsTry facts Other q o old strays new → Grows old new
+    pub one_try : (old new : L) (strays : List (List ℕ)) (o : Outcome) → IsTry facts Other q o old strays new → Grows 1 old new
     one_try old new strays o t =
-        grows_on old t.received.last new (up_to old new strays o t) (over_try (length strays) t.received.last new o t.received.over)
+        grows_on 1 0 1 refl old t.received.last new (up_to old new strays o t) (over_try (length strays) t.received.last new o t.received.over)
 
-    pub missed_tries : (received : List (List (List ℕ))) (old new : L) → InTurn (IsTry facts Other q outcome.missed) old received new → Grows old new
-    missed_tries [] old new h = ([], h, λ d one. absurd one)
+    pub missed_tries : (received : List (List (List ℕ))) (old new : L) → InTurn (IsTry facts Other q outcome.missed) old received new
+        → Grows (length received) old new
+    missed_tries [] old new h = ([], h, refl)
     missed_tries (strays ∷ more) old new h =
-        grows_on old h.0 new (one_try old h.0 strays outcome.missed h.1) (missed_tries more h.0 new h.2)
+        grows_on 1 (length more) (length (strays ∷ more)) (omega arith) old h.0 new (one_try old h.0 strays outcome.missed h.1) (missed_tries more h.0 new h.2)
 
-    -- if r answered q, then before r was delivered, only q was passed to sends (`Grows`)
-    pub answered_tries : (tries : ℕ) (old new : L) (r : List ℕ) → AreTried facts Other q tries old (outcome.answered r) new
-        → (last : L) × Grows old last × facts.delivers last r new
+    -- if r answered q, then before r was delivered, q was passed to a send in each try, and nothing else was (`Grows`)
+    pub answered_tries : (tries : ℕ) (old new : L) (r : List ℕ) → (h : AreTried facts Other q tries old (outcome.answered r) new)
+        → (last : L) × Grows (h.0 + 1) old last × facts.delivers last r new
     answered_tries tries old new r (earlier, few, before, missed, inl (strays, t)) = (
       t.received.last,
-      grows_on old before t.received.last (missed_tries missed.received old before missed.are_missed) (up_to before new strays (outcome.answered r) t),
+      grows_on (length missed.received) 1 (earlier + 1) (omega (arith, missed.all)) old before t.received.last
+          (missed_tries missed.received old before missed.are_missed) (up_to before new strays (outcome.answered r) t),
       t.received.over.1.0,
     )
     answered_tries tries old new r (earlier, few, before, missed, inr (same, fails)) = let never : ⊥ = cc in absurd never
@@ -272,10 +273,29 @@ module _ {L : Type 0} (facts : LinkFacts L) (q : List ℕ) where
         let a = answered_tries tries old new r h in
         (a.1.0 ++ came tt r ∷ [], in_turn-append (Happens facts) a.1.0 (came tt r ∷ []) old a.0 new a.1.1 (new, a.2, refl))
     all_tries tries old new outcome.cut_off (earlier, few, before, missed, inl (strays, t)) =
-        let g = grows_on old before new (missed_tries missed.received old before missed.are_missed) (one_try before new strays outcome.cut_off t) in (g.0, g.1)
+        let g = grows_on (length missed.received) 1 (earlier + 1) (omega (arith, missed.all)) old before new
+        (missed_tries missed.received old before missed.are_missed) (one_try before new strays outcome.cut_off t) in
+        (g.0, g.1)
     all_tries tries old new outcome.cut_off (earlier, few, before, missed, inr (is, fails)) =
         let g = missed_tries missed.received old before missed.are_missed in
         (g.0 ++ send_failed tt q ∷ [], in_turn-append (Happens facts) g.0 (send_failed tt q ∷ []) old before new g.1 (new, fails.0, refl))
+
+    -- the datagrams passed to sends in the events of the tries are q, as many times as the tries moved the link (`moved_of`)
+    pub sends_of : (tries : ℕ) (some : 0 < tries) (o : Outcome) (old new : L) (h : AreTried facts Other q tries old o new)
+        → tried (all_tries tries old new o h).0 ≡ replicate (moved_of facts Other q tries some o old new h).0 q
+    unfolding answered_tries grows_on moved_of
+    sends_of tries some outcome.missed old new h = (missed_tries h.received old new h.are_missed).2 ∙ ap (λ (n : ℕ). replicate n q) h.all
+    sends_of tries some (outcome.answered r) old new (earlier, few, before, missed, inl (strays, t)) =
+        let a = answered_tries tries old new r (earlier, few, before, missed, inl (strays, t)) in
+        tried-append a.1.0 (came tt r ∷ []) ∙ append-nil (tried a.1.0) ∙ a.1.2
+    sends_of tries some (outcome.answered r) old new (earlier, few, before, missed, inr (same, fails)) = let never : ⊥ = cc in absurd never
+    sends_of tries some outcome.cut_off old new (earlier, few, before, missed, inl (strays, t)) =
+        (grows_on (length missed.received) 1 (earlier + 1) (omega (arith, missed.all)) old before new
+        (missed_tries missed.received old before missed.are_missed) (one_try before new strays outcome.cut_off t)).2
+    sends_of tries some outcome.cut_off old new (earlier, few, before, missed, inr (is, fails)) =
+        let g = missed_tries missed.received old before missed.are_missed in
+        tried-append g.0 (send_failed tt q ∷ []) ∙ ap (λ (ds : List (List ℕ)). ds ++ q ∷ []) (g.2 ∙ ap (λ (n : ℕ). replicate n q) missed.all)
+        ∙ sym (replicate_next earlier q)
 
     -- the events of tries, if there are any, begin with a send
     begins_missed : (received : List (List (List ℕ))) (old new : L) (h : InTurn (IsTry facts Other q outcome.missed) old received new)
@@ -469,7 +489,7 @@ module _ {N Peer : Type 0} (carries : N → Happening Peer → N → Type 0) (se
       all_sent (map at_agents events ++ at_walk e ∷ []) old new h ∙ ap (λ (ds : List (List ℕ)). sent_of old ++ ds) (sent_by_agents {Peer = Peer} events e none)
       ∙ append-nil (sent_of old)
 
--- if each event preserves what holds of a network, it still holds after all events
+-- if each event preserves `Holds`, and `Holds` holds of a network before some events, it holds of the network after them
 pub still_so : {N Peer : Type 0} (carries : N → Happening Peer → N → Type 0) (Holds : N → Type 0)
     → ((old new : N) (e : Happening Peer) → Holds old → carries old e new → Holds new)
     → (run : List (Happening Peer)) (old new : N) → Holds old → InTurn carries old run new → Holds new

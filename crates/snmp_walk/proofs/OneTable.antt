@@ -58,7 +58,7 @@ module _ (rows : List VarBind) (rising : AreIncreasing rows) (instances : AreIns
   after_below : (o : List ℕ) → rest_of root o rows ≡ rows_below root (rows_after o rows)
   after_below o = filter-commute (λ row. comes_after o row.name) (λ row. is_below row.name root) rows
 
-  -- if the answer is an instance below the root, it is the next row of the rest of the walk
+  -- if p, the answer to a GetNext of o, is an instance below the root, it is the next row of the rest of the walk after o
   pub rest_next : (o : List ℕ) (p : VarBind) (suffix : List VarBind) → suffix ≡ rows_after o rows → p ≡ or_end o suffix → is_inside root p ≡ true
       → rest_of root o rows ≡ p ∷ rest_of root p.name rows
   rest_next o p [] e is inside = let out : is_inside root p ≡ false = ap (is_inside root) is in absurd (false≢true (sym out ∙ inside))
@@ -69,7 +69,7 @@ module _ (rows : List VarBind) (rising : AreIncreasing rows) (instances : AreIns
       after_below o ∙ ap (rows_below root) (sym e ∙ ap (λ (r : VarBind). r ∷ more) (sym is))
       ∙ rw below (ap (λ (s : List VarBind). p ∷ s) (ap (rows_below root) (sym here) ∙ sym (after_below p.name)))
 
-  -- if the answer isn't an instance below the root, no row is left
+  -- if o is the root or a name below it, and p, the answer to a GetNext of o, isn't an instance below the root, then no row of the walk is left after o
   pub rest_ends : (o s : List ℕ) (p : VarBind) (suffix : List VarBind) → o ≡ root ++ s → suffix ≡ rows_after o rows → p ≡ or_end o suffix
       → is_inside root p ≡ false
       → rest_of root o rows ≡ []
@@ -91,7 +91,7 @@ or_only_some got (x ∷ xs) some = refl
 
 module _ (rows : List VarBind) (got : VarBind) (Next Got : List ℕ → VarBind → Type 0) (first : WalkState) (table : IsOneTable rows got Next Got first)
     (s : List ℕ) (begins : first.asked ≡ first.root ++ s) where
-  -- a trail is a prefix of the rest of the walk
+  -- if `trail` is a trail from the name o, the rest of the walk after o is `trail`, and then the rest of the walk after the last name of `trail`
   pub trail_rest : (o : List ℕ) (trail : List VarBind) → IsTrail Next first.root o trail
       → rest_of first.root o rows ≡ trail ++ rest_of first.root (last_name o trail) rows
   trail_rest o [] h = refl
@@ -100,7 +100,7 @@ module _ (rows : List VarBind) (got : VarBind) (Next Got : List ℕ → VarBind 
       ((inside_decided first.root p).1 h.1)
       ∙ ap (λ (t : List VarBind). p ∷ t) (trail_rest p.name trail h.2)
 
-  -- a trail that is at its end is the rest of the walk
+  -- if a trail from the name that the walk begins from can end the walk (`IsAtEnd`), it is all of the rest of the walk after this name
   trail_ends : (trail : List VarBind) → IsTrail Next first.root first.asked trail → IsAtEnd Next first.root (last_name first.asked trail)
       → rest_of first.root first.asked rows ≡ trail
   trail_ends trail h end =

@@ -96,7 +96,7 @@ module _ (view : MibView) (good : IsMibView view) (root : List ℕ) where
     pub left_ordered : (o : List ℕ) → AreOrdered (rest_of root o (variables view))
     left_ordered o = ordered_from_rising precedes_after (rest_of root o (variables view)) (rest_rise o)
 
-  -- what follows a row of the rest of a walk is the rest of the walk after its name
+  -- the rows that follow p in the rest of a walk after o are the rest of that walk after the name of p
   pub rest_again : (o : List ℕ) (p : VarBind) (prefix more : List VarBind) → rest_of root o (variables view) ≡ prefix ++ p ∷ more
       → more ≡ rest_of root p.name (variables view)
   rest_again o p prefix more e =

@@ -25,7 +25,7 @@ use Rattle.snmp_walk.proofs.Bulk.{IsOneBulk, one_bulk, chain_prefix, chain_by}
 use Rattle.snmp_walk.specs.Link as outcome
 use Rattle.snmp_walk.specs.Responses as sending
 
--- numbers from 0 below 2^31 fit into 32 bits with a sign
+-- whole numbers from 0 on and below 2^31 fit into a signed number of 32 bits
 pub fits_from : (n : ℕ) → n < 2 ^ 31 → FitsSigned w32 (pos n)
 fits_from n h = omega arith
 
@@ -153,7 +153,7 @@ module _ (codec : Codec) (agents : Agents) (w : WalkState) (good : IsWalkState w
     get_content m (inl e) c = subst (λ (p : Phase). IsContent p m) (sym e) c
     get_content m (inr e) c = subst (λ (p : Phase). IsContent p m) (sym e) c
 
-    -- what doesn't fit into the agent's message is too large
+    -- if the Response with p only doesn't fit into a message of the agents, then p is too large (`IsTooLarge`)
     large : (p : VarBind) → (Fits agents.max_size (response (request_of w) no_error (pos 0) (p ∷ [])) → ⊥) → IsTooLarge agents w.id p
     large p no_fit =
         let more : agents.max_size < length (canon (full_response w.community w.id (p ∷ []))) = omega (arith, no_fit) in (good.id, rw community at more)
@@ -242,7 +242,7 @@ module _ (codec : Codec) (agents : Agents) (w : WalkState) (good : IsWalkState w
         let fits : length (canon (full_response agents.community w.id all)) ≤ agents.max_size = omega (arith, room, longer) in
         rw (← community) at fits
 
-    -- a prefix that isn't shorter is the whole list
+    -- a prefix of a list that isn't shorter than the list is the whole list
     whole_prefix : (all bindings more : List VarBind) → all ≡ bindings ++ more → length all ≤ length bindings → all ≡ bindings
     whole_prefix all bindings more prefix long =
         let none = nil_from_length more (omega (arith, long, ap length prefix, length-append bindings more)) in
@@ -362,7 +362,8 @@ lower_before w next good less d (inr low) = lower_more w.id next d (omega (arith
 pub before_more : (w v : WalkState) → IsWalkState w → w.id < v.id → (d : List ℕ) → IsSentBefore w d → IsSentBefore v d
 before_more w v good less d before = inr (lower_before w v.id good less d before)
 
--- if what was sent are the request of w, whose id is below `next`, and requests with lower ids, then after more sends of it all ids are still below `next`
+-- if what was sent are the request of w, whose id is below `next`, and requests with lower ids, then all ids are still below `next` after the request of w was
+-- sent more times
 pub all_lower_after : (w : WalkState) (sent after : List (List ℕ)) (times next : ℕ) → IsWalkState w → w.id < next
     → after ≡ sent ++ replicate times (canon (request_of w)) → IsEarlier sent w → AreOfLowerIds after next
 all_lower_after w sent after times next good less e earlier =

@@ -1,5 +1,5 @@
 -- What a walk returns if all that arrives are replies of its agents, or errors too (`given_by`).
-use Rattle.std.proofs.Common.{◌≡◌, ◌≢◌, ◌⊎◌, false, pos, inl, inr, ℕ, ℤ, ◌<◌, List, [], ◌∷◌, ◌++◌, refl, sym, ◌∙◌, ap, subst, arith, append_assoc}
+use Rattle.std.proofs.Common.{◌≡◌, ◌≢◌, ◌⊎◌, false, pos, inl, inr, ℕ, ℤ, ◌+◌, ◌<◌, List, [], ◌∷◌, ◌++◌, refl, sym, ◌∙◌, ap, subst, arith, append_assoc}
 use Rattle.std.proofs.Common.{append-nil}
 use Rattle.std.proofs.lemmas.Bool.{and_from}
 use Rattle.std.specs.Prelude.{not, Result}
@@ -10,8 +10,8 @@ use Rattle.snmp_walk.specs.{Network.AreRepliesOf, Network.tried, RunResult.HasHa
 use Rattle.snmp_walk.specs.{private.ComputedStep.awaits, private.ComputedStep.is_over, WalkState.WalkState, WalkState.IsWalkState}
 use Rattle.snmp_walk.specs.{declared.end.SinkFault.SinkFault}
 use Rattle.snmp_walk.specs.{declared.end.WalkEnd.WalkEnd, declared.link.Link.Ghosts as LinkFacts, declared.rows.Step.Step, Responses.IsResponseFrom}
-use Rattle.snmp_walk.specs.Tries.{InTurn, Happens, IsTried, IsNotAwaited}
-use Rattle.snmp_walk.specs.Facts.{IsFresh, IsLawfulEnd, ReplyFacts, Reading, rows_read, AreRead, IsAskedLast, IsReadSo, IsEndOfRun}
+use Rattle.snmp_walk.specs.Tries.{IsTried, IsNotAwaited}
+use Rattle.snmp_walk.specs.Facts.{IsFresh, IsLawfulEnd, ReplyFacts, Reading, rows_read, AreRead, IsReadSo, IsEndOfRun}
 use Rattle.snmp_walk.specs.Link.{Agents, AreLawful, OneOf, IsReplyFrom, IsNextFrom, IsGotFrom, IsTooLarge, Outcome}
 use Rattle.snmp_walk.specs.Link as outcome
 use Rattle.snmp_walk.specs.Progress.{Reaches, Advances, AdvancesAnyhow, IsPartOfWalk, Increases, Named}
@@ -22,35 +22,27 @@ use Rattle.snmp_walk.proofs.{ComputedStep.EndsEmpty, ComputedStep.ends_empty, Fa
 use Rattle.snmp_walk.proofs.{Variables.after_precedes, Members.one_append, Progress.part_prefix, OwnReply.before_more, OwnReply.lower_reply}
 use Rattle.snmp_walk.proofs.{SortedRows.views_answer, OwnReply.any_reply, OwnReply.error_or_none}
 use Rattle.snmp_walk.proofs.StepRules.{only, response_to_decided}
-use Rattle.snmp_walk.proofs.Networks.{tried-append, in_turn-append, all_tries, answered_tries, begins_both, begins_tries}
+use Rattle.snmp_walk.proofs.Networks.{tried-append, answered_tries, begins_both, begins_tries}
+use Rattle.snmp_walk.proofs.{Members.one_same, RunEvents.Events, RunEvents.tried_events as events_tried, RunEvents.read_events as events_read}
+use Rattle.snmp_walk.proofs.RunEvents.{Asked as HasAsked, AskedBy, asked_events as events_asked}
 use Rattle.snmp_walk.specs.{Network.BeginWithSend}
 
 module _ {L : Type 0} (codec : Codec) (facts : LinkFacts L) (tries : ℕ) (first : WalkState) (fresh : IsFresh first) (link after : L) where
   abbrev Tried : WalkState → L → Outcome → L → Type 0
   Tried = IsTried facts tries
 
-  abbrev Events : L → L → Type 0
-  Events old new = (events : List (Event (Unit {0}))) × InTurn (Happens facts) old events new
+  abbrev tried_events : (w : WalkState) (old new : L) (o : Outcome) → Tried w old o new → Events facts tries old new
+  tried_events = events_tried facts tries
 
-  abbrev tried_events : (w : WalkState) (old new : L) (o : Outcome) → Tried w old o new → Events old new
-  tried_events w old new o h = all_tries facts (canon (request_of w)) (IsNotAwaited w.community w.id) tries old new o h
-
-  abbrev read_events : (readings : List Reading) (v w : WalkState) (old now : L) → AreRead Tried v old readings w now → Events old now
-  read_events [] v w old now h = ([], h.1)
-  read_events (r ∷ more) v w old now h =
-      let a = tried_events v old h.2 (outcome.answered r.datagram) h.3 in
-      let b = read_events more h.1 w h.2 now h.5 in
-      (a.0 ++ b.0, in_turn-append (Happens facts) a.0 b.0 old h.2 now a.1 b.1)
+  abbrev read_events : (readings : List Reading) (v w : WalkState) (old now : L) → AreRead Tried v old readings w now → Events facts tries old now
+  read_events = events_read facts tries
 
   abbrev Asked : (WalkState → Type 0) → List VarBind → Outcome → WalkState → List VarBind → Type 0
-  Asked Sent rows o w more = IsAskedLast Tried Sent first link rows after o w more
+  Asked = HasAsked facts tries first link after
 
   abbrev asked_events : (Sent : WalkState → Type 0) (rows : List VarBind) (o : Outcome) (w : WalkState) (more : List VarBind) → Asked Sent rows o w more
-      → Events link after
-  asked_events Sent rows o w more a =
-      let b = read_events a.read.readings first w link a.now a.read.are_read in
-      let c = tried_events w a.now after o a.tried in
-      (b.0 ++ c.0, in_turn-append (Happens facts) b.0 c.0 link a.now after b.1 c.1)
+      → Events facts tries link after
+  asked_events = events_asked facts tries first link after
 
   begins_tried : (w : WalkState) (old new : L) (o : Outcome) (h : Tried w old o new) → BeginWithSend (tried_events w old new o h).0
   begins_tried w old new o h = begins_tries facts (canon (request_of w)) (IsNotAwaited w.community w.id) tries old new o h
@@ -95,6 +87,13 @@ module _ {L : Type 0} (codec : Codec) (facts : LinkFacts L) (tries : ℕ) (first
     waits : (w : WalkState) (given : List VarBind) → Reached w given → is_over w.phase ≡ false
     waits w given s = waiting Increases Named Small rising_answers first given w.asked w.phase s.anyhow.stage
 
+    -- before the reply to the request of w was received, only this request was passed to sends in its tries
+    only_request : (w : WalkState) (l new : L) (r : List ℕ) (h : Tried w l (outcome.answered r) new) (d : List ℕ)
+        → OneOf (tried (answered_tries facts (canon (request_of w)) (IsNotAwaited w.community w.id) tries l new r h).1.0) d → d ≡ canon (request_of w)
+    only_request w l new r h d one =
+        let a = answered_tries facts (canon (request_of w)) (IsNotAwaited w.community w.id) tries l new r h in
+        one_same (h.0 + 1) (canon (request_of w)) d (subst (λ (ds : List (List ℕ)). OneOf ds d) a.1.2 one)
+
     -- the reply that was read is the reply of one of the agents to the waiting request, or another Response that one of them may send to it
     read_is : (w : WalkState) (l new : L) (given : List VarBind) (s : Reached w given) → IsWalkState w → (r : List ℕ) (m : Message) → Spells m r → Sort m
         → IsResponseTo w.community w.id m → (h : Tried w l (outcome.answered r) new) → (rest : List (Event (Unit {0})))
@@ -109,7 +108,7 @@ module _ {L : Type 0} (codec : Codec) (facts : LinkFacts L) (tries : ℕ) (first
         let sooner : IsEarlier (tried (s.events ++ a.1.0)) w =
         λ d one. elim (one_append (tried s.events) (tried a.1.0) d (subst (λ (ds : List (List ℕ)). OneOf ds d) (tried-append s.events a.1.0) one)) [
           | inl o ↦ s.earlier d o
-          | inr o ↦ inl (a.1.2 d o)
+          | inr o ↦ inl (only_request w l new r h d o)
         ] in
         elim (sooner sent_it.0 sent_it.1) [
           | inl same ↦ subst (λ (d : List ℕ). IsReplyFrom agents d r ⊎ IsResponseFrom agents d m) same sent_it.2
@@ -189,7 +188,7 @@ module _ {L : Type 0} (codec : Codec) (facts : LinkFacts L) (tries : ℕ) (first
             earlier = λ d one. elim (one_append (tried s.events) (tried (a.1.0 ++ came tt r ∷ [])) d
                 (subst (λ (ds : List (List ℕ)). OneOf ds d) (tried-append s.events (a.1.0 ++ came tt r ∷ [])) one)) [
                   | inl o ↦ before_more w u walker less d (s.earlier d o)
-                  | inr o ↦ before_more w u walker less d (inl (by_prefix a.1.0 a.1.2 r d o))
+                  | inr o ↦ before_more w u walker less d (inl (by_prefix a.1.0 (only_request w l new r h) r d o))
                 ];
             honestly = on.honestly;
             anyhow = on.anyhow.2;
@@ -283,11 +282,7 @@ module _ {L : Type 0} (codec : Codec) (facts : LinkFacts L) (tries : ℕ) (first
         let all_taken : a.given ≡ rows = sym (append-nil a.given) ∙ sym a.parts in
         (part_at w rows a.given [] a.parts refl reaches, lawful (subst (Reaches Next Got first w) all_taken reaches))
 
-  -- the run ended as `HasHappened` says, with `ReplyFacts` if only replies of the agents arrived
-  abbrev Known : (rows refused : List VarBind) → WalkEnd → Type 0
-  Known rows refused end = HasHappened facts link after end (λ agents why. ReplyFacts agents (λ w. Unit {0}) first rows refused why)
-
-  -- a lawful end is lawful with an error status taken for a failure of the link
+  -- if an end is lawful, so is the end in which an error status is replaced by a failure of the link (`but_for_errors`)
   lawful_but : (agents : Agents) (rows : List VarBind) (end : WalkEnd) → IsLawfulEnd agents (λ w. Unit {0}) first rows end
       → IsLawfulEnd agents (λ w. Unit {0}) first rows (but_for_errors end)
   lawful_but agents rows (ending.Fault status index) h = tt
@@ -302,46 +297,59 @@ module _ {L : Type 0} (codec : Codec) (facts : LinkFacts L) (tries : ℕ) (first
   IsEndBy all rows refused end = (agents : Agents) → AreLawful agents → (Sort : Message → Type 0) (Errors : Type 0)
       → ((m : Message) → Sort m ⊎ (Errors × (m.a ≢ pos 0))) → AreRepliesOf Sort agents all → IsEnd Errors agents rows refused end
 
-  known_by : (Sent : WalkState → Type 0) (rows refused : List VarBind) (end : WalkEnd) (o : Outcome) (w : WalkState) (more : List VarBind)
-      → (a : Asked Sent rows o w more) → IsEndBy (asked_events Sent rows o w more a).0 rows refused end → Known rows refused end
-  known_by Sent rows refused end o w more a honestly =
-      let e = asked_events Sent rows o w more a in
-      record {
-        events = e.0;
-        in_turn = e.1;
-        begins = begins_asked Sent rows o w more a;
-        replied = λ agents good replies.
-            let h : IsHonestEnd agents rows refused end = elim (honestly agents good (λ m. Unit {0}) ⊥ (λ m. inl tt) replies) [
-              | inl honest ↦ honest
-              | inr none ↦ absurd none.0
-            ] in
-            given_facts codec agents (λ w. Unit {0}) first rows refused end fresh good.views h.0 h.1;
-        replied_or_failed = λ agents good replies.
-            let h = end_but agents rows refused end (honestly agents good (λ m. m.a ≡ pos 0) (Unit {0}) error_or_none replies) in
-            given_facts codec agents (λ w. Unit {0}) first rows refused (but_for_errors end) fresh good.views h.0 h.1;
-      }
+  module _ (sent : List (List ℕ)) where
+    abbrev By : (WalkState → Type 0) → List VarBind → Outcome → WalkState → List VarBind → Type 0
+    By = AskedBy facts tries first link after sent
 
-  known_read : (Sent : WalkState → Type 0) (rows : List VarBind) (end : WalkEnd) → IsReadSo (Asked Sent rows) end → Known rows [] end
-  known_read Sent rows end (datagram, w, more, a, over, means) =
-      known_by Sent rows [] end (outcome.answered datagram) w more a
-      (λ agents good Sort Errors sort replies. end_read agents good _ Sort Errors sort replies Sent rows end datagram w more a over means refl)
+    -- the run ended as `HasHappened` says, with `ReplyFacts` if only replies of the agents arrived, and the datagrams passed to sends in its events are `sent`
+    pub record Known (rows refused : List VarBind) (end : WalkEnd) : Type 0 where
+      pub happened : HasHappened facts link after end (λ agents why. ReplyFacts agents (λ w. Unit {0}) first rows refused why)
+      pub sends : tried happened.events ≡ sent
 
-  known_none : (Sent : WalkState → Type 0) (rows : List VarBind) (o : Outcome) (w : WalkState) (end : WalkEnd) → (a : Asked Sent rows o w [])
-      → ((agents : Agents) → Reaches (IsNextFrom agents) (IsGotFrom agents) first w rows → IsLawfulEnd agents (λ w. Unit {0}) first rows end)
-      → Known rows [] end
-  known_none Sent rows o w end a lawful =
-      known_by Sent rows [] end o w [] a
-      (λ agents good Sort Errors sort replies. inl (end_none agents good _ Sort Errors sort replies Sent rows o w end a refl (lawful agents)))
+    known_by : (Sent : WalkState → Type 0) (rows refused : List VarBind) (end : WalkEnd) (o : Outcome) (w : WalkState) (more : List VarBind)
+        → (a : By Sent rows o w more) → IsEndBy (asked_events Sent rows o w more a.asked).0 rows refused end → Known rows refused end
+    known_by Sent rows refused end o w more a honestly =
+        let e = asked_events Sent rows o w more a.asked in
+        record {
+          happened = record {
+            events = e.0;
+            in_turn = e.1;
+            begins = begins_asked Sent rows o w more a.asked;
+            replied = λ agents good replies.
+                let h : IsHonestEnd agents rows refused end = elim (honestly agents good (λ m. Unit {0}) ⊥ (λ m. inl tt) replies) [
+                  | inl honest ↦ honest
+                  | inr none ↦ absurd none.0
+                ] in
+                given_facts codec agents (λ w. Unit {0}) first rows refused end fresh good.views h.0 h.1;
+            replied_or_failed = λ agents good replies.
+                let h = end_but agents rows refused end (honestly agents good (λ m. m.a ≡ pos 0) (Unit {0}) error_or_none replies) in
+                given_facts codec agents (λ w. Unit {0}) first rows refused (but_for_errors end) fresh good.views h.0 h.1;
+          };
+          sends = a.sends;
+        }
 
-  pub given_by : (Sent : WalkState → Type 0) (rows refused : List VarBind) (end : WalkEnd)
-      → {S : Type 0} (takes : S → VarBind → Result (Unit {0}) SinkFault → S → Type 0)
-      (before now : S) → Took takes before rows refused end now → IsEndOfRun (Asked Sent rows) refused end → Known rows refused end
-  given_by Sent rows refused ending.RequestTooLong takes before now took h = absurd h
-  given_by Sent rows refused ending.NoResponse takes before now took h =
-      rw took.1 (known_none Sent rows outcome.missed h.0 ending.NoResponse h.1 (λ agents reaches. (h.0, h.1.walker, reaches, tt)))
-  given_by Sent rows refused ending.Link takes before now took h = rw took.1 (known_none Sent rows outcome.cut_off h.0 ending.Link h.1 (λ agents reaches. tt))
-  given_by Sent rows refused (ending.Sink fault) takes before now took (datagram, w, more, a, st, over, left, means, cut) =
-      known_by Sent rows refused (ending.Sink fault) (outcome.answered datagram) w more a
-      (λ agents good Sort Errors sort replies. inl (end_refused agents good _ Sort Errors sort replies Sent rows refused fault
-      (λ none. let r = took.2 in let no : ⊥ = cc in no) datagram w more a st over left means cut refl))
-  given_by Sent rows refused end takes before now took h = rw took.1 (known_read Sent rows end h)
+    known_read : (Sent : WalkState → Type 0) (rows : List VarBind) (end : WalkEnd) → IsReadSo (By Sent rows) end → Known rows [] end
+    known_read Sent rows end (datagram, w, more, a, over, means) =
+        known_by Sent rows [] end (outcome.answered datagram) w more a
+        (λ agents good Sort Errors sort replies. end_read agents good _ Sort Errors sort replies Sent rows end datagram w more a.asked over means refl)
+
+    known_none : (Sent : WalkState → Type 0) (rows : List VarBind) (o : Outcome) (w : WalkState) (end : WalkEnd) → (a : By Sent rows o w [])
+        → ((agents : Agents) → Reaches (IsNextFrom agents) (IsGotFrom agents) first w rows → IsLawfulEnd agents (λ w. Unit {0}) first rows end)
+        → Known rows [] end
+    known_none Sent rows o w end a lawful =
+        known_by Sent rows [] end o w [] a
+        (λ agents good Sort Errors sort replies. inl (end_none agents good _ Sort Errors sort replies Sent rows o w end a.asked refl (lawful agents)))
+
+    pub given_by : (Sent : WalkState → Type 0) (rows refused : List VarBind) (end : WalkEnd)
+        → {S : Type 0} (takes : S → VarBind → Result (Unit {0}) SinkFault → S → Type 0)
+        (before now : S) → Took takes before rows refused end now → IsEndOfRun (By Sent rows) refused end → Known rows refused end
+    given_by Sent rows refused ending.RequestTooLong takes before now took h = absurd h
+    given_by Sent rows refused ending.NoResponse takes before now took h =
+        rw took.1 (known_none Sent rows outcome.missed h.0 ending.NoResponse h.1 (λ agents reaches. (h.0, h.1.asked.walker, reaches, tt)))
+    given_by Sent rows refused ending.Link takes before now took h =
+        rw took.1 (known_none Sent rows outcome.cut_off h.0 ending.Link h.1 (λ agents reaches. tt))
+    given_by Sent rows refused (ending.Sink fault) takes before now took (datagram, w, more, a, st, over, left, means, cut) =
+        known_by Sent rows refused (ending.Sink fault) (outcome.answered datagram) w more a
+        (λ agents good Sort Errors sort replies. inl (end_refused agents good _ Sort Errors sort replies Sent rows refused fault
+        (λ none. let r = took.2 in let no : ⊥ = cc in no) datagram w more a.asked st over left means cut refl))
+    given_by Sent rows refused end takes before now took h = rw took.1 (known_read Sent rows end h)

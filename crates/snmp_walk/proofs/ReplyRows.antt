@@ -1,4 +1,4 @@
--- The rows at the start of a reply, as the loop reads them (`prefix_done`, `prefix_ended`).
+-- The rows at the start of a reply, as the loop of `read_rows` reads them (`prefix_done`, `prefix_ended`).
 use Rattle.std.proofs.{lemmas.Grind.common_steps, lemmas.Bool.le-ltb, lemmas.Bool.cond_both}
 use Rattle.std.proofs.Common.{◌≡◌, ℕ, ◌+◌, Bool, true, false, cond, List, [], ◌∷◌, length, take, refl, sym, ◌∙◌, ap, subst, arith}
 use Rattle.std.specs.Prelude.{◌||◌}
@@ -61,7 +61,8 @@ prefix_done root asked last rows all after h =
     let count : length (reply_rows root asked all).rows ≡ rows = omega (arith, h.count) in
     record { count = count; taken = rw (← count) (prefix_taken root asked all).0; name = h.name; after = h.after }
 
--- the loop has read `rows` bindings of `all`, up to the name `last`, and `left` are those that it hasn't read
+-- The loop has read `rows` bindings of `all`. `last` is the name of the last one, or `asked` if there is none. `left` are the bindings not read yet: b, then
+-- `more`.
 module _ (root asked last : List ℕ) (rows : ℕ) (b : VarBind) (all left more : List VarBind)
     (so_far : IsReadTo asked (reply_rows root asked all) last rows (reply_rows root last left)) (is : left ≡ b ∷ more) where
   pub prefix_ended : (e : Ending) → e ≡ ending_at root last b → (e ≡ ending.GoesOn → ⊥) → (name : List ℕ) → name ≡ b.name

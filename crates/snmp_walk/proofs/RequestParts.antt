@@ -64,13 +64,13 @@ text_bound : (text : List ℕ) → length (canon_value (octet_string text)) ≤ 
 unfolding canon_content
 text_bound text = value_bound (octet_string text)
 
--- a binding has at most 18 octets besides five for each number of its name and the content of its value
+-- the encoding of a binding has at most 18 octets, plus five for each number of its name, plus the content of its value
 pub binding_bound : (name : List ℕ) (value : Datum)
     → length (canon_binding (record { name = name; value = value })) ≤ 18 + 5 * length name + length (canon_content value)
 unfolding canon_binding
 binding_bound name value = omega (arith, element_bound, length-append {A = ℕ}, name_bound name, value_bound value)
 
--- a list of one binding has at most 18 octets besides five for each number of its name and the content of its value
+-- the encoding of one binding in a list has at most 18 octets, plus five for each number of its name, plus the content of its value
 pub one_bound : (name : List ℕ) (value : Datum)
     → length (canon_bindings (record { name = name; value = value } ∷ [])) ≤ 18 + 5 * length name + length (canon_content value)
 unfolding canon_bindings
@@ -83,7 +83,7 @@ no_content = omega arith
 pub name_short : (name : List ℕ) → length name ≤ 128 → length (canon_bindings (record { name = name; value = null_value } ∷ [])) ≤ 658
 name_short name h = omega (arith, h, one_bound name null_value, no_content)
 
--- a message has at most 84 octets besides its community and its bindings
+-- the encoding of a message has at most 84 octets, plus its community, plus its encoded bindings
 pub message_bound : (m : Message) → length (canon m) ≤ 84 + length m.community + length (canon_bindings m.bindings)
 unfolding canon canon_opening canon_fields
 message_bound m = omega (arith, element_bound, integer_bound, text_bound, length-append {A = ℕ})

@@ -56,7 +56,7 @@ module _ (codec : Codec) where
       longer_message m n (omega (arith, codec.sizes.opening m, codec.sizes.opening n))
       (omega (arith, codec.sizes.fields m, codec.sizes.fields n, longer_integer id last h)) (omega (arith, k, one_binding p, one_binding q))
 
-  -- with a smaller id, the Response with all bindings isn't longer
+  -- with the same bindings and a smaller or equal id, the Response isn't longer
   pub longer_full : (community : List ℕ) (id last : ℕ) (bindings : List VarBind) → id ≤ last
       → length (canon (full_response community id bindings)) ≤ length (canon (full_response community last bindings))
   longer_full community id last bindings h =
@@ -65,7 +65,7 @@ module _ (codec : Codec) where
       longer_message m n (omega (arith, codec.sizes.opening m, codec.sizes.opening n))
       (omega (arith, codec.sizes.fields m, codec.sizes.fields n, longer_integer id last h)) (omega arith)
 
-  -- if a binding has room, it fits into a message with each id
+  -- if a binding has room (`HasRoom`), the Response with it only fits into an agent's message, whatever the id below 2^31
   pub room_fits : (agents : Agents) (p : VarBind) (id : ℕ) → id < 2 ^ 31 → HasRoom agents p
       → length (canon (full_response agents.community id (p ∷ []))) ≤ agents.max_size
   room_fits agents p id low room = grind (arith, common_steps, longer_response)
@@ -73,7 +73,7 @@ module _ (codec : Codec) where
   pub room_small : (agents : Agents) (id : ℕ) (p : VarBind) → HasRoom agents p → IsTooLarge agents id p → ⊥
   room_small agents id p room large = grind (arith, common_steps, room_fits)
 
-  -- if a name has room with a value, it has room with an exception
+  -- if a binding with this name has room, so has the binding of the name with an exception
   pub room_exception : (agents : Agents) (name : List ℕ) (v u : Datum) → IsException v → HasRoom agents (record { name = name; value = u })
       → HasRoom agents (record { name = name; value = v })
   room_exception agents name v u is room = grind (arith, common_steps, exception_content, longer_binding, longer_response)

@@ -1,6 +1,6 @@
 -- The loop of `run_walk`: its invariant `Runs` holds at the start (`runs_first`), and each request preserves it or ends the run with what the contract says
 -- (`turn_of`).
-use Rattle.std.proofs.{lemmas.Grind.common_steps, lemmas.List.flat_map_more, lemmas.Bool.and_from, lemmas.Bool.false≢true}
+use Rattle.std.proofs.{lemmas.Grind.common_steps, lemmas.Bool.and_from, lemmas.Bool.false≢true}
 use Rattle.std.proofs.Common.{◌≡◌, inl, inr, ℕ, ◌+◌, ◌^◌, ◌<◌, List, [], ◌∷◌, ◌++◌, refl, sym, ◌∙◌, ap, true, false, subst, arith, append-nil}
 use Rattle.std.proofs.Common.{append_assoc, Option, Some, None, replicate}
 use Rattle.std.specs.Prelude.{◌≢◌, not, Result, Ok, Err}
@@ -8,9 +8,10 @@ use Rattle.snmp_wire.specs.{Canon.canon, Message.VarBind, Message.Message, Spell
 use Rattle.std.proofs.Common.{length-append}
 use Rattle.snmp_walk.specs.declared.mode.Phase.TheVariants as phase
 use Rattle.snmp_walk.specs.{declared.end.WalkEnd.WalkEnd, declared.end.SinkFault.SinkFault, declared.rows.Step.Step, WalkState.WalkState, WalkState.IsWalkState}
-use Rattle.snmp_walk.specs.{Request.request_of, StepRules.MeansBy, private.ComputedStep.awaits, private.ComputedStep.is_over, private.ComputedStep.take_of}
+use Rattle.snmp_walk.specs.{Request.request_of, private.ComputedStep.awaits, private.ComputedStep.is_over, private.ComputedStep.take_of}
 use Rattle.snmp_walk.specs.{Link.Agents}
-use Rattle.snmp_walk.specs.{Link.AreLawful, Link.IsNextFrom, Link.IsGotFrom, Link.IsTooLarge, Link.Outcome, Sink.TakesAll, Sink.Took, Run.Try}
+use Rattle.snmp_walk.specs.{Link.AreLawful, Link.IsNextFrom, Link.IsGotFrom, Link.IsTooLarge, Link.Outcome, Sink.TakesAll, Sink.Took}
+use Rattle.snmp_walk.specs.{Network.tried, Run.Try, Run.sent_by}
 use Rattle.snmp_walk.specs.{Run.IsFullReply, Read.rows_in, Read.Delivers, Read.IsReadAs, Read.Tells, Read.all_taken, Read.is_refused}
 use Rattle.snmp_walk.specs.{private.Course.Heard, private.Course.heard_of, declared.tries.Course.Course, declared.end.LinkFault.LinkFault}
 use Rattle.snmp_walk.specs.{private.OwnReply.IsEarlier, private.Codec.Codec, declared.link.Link.Ghosts as LinkFacts, Moved.IsMovedByTries, RunResult.IsRun}
@@ -21,7 +22,7 @@ use Rattle.snmp_walk.specs.Progress.{IsPartOfWalk, Reaches, Ends, Advances, Incr
 use Rattle.snmp_walk.specs.Link as outcome
 use Rattle.snmp_walk.specs.declared.tries.Course.TheVariants as course
 use Rattle.snmp_walk.specs.private.Course as heard
-use Rattle.snmp_walk.specs.Facts.{IsFresh, IsLastSent, IsAskedLast, Reading, AreRead, HasRead, DeliversNoRows, IsReadSo, IsEndedBy, IsLawfulEnd}
+use Rattle.snmp_walk.specs.Facts.{IsFresh, IsLastSent, DeliversNoRows, IsReadSo, IsEndedBy, IsLawfulEnd}
 use Rattle.snmp_walk.specs.Facts.{HasNoReply, IsEndOfRun, IsReadyForAll}
 use Rattle.snmp_walk.proofs.{StepRules.means_by, StepRules.response_to_decided, SortedRows.views_answer, EnoughRoom.few_in}
 use Rattle.snmp_walk.proofs.{EnoughRoom.gets_one, EnoughRoom.HasFew, Lost.lost_of, OwnReply.asked_of, OwnReply.from_of}
@@ -32,6 +33,8 @@ use Rattle.snmp_walk.proofs.{FullReplies.fast_on, Sinks.given-append, Variables.
 use Rattle.snmp_walk.proofs.Moves.{sent_all, IsSent, moved_of, sent_of, tries_as, Suits, agrees}
 use Rattle.snmp_walk.proofs.StepProgress.{taken, part_of_stage, part_of_step, waiting, Small, taken_any, rising_answers}
 use Rattle.snmp_walk.proofs.Facts.{counted_few, facts as facts_of, send_facts}
+use Rattle.snmp_walk.proofs.RunEvents.{AskedBy, HasReadBy, asked_by, earlier_events, read_more, tried_events}
+use Rattle.snmp_walk.proofs.{Networks.sends_of, Networks.tried-append, Runs.sent_push}
 use Rattle.snmp_walk.proofs.Runs.{Sends, sends_more, HasMoved, moved_first, moved_more, moved_fine}
 use Rattle.snmp_walk.proofs.{OwnReply.all_lower_after, OwnReply.earlier_first, OwnReply.earlier_more, EnoughRoom.few_asked}
 
@@ -42,7 +45,7 @@ took_reply : {S : Type 0} (takes : S → VarBind → Result (Unit {0}) SinkFault
 took_reply takes before after rows (ending.Sink fault) own h = absurd own
 took_reply takes before after rows _ own h = (h, refl)
 
--- if a reply was read as an end, that is the reason of the end
+-- if the reply to the last request was read as `end` (`IsReadSo`), that is the reason of the end (`IsEndOfRun`)
 read_end : (Asked : Outcome → WalkState → List VarBind → Type 0) (refused : List VarBind) (end : WalkEnd) → IsReplyEnd end
     → IsReadSo Asked end → IsEndOfRun Asked refused end
 read_end Asked refused ending.RequestTooLong own h = absurd own
@@ -50,26 +53,6 @@ read_end Asked refused ending.NoResponse own h = absurd own
 read_end Asked refused ending.Link own h = absurd own
 read_end Asked refused (ending.Sink fault) own h = absurd own
 read_end Asked refused _ own h = h
-
--- if a walk read `readings`, and then the datagram of r as the rows of r, then it read `readings` and r
-are_more : {L : Type 0} (Tried : WalkState → L → Outcome → L → Type 0) (v w x : WalkState) (old now new : L) (readings : List Reading) (r : Reading)
-    → AreRead Tried v old readings w now → IsWalkState w → Tried w now (outcome.answered r.datagram) new → MeansBy w r.datagram (step.Rows r.rows) x
-    → AreRead Tried v old (readings ++ r ∷ []) x new
-are_more Tried v w x old now new [] r h good tried taken = (subst IsWalkState h.0 good, x, new, rw (← h.0, ← h.1) tried, rw (← h.0) taken, (refl, refl))
-are_more Tried v w x old now new (s ∷ readings) r h good tried taken = grind
-    (arith, common_steps, are_more Tried h.1 w x h.2 now new readings r h.5 good tried taken, taken)
-
-read_more : {L : Type 0} (Tried : WalkState → L → Outcome → L → Type 0) (first w x : WalkState) (old now new : L) (given rows : List VarBind)
-    (datagram : List ℕ)
-    → HasRead Tried first old w now given → IsWalkState w → Tried w now (outcome.answered datagram) new → MeansBy w datagram (step.Rows rows) x
-    → HasRead Tried first old x new (given ++ rows)
-read_more Tried first w x old now new given rows datagram h good tried taken =
-    let r : Reading = record { datagram = datagram; rows = rows } in
-    record {
-      readings = h.readings ++ r ∷ [];
-      rows = ap (λ (g : List VarBind). g ++ rows) h.rows ∙ flat_map_more (λ (q : Reading). q.rows) [] h.readings r;
-      are_read = are_more Tried first w x old now new h.readings r h.are_read good tried taken;
-    }
 
 -- ---- runs
 
@@ -80,8 +63,8 @@ module _ {S L : Type 0} (facts : LinkFacts L) (takes : S → VarBind → Result 
     pub given : List VarBind
     pub sunk : TakesAll takes before given s
     pub reached : Reaches Increases Named first w given
-    pub read : HasRead (IsTried facts tries) first link w here given
     pub has_moved : HasMoved facts link tries first given w.id ⊥ here
+    pub read : HasReadBy facts tries (sent_by has_moved.by.requests) first link w here given
     pub honestly : IsHonestFrom facts first.id link → Reaches (IsNextFrom (facts.agents link)) (IsGotFrom (facts.agents link)) first w given
     pub earlier : facts.records link → AreOfLowerIds (facts.traffic link).sent first.id → IsEarlier (facts.traffic here).sent w
     pub fast : IsHonestFrom facts first.id link → IsFast (IsNextFrom (facts.agents link)) (IsGotFrom (facts.agents link))
@@ -92,8 +75,8 @@ module _ {S L : Type 0} (facts : LinkFacts L) (takes : S → VarBind → Result 
     given = [];
     sunk = refl;
     reached = fresh_reached Increases Named first fresh;
-    read = record { readings = []; rows = refl; are_read = (refl, refl) };
     has_moved = moved_first facts link tries first [];
+    read = record { read = record { readings = []; rows = refl; are_read = (refl, refl) }; sends = refl };
     honestly = λ h. fresh_reached (IsNextFrom (facts.agents link)) (IsGotFrom (facts.agents link)) first fresh;
     earlier = λ k none. earlier_first (facts.traffic link).sent first none;
     fast = λ h. fast_first (IsNextFrom (facts.agents link)) (IsGotFrom (facts.agents link)) (AreRoomy (facts.agents link) []) first fresh;
@@ -147,7 +130,7 @@ module _ {S L : Type 0} {facts : LinkFacts L} {takes : S → VarBind → Result 
   asked : IsHonestFrom facts first.id link → facts.honest here × IsEarlier (facts.traffic here).sent w
   asked h = (r.has_moved.by.moved.honest h.0, r.earlier (recording link h.0) h.1)
 
-  moves : (what : Outcome) {failed : Type 0} → (what ≡ outcome.cut_off → failed) → (failed → what ≡ outcome.cut_off) → Tried what
+  abbrev moves : (what : Outcome) {failed : Type 0} → (what ≡ outcome.cut_off → failed) → (failed → what ≡ outcome.cut_off) → Tried what
       → IsMovedByTries facts here (canon (request_of w)) tries failed after
   moves what there back tried =
       tries_as facts (IsNotAwaited w.community w.id) _ there back (moved_of facts _ (canon (request_of w)) tries some what here after tried)
@@ -155,6 +138,20 @@ module _ {S L : Type 0} {facts : LinkFacts L} {takes : S → VarBind → Result 
   abbrev moved_on : {failed : Type 0} (rows : List VarBind) → IsMovedByTries facts here (canon (request_of w)) tries failed after
       → HasMoved facts link tries first (r.given ++ rows) (w.id + 1) failed after
   moved_on rows m = moved_more facts tries first w r.given rows good r.reached r.has_moved m (request_short w good.community good.identifier.short)
+
+  -- the requests so far and that of w, which had this outcome
+  abbrev requests_on : (what : Outcome) (end : WalkEnd) → Suits what end → Tried what → List Try
+  requests_on what end suits tried =
+      let a = agrees what end suits in r.has_moved.by.requests ++ record { by = w; times = (moves what a.0 a.1 tried).0 } ∷ []
+
+  -- once the request of w was tried too, the datagrams passed to sends are those of the requests so far and of this one
+  sends_on : (what : Outcome) {failed : Type 0} (there : what ≡ outcome.cut_off → failed) (back : failed → what ≡ outcome.cut_off) (h : Tried what)
+      → sent_by r.has_moved.by.requests ++ tried (tried_events facts tries w here after what h).0
+      ≡ sent_by (r.has_moved.by.requests ++ record { by = w; times = (moves what there back h).0 } ∷ [])
+  sends_on what there back h =
+      let last : Try = record { by = w; times = (moves what there back h).0 } in
+      ap (λ (ds : List (List ℕ)). sent_by r.has_moved.by.requests ++ ds)
+      (sends_of facts (canon (request_of w)) (IsNotAwaited w.community w.id) tries some what here after h) ∙ sym (sent_push r.has_moved.by.requests last)
 
   sent_on : (what : Outcome) → Tried what → facts.records link → IsSent facts (IsNotAwaited w.community w.id) (canon (request_of w)) tries what here after
   sent_on what tried keeps = sent_of facts _ (canon (request_of w)) tries some what here after tried (r.has_moved.by.moved.keeps keeps)
@@ -184,7 +181,8 @@ module _ {S L : Type 0} {facts : LinkFacts L} {takes : S → VarBind → Result 
         let on : IsHonestFrom facts first.id link → Reaches Next Got first v (r.given ++ rows) =
         λ h. subst (λ (u : WalkState). Reaches Next Got first u (r.given ++ rows)) (sym f)
         (subst (λ (st : Step). Advances Next Got (IsTooLarge agents) first w r.given st (take_of w m).1) e (honest_step h)) in
-        let tries_of = moves (outcome.answered d) (λ e. let never : ⊥ = cc in never) (λ f. absurd f) tried in
+        let uncut : outcome.answered d ≡ outcome.cut_off → ⊥ = λ e. cc in
+        let tries_of = moves (outcome.answered d) uncut (λ f. absurd f) tried in
         let moved = moved_on rows tries_of in
         let requests = r.has_moved.by.requests in
         let last : Try = record { by = w; times = tries_of.0 } in (
@@ -192,9 +190,10 @@ module _ {S L : Type 0} {facts : LinkFacts L} {takes : S → VarBind → Result 
             given = r.given ++ rows;
             sunk = given-append S takes r.given rows before s t r.sunk sink;
             reached = stood.2;
-            read = read_more (IsTried facts tries) first w v link here after r.given rows d r.read good tried
-                (means_by codec.less w d m spelt _ _ (sym e) f);
             has_moved = record { by = moved.by; ids = stood.0 ∙ moved.ids; short = moved.short };
+            read = subst (λ (ds : List (List ℕ)). HasReadBy facts tries ds first link v after (r.given ++ rows))
+                (sends_on (outcome.answered d) uncut (λ f. absurd f) tried)
+                (read_more facts tries first w v link here after r.given rows d _ r.read good tried (means_by codec.less w d m spelt _ _ (sym e) f));
             honestly = on;
             earlier = λ k none. earlier_more w v (facts.traffic here).sent (facts.traffic after).sent (x k).0 good (omega (arith, stood.0)) (x k).2
                 (r.earlier k none);
@@ -234,28 +233,38 @@ module _ {S L : Type 0} {facts : LinkFacts L} {takes : S → VarBind → Result 
       })
 
   -- the run ended with `end`, after the sink took `all` and perhaps refused one more; the facts of the whole run follow from this (`ran`)
-  record IsOver (all : List VarBind) (end : WalkEnd) (t : S) : Type 0 where
+  record IsOver (requests : List Try) (all : List VarBind) (end : WalkEnd) (t : S) : Type 0 where
     refused : List VarBind
     sink : Took takes before all refused end t
     part : IsPartOfWalk Increases Named first (all ++ refused)
     counted : CountsAll end all
-    reason : IsEndOfRun (IsAskedLast (IsTried facts tries) (IsSentLast end) first link all after) refused end
+    reason : IsEndOfRun (AskedBy facts tries first link after (sent_by requests) (IsSentLast end) all) refused end
     honestly : IsHonestFrom facts first.id link → IsPartOfWalk Next Got first (all ++ refused) × IsLawfulEnd agents IsUnreplied first all end
         × IsEndedBy agents IsUnreplied (IsLastSent tries end (facts.traffic after)) first all end
 
-  module _ (what : Outcome) (end : WalkEnd) (suits : Suits what end) (tried : Tried what) where
-    abbrev asked_last : (more all : List VarBind) → all ≡ r.given ++ more → IsAskedLast (IsTried facts tries) (IsSentLast end) first link all after what w more
-    asked_last more all parts = record {
-      now = here;
-      given = r.given;
-      parts = parts;
-      walker = good;
-      id = omega (arith, r.has_moved.ids);
-      read = r.read;
-      reaches = r.reached;
-      sent = last_sent what end suits tried;
-      tried = tried;
-    }
+  module _ (what : Outcome) (end : WalkEnd) (suits : Suits what end) (was_tried : Tried what) where
+    abbrev Asked : (all more : List VarBind) → Type 0
+    Asked all more = AskedBy facts tries first link after (sent_by (requests_on what end suits was_tried)) (IsSentLast end) all what w more
+
+    asked_last : (more all : List VarBind) → all ≡ r.given ++ more → Asked all more
+    asked_last more all parts =
+        let a = agrees what end suits in
+        record {
+          asked = record {
+            now = here;
+            given = r.given;
+            parts = parts;
+            walker = good;
+            id = omega (arith, r.has_moved.ids);
+            read = r.read.read;
+            reaches = r.reached;
+            sent = last_sent what end suits was_tried;
+            tried = was_tried;
+          };
+          sends = tried-append (earlier_events facts tries r.read.read) (tried_events facts tries w here after what was_tried).0
+              ∙ ap (λ (ds : List (List ℕ)). ds ++ tried (tried_events facts tries w here after what was_tried).0) r.read.sends
+              ∙ sends_on what a.0 a.1 was_tried;
+        }
 
     ended_by : (more all : List VarBind) → all ≡ r.given ++ more → (h : IsHonestFrom facts first.id link)
         → (IsReplyEnd end → Ends Next Got (IsTooLarge agents) first w all end) → DeliversNoRows end more → (end ≡ ending.NoResponse → IsUnreplied w)
@@ -271,17 +280,19 @@ module _ {S L : Type 0} {facts : LinkFacts L} {takes : S → VarBind → Result 
       reaches = r.honestly h;
       ends = last;
       silent = silent;
-      sent = last_sent what end suits tried (recording link h.0);
+      sent = last_sent what end suits was_tried (recording link h.0);
     }
 
     -- if the run ended as `IsOver` says, then what is promised of the whole run holds (`Ran`)
-    ran : IsFresh first → (rows : List VarBind) (t : S) → IsOver (r.given ++ rows) end t
+    ran : IsFresh first → (rows : List VarBind) (t : S) → IsOver (requests_on what end suits was_tried) (r.given ++ rows) end t
         → Ran end t
     ran fresh rows t done =
         let all = r.given ++ rows in
         let a = agrees what end suits in
-        let moved = moved_on rows (moves what a.0 a.1 tried) in
-        let x = sent_on what tried in
+        let moved = moved_on rows (moves what a.0 a.1 was_tried) in
+        let x = sent_on what was_tried in
+        let sent = sent_by (requests_on what end suits was_tried) in
+        let known = given_by codec facts tries first fresh link after sent (IsSentLast end) all done.refused end takes before t done.sink done.reason in
         let fine_in : IsHonestFrom facts first.id link → (k : ℕ) → HasFew Next first k → IsReadyForAll (facts.ready link) tries k → end ≢ ending.Link =
         λ h k bound ready. moved_fine facts tries first all (w.id + 1) moved k
         (omega (arith, few_in Next Got first k bound w r.given (r.honestly h), gets_one first.mode)) ready in
@@ -295,7 +306,7 @@ module _ {S L : Type 0} {facts : LinkFacts L} {takes : S → VarBind → Result 
               rising = ordered_from_rising (after_precedes codec) (all ++ done.refused)
                   (part_rises Increases Named rising_answers first (all ++ done.refused) done.part);
               counted = done.counted;
-              reason = done.reason;
+              reason = asked_by facts tries first link after sent (IsSentLast end) all done.refused end done.reason;
             };
             sent = λ k.
                 let requests = r.has_moved.by.requests in
@@ -327,7 +338,8 @@ module _ {S L : Type 0} {facts : LinkFacts L} {takes : S → VarBind → Result 
                 subst (AreOfLowerIds (facts.traffic after).sent) (omega (arith, moved.ids))
                 (all_lower_after w (facts.traffic here).sent (facts.traffic after).sent (x k).0 (w.id + 1) good (omega arith) (x k).2 (r.earlier k low));
             few_of_rows = let few = few_asked Increases Named first w r.given r.reached in omega (arith, few, moved.ids, length-append r.given rows);
-            happened = given_by codec facts tries first fresh link after (IsSentLast end) all done.refused end takes before t done.sink done.reason;
+            happened = known.happened;
+            sends = known.sends;
           };
         }
 
@@ -348,14 +360,15 @@ module _ {S L : Type 0} {facts : LinkFacts L} {takes : S → VarBind → Result 
           sink = took_reply takes before t (r.given ++ rows) why over.0 (given-append S takes r.given rows before s t r.sunk sink);
           part = rw append-nil over.1;
           counted = over.2;
-          reason = read_end (IsAskedLast (IsTried facts tries) (IsSentLast why) first link (r.given ++ rows) after) [] why over.0 (
-            d,
-            w,
-            rows,
-            asked_last (outcome.answered d) why suits tried rows (r.given ++ rows) refl,
-            (take_of w m).1,
-            means_by codec.less w d m spelt _ _ (sym e) refl,
-          );
+          reason = read_end (λ o u more. AskedBy facts tries first link after (sent_by (requests_on (outcome.answered d) why suits tried)) (IsSentLast why)
+              (r.given ++ rows) o u more) [] why over.0 (
+                d,
+                w,
+                rows,
+                asked_last (outcome.answered d) why suits tried rows (r.given ++ rows) refl,
+                (take_of w m).1,
+                means_by codec.less w d m spelt _ _ (sym e) refl,
+              );
           honestly = λ h.
               let last = subst (λ (st : Step). Advances Next Got (IsTooLarge agents) first w r.given st (take_of w m).1) e
               (honest_step m d tried spelt awaited h) in (
@@ -405,12 +418,13 @@ module _ {S L : Type 0} {facts : LinkFacts L} {takes : S → VarBind → Result 
 
   -- if the run ended without a reply, so that it passed on no more rows, then what is known of the whole run holds (`Ran`)
   ran_none : (what : Outcome) (why : WalkEnd) (suits : Suits what why) (tried : Tried what) → IsFresh first → (IsReplyEnd why → ⊥) → CountsAll why r.given
-      → IsEndOfRun (IsAskedLast (IsTried facts tries) (IsSentLast why) first link r.given after) [] why → Took takes before r.given [] why s
+      → IsEndOfRun (AskedBy facts tries first link after (sent_by (requests_on what why suits tried)) (IsSentLast why) r.given) [] why
+      → Took takes before r.given [] why s
       → DeliversNoRows why [] → (IsHonestFrom facts first.id link → why ≡ ending.NoResponse → IsUnreplied w)
       → (IsHonestFrom facts first.id link → IsLawfulEnd agents IsUnreplied first r.given why)
       → Ran why s
   ran_none what why suits tried fresh none counts reason sink no_rows silent lawful_end =
-      ran what why suits tried fresh [] s (subst (λ (g : List VarBind). IsOver g why s) (sym (append-nil r.given)) (record {
+      ran what why suits tried fresh [] s (subst (λ (g : List VarBind). IsOver (requests_on what why suits tried) g why s) (sym (append-nil r.given)) (record {
         refused = [];
         sink = sink;
         part = rw append-nil (part_of_stage Increases Named Small rising_answers first r.given w.asked w.phase r.reached.stage);

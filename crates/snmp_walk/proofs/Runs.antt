@@ -64,7 +64,7 @@ sent_push (u ∷ requests) t = grind (arith, common_steps, sent_push requests t,
 pub each_push : (requests : List Try) (t : Try) → IsEachSent requests → 0 < t.times → IsEachSent (requests ++ t ∷ [])
 each_push requests t each some u one = grind (arith, common_steps, one_append)
 
--- the datagrams sent from `old` to `now` are the requests of the walk before the one with the id `next`
+-- the datagrams sent between `old` and `now` are the walk's requests with ids from `first.id` on and below `next`, each at most `tries` times
 pub record Sends (tries : ℕ) (first : WalkState) (given : List VarBind) (old : Traffic) (next : ℕ) (now : Traffic) : Type 0 where
   pub requests : List Try
   pub sent : now.sent ≡ old.sent ++ sent_by requests
@@ -96,7 +96,8 @@ few_sent tries first rows id [] h = omega arith
 few_sent tries first rows id (t ∷ more) h = grind (arith, common_steps, few_sent tries first rows (id + 1) more h.4, length-append, length-replicate)
 
 module _ {W : Type 0} (facts : LinkFacts W) where
-  -- Requests of at most 1,000 octets took the link from `old` to `now`, and `to` is the id of the next one.
+  -- Requests took the link from `old` to `now`. In total, the datagrams passed to sends have at most `tries` times 1,000 octets for each request. `to` is the
+  -- id of the next request.
   pub record HasMoved (old : W) (tries : ℕ) (first : WalkState) (given : List VarBind) (to : ℕ) (failed : Type 0) (now : W) : Type 0 where
     pub by : IsMovedByRequests facts tries first given old failed now
     pub ids : to ≡ first.id + length by.requests

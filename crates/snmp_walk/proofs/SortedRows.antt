@@ -20,7 +20,7 @@ abbrev pub AreIncreasing : List VarBind → Type 0
 AreIncreasing [] = Unit {0}
 AreIncreasing (row ∷ rows) = AreAfter row.name rows × AreIncreasing rows
 
--- each row is an instance that an agent may have: its name has at least three numbers, and it has a value
+-- each row has a name of at least three numbers, and a value
 abbrev pub AreInstances : List VarBind → Type 0
 AreInstances [] = Unit {0}
 AreInstances (row ∷ rows) =

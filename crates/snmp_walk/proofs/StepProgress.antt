@@ -77,7 +77,7 @@ module _ (Next Got : List ℕ → VarBind → Type 0) (Large : ℕ → VarBind �
       → IsOpening Got first.mode first.asked prefix → o ≡ last_name first.asked trail
   asked_last given o prefix trail g parts opening = grind (arith, common_steps, opening_last)
 
-  -- a reply with at least one row takes the walk to the next id
+  -- if a reply has at least one row, then `IsPaced` holds of the next id, after the rows of the reply
   pub more_pace : (given rows : List VarBind) (w : WalkState) → w.phase ≡ phase.Rows → Reaches Next Got first w given → HasReturned Next Got first given w.asked
       → IsTrail Next first.root w.asked rows → 1 ≤ length rows → IsPaced Next Got first (given ++ rows) (w.id + 1) phase.Rows
   more_pace given rows w waits h g trail some =
@@ -126,7 +126,7 @@ module _ (Next Got : List ℕ → VarBind → Type 0) (Large : ℕ → VarBind �
         ),
       ))
 
-  -- what a walk has returned can be continued by a trail
+  -- if a walk has returned `given` and asks next from the name o, and `rows` are a trail from o, then `HasReturned` holds of `given ++ rows`
   pub given_more : (given rows : List VarBind) (o : List ℕ) → HasReturned Next Got first given o → IsTrail Next first.root o rows
       → HasReturned Next Got first (given ++ rows) (last_name o rows)
   given_more given rows o h more = grind (arith, common_steps, append_assoc, trail-append, last_name-append)
@@ -222,7 +222,7 @@ Small id p = Unit {0}
 pub rising_answers : AreLawfulReplies Increases Named
 rising_answers = grind (arith, common_steps, after_test, no_end, miss_test, end_test)
 
--- any name can be at the end, since any reply can have endOfMibView
+-- a walk can end at any name (`IsAtEnd`), since any reply can have endOfMibView
 anywhere : (root o : List ℕ) → IsAtEnd Increases root o
 anywhere root o =
     let last : VarBind = record { name = o; value = end_of_mib_view } in
@@ -250,7 +250,7 @@ module _ (first old : WalkState) (given : List VarBind) where
   abbrev IsAny : Step × WalkState → Type 0
   IsAny s = AdvancesAnyhow first old given s.0 s.1
 
-  -- the step and the state in the pair s advance the walk, by what holds of any replies
+  -- `Advances` holds of the step and the state in the pair s, with conditions that any reply meets (`Increases`, `Named`, `Small`)
   abbrev IsHonest : Step × WalkState → Type 0
   IsHonest s = Advances Increases Named Small first old given s.0 s.1
 

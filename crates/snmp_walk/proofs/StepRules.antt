@@ -83,7 +83,7 @@ got_decides asked [] = inr (refl, λ c h. let alone = h.alone in cc)
 got_decides asked (b ∷ []) = grind (arith, common_steps, got_parts)
 got_decides asked (b ∷ d ∷ more) = inr (refl, λ c h. let alone = h.alone in cc)
 
--- `after` says what follows rows up to the name `last`, if the next bindings are these: nothing, or a first binding that ends the rows
+-- `after` describes the bindings that follow rows, if the last row has the name `last`: there are none, or the first of them ends the rows in this way
 abbrev IsCut : (root last : List ℕ) → List VarBind → After → Type 0
 IsCut root last [] after = after ≡ nothing
 IsCut root last (b ∷ _) after =
@@ -94,7 +94,7 @@ module _ (precedes : (o p : List ℕ) → slice_cmp nat_cmp o p ≡ Less → Pre
   after_decided : (o p : List ℕ) → Decides (comes_after o p) (Precedes o p)
   after_decided o p = ((λ e. precedes o p (less_from_after o p e)), (λ h. ap is_lt (less_precedes o p h)))
 
-  -- if `rows` are rows, and `rest` follows them as `after` says, then these rows and `after` are what is read of `rows ++ rest`
+  -- if `AreRowsFrom` holds of `rows`, and `rest` follows them as `after` says, then `reply_rows` reads `rows` and `after` in `rows ++ rest`
   read_cut : (root o : List ℕ) (rows rest : List VarBind) (after : After) → AreRowsFrom root o rows → IsCut root (last_name o rows) rest after
       → reply_rows root o (rows ++ rest) ≡ record { rows = rows; after = after }
   read_cut root o [] [] after h c = rw c refl
@@ -157,7 +157,8 @@ module _ (precedes : (o p : List ℕ) → slice_cmp nat_cmp o p ≡ Less → Pre
     closing w rows = by_test (is_plain w.mode && (w.count + length rows == 0)) (GivesNothing w rows) (GoesOn w phase.Last [] given new)
         (EndsBy w rows (ending.Done (w.count + length rows)) given new) _ _ (nothing_decided w rows) (λ _. goes w phase.Last []) (λ _. same _)
 
-    -- if the step and the state follow from `rows` and the bindings after them (`FollowsBy`), then `reads_as` computes them from some `after`
+    -- if a step and a state follow from `rows` and the bindings `rest` after them (`FollowsBy`), then for some `after`, `reads_as` computes this step and this
+    -- state
     follows_in : (w : WalkState) (rows rest : List VarBind) → FollowsBy w rows rest given new
         → (after : After) × IsCut w.root (last_name w.asked rows) rest after × Is (reads_as after w rows)
     follows_in w rows [] h = (nothing, refl, (goes w phase.Rows rows).0 h)
@@ -190,7 +191,8 @@ module _ (precedes : (o p : List ℕ) → slice_cmp nat_cmp o p ≡ Less → Pre
     next w (b ∷ more) = by_test _ (AreMisplaced w (b ∷ more)) (EndsBy w [] ending.BadReply given new) (ReadsRows w (b ∷ more) given new) _ _
         (misplaced_decided w (b ∷ more)) (λ _. same _) (λ _. reading w (b ∷ more))
 
-    -- what the bindings of a reply to a Get mean is what f computes of `got`, if it is so for each single binding
+    -- if f computes what each single binding means, and f of `None` ends the walk with `BadReply`, then f of what `got` finds in the bindings of a reply to a
+    -- Get computes what these bindings mean
     got_so : (w : WalkState) (bindings : List VarBind) (Binding : VarBind → Type 0) (f : Option VarBind → Step × WalkState)
         → f None ≡ stops w [] ending.BadReply
         → ((b : VarBind) → Binding b ↔ Is (f (Some b))) → MeansGot w bindings Binding given new ↔ Is (f (got w.asked bindings))

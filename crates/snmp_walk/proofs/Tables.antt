@@ -52,14 +52,14 @@ once (p ∷ rows) name h (inr i) =
       not_after_it = r.not_after_it;
     }
 
--- if y is in a list and isn't x, it is in the list without x
+-- if y is in a list that contains x, and y isn't x, then y is still in the list once that x is removed
 without : (prefix back : List (List ℕ)) (x y : List ℕ) → OneOf (prefix ++ x ∷ back) y → (y ≡ x → ⊥) → OneOf (prefix ++ back) y
 without [] back x y (inl e) other = absurd (other e)
 without [] back x y (inr one) other = one
 without (z ∷ prefix) back x y (inl e) other = inl e
 without (z ∷ prefix) back x y (inr one) other = inr (without prefix back x y one other)
 
--- there are at most as many sorted rows as names in any list that has each of theirs
+-- if the list `names` has the name of each of the sorted rows, there are at most as many rows as names
 pub few_names : (rows : List VarBind) (names : List (List ℕ)) → AreIncreasing rows → ((p : VarBind) → OneOf rows p → OneOf names p.name)
     → length rows ≤ length names
 few_names [] names h each = omega arith
@@ -93,7 +93,7 @@ successor_of codec view o n p (successor s) h a = s
 successor_of codec view o n p (end_of_view none is) h a =
     absurd (none h.0 h.1 (subst (Precedes o) (sym h.2) (after_precedes codec o n a)))
 
--- if the table has the name n after o, the answer to a GetNext of o has this name, or comes before it
+-- if the table has the name n, and n comes after o, then the answer to a GetNext of o has the name n or a name before n
 up_to : Codec → (view : MibView) (o n : List ℕ) (p : VarBind) → IsNext view o p → HasName view n → comes_after o n ≡ true
     → (n ≡ p.name) ⊎ (comes_after p.name n ≡ true)
 up_to codec view o n p next h a = by_order (slice_cmp nat_cmp p.name n) refl
@@ -157,7 +157,7 @@ module _ (codec : Codec) (agents : Agents) (views : AreViews agents.tables) (fir
       let rises = trail_rises Next Got laws first.root first.asked trail h in
       few_names trail names rises.1 (λ p one. let row = trail_from trail h p one in all row.0 row.1 p row.2 row.3)
 
-  -- ---- no name that all have is skipped
+  -- ---- no name that all tables have is skipped
 
   trail_has : (o n : List ℕ) (trail : List VarBind) → IsTrail Next first.root o trail → comes_after o n ≡ true
       → comes_after (last_name o trail) n ≡ false → IsInEach agents n → IsNameIn trail n
@@ -165,7 +165,7 @@ module _ (codec : Codec) (agents : Agents) (views : AreViews agents.tables) (fir
   trail_has o n (p ∷ trail) h a b each =
       elim (up_to codec h.0.0 o n p h.0.2 (each h.0.0 h.0.1) a) [ inl e ↦ inl e | inr c ↦ inr (trail_has p.name n trail h.2 c b each) ]
 
-  -- if a GetNext of o may return a binding that ends the walk, no name below the root that all tables have comes after o
+  -- for o that is the root or below it: if a GetNext of o may return a binding that ends the walk, no name below the root that all tables have comes after o
   end_before : (o u : List ℕ) → o ≡ first.root ++ u → IsAtEnd Next first.root o → (n : List ℕ) → IsBelow n first.root
       → IsInEach agents n → comes_after o n ≡ false
   end_before o u at end n below each =

@@ -40,7 +40,7 @@ EndsChain Next root last nothing = Unit {0}
 EndsChain Next root last leaving = IsAtEnd Next root last
 EndsChain Next root last (falling name) = ⊥
 
--- the rows at the start of a chain are a trail, and what follows them ends it
+-- the rows at the start of a chain are a trail, and what follows them, if anything, ends the walk
 pub record IsTrailPrefix (Next : List ℕ → VarBind → Type 0) (root o : List ℕ) (prefix : ReplyRows) : Type 0 where
   pub is_trail : IsTrail Next root o prefix.rows
   pub ends : EndsChain Next root (last_name o prefix.rows) prefix.after

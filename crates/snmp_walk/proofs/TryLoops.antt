@@ -42,7 +42,7 @@ module _ {L : Type 0} (facts : LinkFacts L) where
   received_so old room buffer new (Err e) long delivers silent fails reply same moves = grind (arith, common_steps, moves_as, moved_by)
 
 module _ {L : Type 0} (facts : LinkFacts L) (Other : List ℕ → Type 0) where
-  -- `count` receives returned datagrams that weren't the reply
+  -- `count` receives returned datagrams that weren't the reply, and took the link from `old` to `now`
   pub record IsMissing (count : ℕ) (old now : L) : Type 0 where
     pub received : List (List ℕ)
     pub are : length received ≡ count
@@ -83,7 +83,7 @@ module _ {L : Type 0} (facts : LinkFacts L) (Other : List ℕ → Type 0) (reque
     are_missed = turn_more (IsTry facts Other request outcome.missed) old now new before.received strays before.are_missed missed;
   }
 
-  -- if the last try didn't miss the reply, the request was tried with its outcome
+  -- if `count` tries, fewer than `tries`, missed the reply, and one more ended with another outcome, then the request had this outcome (`AreTried`)
   pub tried_so : (count tries : ℕ) (old now new : L) (what : Outcome) (strays : List (List ℕ)) → what ≢ outcome.missed → count < tries
       → AreMissed facts Other request count old now → IsTry facts Other request what now strays new → AreTried facts Other request tries old what new
   tried_so count tries old now new outcome.missed strays other few before h = absurd (other refl)

@@ -31,7 +31,7 @@ rising_entries [] h = tt
 rising_entries (e ∷ es) h = let p = and_parts (below_all (slice_cmp nat_cmp) e.0 es) (is_sorted (slice_cmp nat_cmp) es) h in
     (after_entries e.0 es p.0, rising_entries es p.1)
 
--- if the rows come after o, then so does each of them
+-- if the names of all rows come after o (`AreAfter`), the name of each row p does
 pub one_after : (o : List ℕ) (rows : List VarBind) (p : VarBind) → AreAfter o rows → OneOf rows p → comes_after o p.name ≡ true
 one_after o [] p h one = absurd one
 one_after o (q ∷ rows) p h (inl e) = ap (λ (b : VarBind). comes_after o b.name) e ∙ h.0
@@ -64,7 +64,7 @@ tie_is q x e = same_text q x (sym e ∙ sym (texts_ties q x))
 tie_self : (q : List ℕ) → eq_by_cmp (slice_cmp nat_cmp) q q ≡ true
 tie_self q = ap is_eq (tied_itself nat_list_cmp_total q)
 
--- if a search finds a value, the list contains the binding
+-- if a search for the name q finds the value v, then the binding of q and v is in the list
 found_in : (q : List ℕ) (v : Datum) (es : List (List ℕ × Datum)) → find (slice_cmp nat_cmp) q es ≡ Some v → OneOf (map binding_of es) (binding_of (q, v))
 found_in q v [] h = absurd cc
 found_in q v (e ∷ es) h =
@@ -76,7 +76,7 @@ found_in q v (e ∷ es) h =
 no_tie : (q x : List ℕ) → comes_after x q ≡ true → eq_by_cmp (slice_cmp nat_cmp) q x ≡ false
 no_tie q x after = false_from_ne_true (eq_by_cmp (slice_cmp nat_cmp) q x) (λ tie. not_itself x q after (tie_is q x tie))
 
--- if a sorted list contains the binding, a search finds its value
+-- if the binding p is in a sorted list, a search for its name finds its value
 in_found : (p : VarBind) (es : List (List ℕ × Datum)) → is_sorted (slice_cmp nat_cmp) es ≡ true → OneOf (map binding_of es) p
     → find (slice_cmp nat_cmp) p.name es ≡ Some p.value
 in_found p [] h i = absurd i
@@ -94,7 +94,7 @@ none_named o [] h = refl
 none_named o (q ∷ rows) h =
     cond-false _ (q ∷ rows_named o rows) (rows_named o rows) (other_name o q (h q (inl refl))) ∙ none_named o rows (λ p i. h p (inr i))
 
--- of sorted rows, those with the name of one of them are only that one
+-- if p is one of the sorted rows, then p is the only row with its name
 one_named : (p : VarBind) (rows : List VarBind) → AreIncreasing rows → OneOf rows p → rows_named p.name rows ≡ p ∷ []
 one_named p [] h i = absurd i
 one_named p (q ∷ rows) h (inl same) =

@@ -4,7 +4,7 @@ use Rattle.snmp_walk.specs.declared.arena.Span.{Span}
 
 pub record Store : Type 0 where
   pub datagrams : List (List ℕ)
-  -- for how many more datagrams, and how many more octets, memory is reserved
+  -- the numbers of further datagrams and of further octets for which memory is reserved
   pub free_spans : ℕ
   pub room : ℕ
 

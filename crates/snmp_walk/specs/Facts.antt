@@ -22,14 +22,15 @@ use Rattle.snmp_walk.specs.Room.{HasRoomForAll}
 use Rattle.snmp_walk.specs.Tables.{IsOfWalk, AreFromTables, IsInEach, OccursOnce, CountsNames}
 use Rattle.snmp_walk.specs.Tables.{HasRoomInEach, HasIdsFor}
 
--- a walk that has taken no reply yet, and that begins at its root or at a name below it
+-- w is the state of a walk in its first phase that has passed on nothing, and the name in its
+-- request is its root or a name below the root
 pub record IsFresh (w : WalkState) : Type 0 where
   pub phase : w.phase ≡ first_phase w.mode
   pub count : w.count ≡ 0
   pub begins : (s : List ℕ) × (w.asked ≡ w.root ++ s)
 
--- The last datagrams sent are the request of w: at least one unless the link failed, and exactly
--- `tries` if no reply arrived.
+-- The list of the datagrams sent ends with the request of w, `times` times: at least once unless
+-- the walk ended with `Link`, and exactly `tries` times if it ended with `NoResponse`.
 pub record IsLastSent (tries : ℕ) (end : WalkEnd) (new : Traffic) (w : WalkState) : Type 0 where
   pub earlier : List (List ℕ)
   pub times : ℕ
@@ -46,10 +47,10 @@ pub record Reading : Type 0 where
 abbrev pub rows_read : List Reading → List VarBind
 rows_read readings = flat_map (λ r. r.rows) readings
 
--- The walk read these datagrams, in order, as these rows, and its state went from v to w. Each
--- datagram answered the request that waited then, and the link went from one state to the next,
--- from `old` to `new`. `Tried` says what came of a request over the link. `IsWalkState` holds of
--- each state in which the walk waited for one of these datagrams.
+-- The walk read the datagrams of these readings, in order, as their rows. This took the walk from
+-- state v to w, and the link from `old` to `new`. Each datagram answered the request that waited
+-- then. `Tried u l outcome m` says that the request of u had this outcome and took the link from l
+-- to m. `IsWalkState` holds of each state in which the walk waited for one of these datagrams.
 abbrev pub AreRead : {L : Type 0} → (Tried : WalkState → L → Outcome → L → Type 0) → WalkState → L
     → List Reading → WalkState → L → Type 0
 AreRead {L} Tried v old [] w new = (w ≡ v) × (new ≡ old)
@@ -57,17 +58,18 @@ AreRead {L} Tried v old (r ∷ more) w new =
     IsWalkState v × (u : WalkState) × (between : L) × Tried v old (answered r.datagram) between
     × MeansBy v r.datagram (step.Rows r.rows) u × AreRead Tried u between more w new
 
--- The walk that began as `first` passed on exactly the rows that it read in the replies to its
--- requests. These took the link from `old` to `new`, and the walk to state w.
+-- The walk that began as `first`, over the link in state `old`, passed on `given`: exactly the
+-- rows that it read in the replies to its requests. After these replies, the walk is in state w
+-- and the link in state `new`.
 pub record HasRead {L : Type 0} (Tried : WalkState → L → Outcome → L → Type 0) (first : WalkState)
     (old : L) (w : WalkState) (new : L) (given : List VarBind) : Type 0 where
   pub readings : List Reading
   pub rows : given ≡ rows_read readings
   pub are_read : AreRead Tried first old readings w new
 
--- The last request of the walk that began as `first`, over the link in state `old`, had this
--- outcome. The walk had passed on all of `rows` but `more`, and sent the request in state w, the
--- link being in state `now`. `Sent` says how the request was sent.
+-- The walk that began as `first`, over the link in state `old`, sent its last request in state w.
+-- This request had this outcome, and took the link from `now` to `new`. Before it, the walk had
+-- passed on all of `rows` but `more`. `Sent w` says how the request was sent.
 pub record IsAskedLast {L : Type 0} (Tried : WalkState → L → Outcome → L → Type 0)
     (Sent : WalkState → Type 0) (first : WalkState) (old : L) (rows : List VarBind) (new : L)
     (outcome : Outcome) (w : WalkState) (more : List VarBind) : Type 0 where
@@ -81,14 +83,17 @@ pub record IsAskedLast {L : Type 0} (Tried : WalkState → L → Outcome → L �
   pub sent : Sent w
   pub tried : Tried w now outcome new
 
--- the reply to the last request is read as the last rows and this end
+-- `Asked outcome w more` says that the last request was sent in state w and had this outcome, and
+-- that `more` are the rows passed on after it. The reply to that request is read as the rows `more`
+-- and this end.
 abbrev pub IsReadSo : (Asked : Outcome → WalkState → List VarBind → Type 0) → WalkEnd → Type 0
 IsReadSo Asked end =
     (datagram : List ℕ) × (w : WalkState) × (more : List VarBind) × Asked (answered datagram) w more
     × (over : WalkState) × MeansBy w datagram (step.Last more end) over
 
--- the reply to the last request is read as the last rows passed on, then the one that the sink
--- refused, and perhaps more
+-- `Asked outcome w more` says that the last request was sent in state w and had this outcome, and
+-- that `more` are the rows passed on after it. The reply to that request is read as the rows
+-- `more`, then the row that the sink refused, and perhaps others.
 abbrev pub IsRefusedSo : (Asked : Outcome → WalkState → List VarBind → Type 0)
     → (refused : List VarBind) → Type 0
 IsRefusedSo Asked refused =
@@ -96,9 +101,10 @@ IsRefusedSo Asked refused =
     × (read : Step) × (over : WalkState) × (left : List VarBind) × MeansBy w datagram read over
     × (rows_in read ≡ more ++ (refused ++ left))
 
--- Why a walk ended, whatever the link delivered. `Asked` says what came of its last request. A
--- reply was read as this end; no reply arrived, or the link failed; or the sink refused a row of
--- the reply. A request of a walk is never too long.
+-- Why a walk ended, whatever the link delivered. `Asked outcome w more` says that the last request
+-- was sent in state w and had this outcome, and that `more` are the rows passed on after it. The
+-- walk ended because a reply was read as this end, no reply arrived, the link failed, or the sink
+-- refused a row of the reply. A request of a walk is never too long.
 abbrev pub IsEndOfRun : (Asked : Outcome → WalkState → List VarBind → Type 0)
     → (refused : List VarBind) → WalkEnd → Type 0
 IsEndOfRun Asked refused ending.RequestTooLong = ⊥
@@ -107,9 +113,9 @@ IsEndOfRun Asked refused ending.Link = (w : WalkState) × Asked cut_off w []
 IsEndOfRun Asked refused (ending.Sink fault) = IsRefusedSo Asked refused
 IsEndOfRun Asked refused why = IsReadSo Asked why
 
--- What is promised of a walk over any link, which it took from `old` to `new`: the names of the
--- rows passed on, and then of the one that was refused, increase; a walk that is done has counted
--- the rows; and each end has its reason.
+-- What is promised of a walk that took any link from `old` to `new`, passed on `rows`, and perhaps
+-- had one more row refused. The names of these rows increase. If the walk is done, its end holds
+-- the number of `rows`. The end has its reason in the outcome of the last request (`IsEndOfRun`).
 pub record EndFacts {L : Type 0} (Tried : WalkState → L → Outcome → L → Type 0)
     (Sent : WalkState → Type 0) (first : WalkState) (old : L) (rows refused : List VarBind)
     (end : WalkEnd) (new : L) : Type 0 where
@@ -118,9 +124,9 @@ pub record EndFacts {L : Type 0} (Tried : WalkState → L → Outcome → L → 
   pub reason : IsEndOfRun (IsAskedLast Tried Sent first old rows new) refused end
 
 -- How a walk can end over an honest link, after these rows. The link and the sink may end it at
--- any time. Otherwise it waited in state w for the reply that ended it. That reply had none of the
--- rows if it was an error or had no bindings, and otherwise the last ones (`more`). If no reply
--- arrived, `Silent` holds of w.
+-- any time. Otherwise it waited in state w for a reply. If none arrived, `Silent` holds of w. If
+-- the reply was an error or had no bindings, all of the rows were passed on before it. Any other
+-- reply had the last of the rows (`more`), perhaps none.
 abbrev pub IsLawfulEnd : Agents → (WalkState → Type 0) → WalkState → List VarBind → WalkEnd → Type 0
 IsLawfulEnd agents Silent first rows ending.Link = Unit {0}
 IsLawfulEnd agents Silent first rows (ending.Sink fault) = Unit {0}
@@ -149,9 +155,9 @@ DeliversNoRows ending.NoResponse rows = rows ≡ []
 DeliversNoRows ending.Link rows = rows ≡ []
 DeliversNoRows _ rows = Unit {0}
 
--- How a walk ended over an honest link, by its last request. In state w, it had passed on `given`
--- and waited for the reply to that request. The rows that it passed on then, `more`, are of that
--- reply. `ends` and `silent` say of this w what `IsLawfulEnd` says of some state.
+-- How a walk over an honest link ended. Once it had passed on `given`, it sent its last request in
+-- state w. It passed on `more` from the reply to this request, or nothing if no reply arrived.
+-- `ends` and `silent` say of this w what `IsLawfulEnd` says of some state.
 pub record IsEndedBy (agents : Agents) (Silent Sent : WalkState → Type 0) (first : WalkState)
     (rows : List VarBind) (end : WalkEnd) : Type 0 where
   pub w : WalkState
@@ -167,8 +173,8 @@ pub record IsEndedBy (agents : Agents) (Silent Sent : WalkState → Type 0) (fir
   pub silent : end ≡ ending.NoResponse → Silent w
   pub sent : Sent w
 
--- The last datagrams sent are the request of w, once for each try. One of the agents has no reply
--- to it, or the last deliveries used lost the reply.
+-- The list of the datagrams sent ends with the request of w, `tries` times. One of the agents has
+-- no reply to this request, or the last deliveries that were used lost the reply (`Lost`).
 pub record HasNoReply (agents : Agents) (tries : ℕ) (old new : Traffic)
     (w : WalkState) : Type 0 where
   pub earlier : List (List ℕ)
@@ -182,8 +188,8 @@ pub record HasNoReply (agents : Agents) (tries : ℕ) (old new : Traffic)
 abbrev pub HasNone : Agents → WalkState → Type 0
 HasNone agents w = IsUnanswered agents (canon (request_of w))
 
--- what the walk returns of one table; `got` is the result of a Get of the name that the walk
--- begins from
+-- what the walk that begins as `first` returns if the agent's table is `view`; `got` is the result
+-- of a Get of the name that the walk begins from
 abbrev pub walk_at : WalkState → MibView → VarBind → List VarBind
 walk_at first view got = walk_from first.mode first.root first.asked got (variables view)
 
@@ -208,9 +214,10 @@ IsDoneOrCutOff why = IsDoneOrStopped why
 -- one. If no reply arrived, `Silent` holds of the state that waited.
 pub record ReplyFacts (agents : Agents) (Silent : WalkState → Type 0) (first : WalkState)
     (rows refused : List VarBind) (end : WalkEnd) : Type 0 where
-  -- Each row is the next instance, in one of the tables, after the name before it. A walk that
-  -- includes its root returns the root's own instance first, if there is one. Instead of any rows,
-  -- a plain walk may return the result of a Get of its root.
+  -- Each row is, in one of the tables, the next instance after the name of the row before it; the
+  -- first row, after the name that the walk begins from. A walk that includes its root returns the
+  -- root's own instance before these, if there is one. Instead of any rows, a plain walk may
+  -- return the result of a Get of its root.
   pub part : IsPartOfWalk (IsNextFrom agents) (IsGotFrom agents) first (rows ++ refused)
   -- the link and the sink may stop it at any time; each other end has its reason
   pub lawful : IsLawfulEnd agents Silent first rows end
@@ -222,8 +229,9 @@ pub record ReplyFacts (agents : Agents) (Silent : WalkState → Type 0) (first :
   pub all_at_done : (view : MibView) (got : VarBind) → agents.tables ≡ view ∷ []
       → IsGet view first.asked got → IsDone end
       → rows ≡ walk_at first view got
-  -- With one table, a walk without a Get of its root returns the rows after the name that it
-  -- begins from: a prefix of them, and all of them if it is done.
+  -- With one table, in a walk without a Get of its root, `rows` and `refused` are a prefix of the
+  -- rows below the root that come after the name that the walk begins from. If the walk is done,
+  -- `rows` are all of these.
   pub rest_beginning : (view : MibView) → agents.tables ≡ view ∷ [] → first.mode ≡ mode.NoLast
       → (more : List VarBind)
       × (rest_of first.root first.asked (variables view) ≡ (rows ++ refused) ++ more)
@@ -252,8 +260,8 @@ pub record ReplyFacts (agents : Agents) (Silent : WalkState → Type 0) (first :
 -- took `rows` and then refused the binding in `refused`, if there is one.
 pub record WalkFacts (agents : Agents) (tries : ℕ) (old : Traffic) (first : WalkState)
     (rows refused : List VarBind) (end : WalkEnd) (new : Traffic) : Type 0 where
-  -- each reply that was read is a reply of one of the agents to the waiting request; if no reply
-  -- arrived, one of the agents has no reply to it, or the deliveries lost the reply
+  -- what holds of a walk that reads only replies of its agents; if no reply arrived, one of the
+  -- agents has none to the last request, or the deliveries lost the reply (`HasNoReply`)
   pub given : ReplyFacts agents (HasNoReply agents tries old new) first rows refused end
   -- the walk ended by what came of the request sent last
   pub last_request : IsEndedBy agents (HasNoReply agents tries old new) (IsLastSent tries end new)

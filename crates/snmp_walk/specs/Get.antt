@@ -32,13 +32,13 @@ get_request community id names = record {
   bindings = asked_names names;
 }
 
--- the bindings have exactly the wire forms of these names, in order, and none is endOfMibView
+-- the names of the bindings are the wire forms of `names`, in order, and no value is endOfMibView
 pub record AreFor (names : List (List ℕ)) (bindings : List VarBind) : Type 0 where
   pub named : map wire names ≡ map (λ p. p.name) bindings
   pub values : (p : VarBind) → OneOf bindings p → p.value ≢ end_of_mib_view
 
--- What a reply means to a Get of these names. If it has no error status and its bindings are for
--- the names, all of them are passed on. Otherwise it ends the Get without them.
+-- What the reply m means to a Get of these names. If m has no error status and its bindings are for
+-- the names (`AreFor`), they are passed on. Otherwise the Get ends, and none is passed on.
 abbrev pub MeansToGet : List (List ℕ) → Message → Result (List VarBind) WalkEnd → Type 0
 MeansToGet names m (Ok rows) = (m.a ≡ pos 0) × AreFor names m.bindings × (rows ≡ m.bindings)
 MeansToGet names m (Err end) =
@@ -51,9 +51,9 @@ pub record WaitingGet : Type 0 where
   pub community : List ℕ
   pub id : ℕ
 
--- m is the reply to the Get's request, and the datagram that answered the request (`Tried`)
--- encodes it. m is a Response with the request's community and id and, over an honest link, the
--- Response of one of the agents to the request.
+-- A datagram that answered the Get's request (`Tried`) encodes m. m is a Response with this
+-- community and request-id. If `honest` holds, the agents have this community, and m is the
+-- Response of one of them to the request.
 abbrev pub IsDelivered : (Tried : Outcome → Type 0) → Agents → (honest : Type 0) → List ℕ → ℕ
     → List (List ℕ) → Message → Type 0
 IsDelivered Tried agents honest community id names m =
@@ -99,8 +99,8 @@ pub record IsTooBig (agents : Agents) (request : Message) (names : List (List �
   pub no_room : Fits agents.max_size (response request (pos 0) (pos 0) all) → ⊥
 
 -- How a Get can end. `Fails` says which error statuses a reply can have, `Bad` that a reply
--- without an error can have other bindings than those for the names, and `Silent` that it can fail
--- to arrive.
+-- without an error can have other bindings than those for the names, and `Silent` that perhaps no
+-- reply arrives.
 abbrev pub IsEndOfGet : (Fails : ℤ → ℤ → Type 0) → (Bad Silent : Type 0) → Message
     → List (List ℕ) → WalkEnd → Type 0
 IsEndOfGet Fails Bad Silent request names (ending.Done count) = count ≡ length names
@@ -113,22 +113,23 @@ IsEndOfGet Fails Bad Silent request names ending.Link = Unit {0}
 IsEndOfGet Fails Bad Silent request names (ending.Sink fault) = Unit {0}
 IsEndOfGet Fails Bad Silent request names _ = ⊥
 
--- What holds over any link: the bindings passed on, and then the one that was refused, have the
--- wire forms of the names asked for, from the first on, and of all of them if the Get is done.
+-- What holds of a Get over any link. The names of the bindings passed on, and of the one refused,
+-- if any, are in order the wire forms of the first names asked for. If the Get is done, they are
+-- the wire forms of all names asked for, and none was refused.
 pub record AreForNames (request : Message) (names : List (List ℕ)) (given refused : List VarBind)
     (end : WalkEnd) : Type 0 where
   pub left : List (List ℕ)
   pub named : map wire names ≡ map (λ p. p.name) (given ++ refused) ++ left
   pub whole : IsDone end → (left ≡ []) × (refused ≡ [])
   pub ends : IsEndOfGet (λ _ _. Unit {0}) (Unit {0}) (Unit {0}) request names end
-  -- without names the Get is done, and a request that is longer than a datagram ends it
+  -- without names, the Get is done; with names, it ends if its request is too long for a datagram
   pub no_names : names ≡ [] → IsDone end
   pub too_long : names ≢ [] → 65507 < length (canon request) → end ≡ ending.RequestTooLong
 
--- Why a Get of names ended, whatever the link delivered. `Tried` says what came of its request,
--- and `From` that a message is the reply to it. The Get ended as that reply says; or because the
--- sink refused a binding of the reply, no reply arrived, or the link failed; or it sent nothing,
--- since its request would be too long.
+-- Why a Get of names ended, whatever the link delivered. `Tried outcome` says that its request had
+-- this outcome, and `From m` that m is the reply to it. The Get ended as that reply says, or
+-- because the sink refused a binding of the reply. Or nothing was passed on, since no reply
+-- arrived, the link failed, or the request would be too long.
 abbrev pub IsReasonOfGet : (Tried : Outcome → Type 0) → (From : Message → Type 0)
     → (names : List (List ℕ)) → (given refused : List VarBind) → WalkEnd → Type 0
 IsReasonOfGet Tried From names given refused (ending.Done count) =
@@ -163,7 +164,7 @@ pub record GotFacts (agents : Agents) (request : Message) (names : List (List �
 -- took `rows` and then refused the binding in `refused`, if there is one.
 pub record GetFacts (agents : Agents) (tries : ℕ) (old : Traffic) (request : Message) (names : List
     (List ℕ)) (rows refused : List VarBind) (end : WalkEnd) (new : Traffic) : Type 0 where
-  -- a reply that was read is a reply of one of the agents to the request
+  -- what holds of a Get that reads only a reply of one of the agents to its request
   pub given : GotFacts agents request names rows refused end
   -- if no reply arrived, each try sent the request, and one of the agents has no reply to it, or
   -- the deliveries lost the reply

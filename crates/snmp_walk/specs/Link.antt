@@ -58,7 +58,7 @@ abbrev pub IsReplyFrom : Agents → List ℕ → List ℕ → Type 0
 IsReplyFrom agents datagram reply = (view : MibView) × OneOf agents.tables view
     × IsReply (agent_in agents view) datagram reply
 
--- one of the agents has no reply to `datagram`, which it drops
+-- one of the agents drops `datagram`, and so has no reply to it
 pub record IsUnanswered (agents : Agents) (datagram : List ℕ) : Type 0 where
   pub view : MibView
   pub one : OneOf agents.tables view

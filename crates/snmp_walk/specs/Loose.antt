@@ -25,7 +25,8 @@ pub record AsksForOne (q : Message) : Type 0 where
 abbrev pub general_error : ℤ
 general_error = pos 5
 
--- the Response to q if its first variable can't be read, with the bindings of q (4.2.1 to 4.2.3)
+-- the Response to q with genErr for its first variable, and with the bindings of q (RFC 3416,
+-- sections 4.2.1 to 4.2.3)
 abbrev pub failed : Message → Message
 failed q = response q general_error (pos 1) q.bindings
 
@@ -33,8 +34,8 @@ failed q = response q general_error (pos 1) q.bindings
 abbrev pub with_repetitions : ℕ → Message → Message
 with_repetitions n q = record q { b = pos n }
 
--- `longer` is the element `reply` with its length in five octets, by the long form (X.690,
--- 8.1.3.5)
+-- `longer` is the SEQUENCE `reply`, but with its length encoded in five octets, by the long form
+-- (X.690, 8.1.3.5)
 pub record IsLengthened (reply longer : List ℕ) : Type 0 where
   pub content : List ℕ
   pub same : IsElement sequence_tag content reply
@@ -44,8 +45,8 @@ pub record IsLengthened (reply longer : List ℕ) : Type 0 where
   pub are_octets : AreOctets size
   pub parts : longer ≡ sequence_tag ∷ size ++ content
 
--- In this way, `octets` are sent in place of `reply`, the agent's reply to q, if q asks for one
--- name. `Whole` replaces nothing. `GenErr` sends the error genErr, if it fits. `Fewer n` sends the
+-- q asks for one name, and in this way the agent sends `octets` in place of `reply`, its own reply
+-- to q. `Whole` replaces nothing. `GenErr` sends the error genErr, if it fits. `Fewer n` sends the
 -- reply to q with n repetitions, or 1 if n is 0, if q is a GetBulk for more. `LongLength` sends
 -- `reply` in another encoding, if there is room for four octets more.
 abbrev pub Replaces : Agent → Way → (q : Message) → (reply octets : List ℕ) → Type 0
@@ -57,8 +58,8 @@ Replaces agent (way.Fewer n) q reply octets = AsksForOne q × (q.kind ≡ kind.G
 Replaces agent way.LongLength q reply octets = AsksForOne q × (length reply + 4 ≤ agent.max_size)
     × IsLengthened reply octets
 
--- In this way, the agent sends `octets` in reply to the datagram: what replaces its reply, or the
--- reply if nothing does.
+-- In the way `way`, the agent sends `octets` in reply to the datagram: what replaces its own reply,
+-- or that reply if nothing does.
 pub record IsSentIn (agent : Agent) (way : Way) (datagram octets : List ℕ) : Type 0 where
   pub request : Message
   pub encoded : Spells request datagram
@@ -85,7 +86,8 @@ last_sent link = link.request.items
 abbrev pub ways_left : LooseLink → List Way
 ways_left link = drop link.used link.ways.now
 
--- `next` is the next way, and `left` are those after it; after the last, each way is `Whole`
+-- `next` is the first of the ways, and `left` are the others; if there are none, `next` is `Whole`
+-- and `left` is empty
 abbrev pub IsNextWay : List Way → Way → (left : List Way) → Type 0
 IsNextWay [] next left = (next ≡ way.Whole) × (left ≡ [])
 IsNextWay (first ∷ more) next left = (next ≡ first) × (left ≡ more)
@@ -97,13 +99,14 @@ pub record IsUnchanged (old new : LooseLink) : Type 0 where
   pub last : last_sent new ≡ last_sent old
   pub ways : ways_left new ≡ ways_left old
 
--- a send stores `datagram` in place of the one before
+-- a send stores `datagram` in place of the one sent before; the agent and the ways left are
+-- unchanged
 pub record IsSentOver (old : LooseLink) (datagram : List ℕ) (new : LooseLink) : Type 0 where
   pub agent : agent_at new ≡ agent_at old
   pub last : last_sent new ≡ datagram
   pub ways : ways_left new ≡ ways_left old
 
--- a receive uses the next way and changes nothing else
+-- a receive uses the next way, `used`; the agent and the datagram sent last are unchanged
 pub record UsesWay (old : LooseLink) (used : Way) (new : LooseLink) : Type 0 where
   pub agent : agent_at new ≡ agent_at old
   pub last : last_sent new ≡ last_sent old

@@ -1,6 +1,7 @@
--- A network in memory neither invents nor alters datagrams (`faithful_in_memory`). Once it is
--- prompt it stays so (`still_prompt_in_memory`), and a receive of the walk returns the agent's
--- reply, or nothing if there is none, or fails (`prompt_in_memory`). For proofs.
+-- A network in memory neither invents nor alters datagrams (`faithful_in_memory`). Once no
+-- delivery is left (`IsPrompt`), it stays so (`still_prompt_in_memory`), and a receive of the walk
+-- returns the agent's reply, or nothing if there is none, or fails (`prompt_in_memory`). For
+-- proofs.
 use Rattle.std.specs.Prelude.{◌≡◌, ◌⊎◌, ◌+◌, ℕ, zero, suc, List, [], ◌∷◌, ◌++◌, length, map}
 use Rattle.std.specs.Prelude.{Option, Some, None, flat_map}
 use Rattle.std.specs.List.{AllByRecursion, slice_get}

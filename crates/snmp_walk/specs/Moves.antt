@@ -9,8 +9,8 @@ octets_in [] = 0
 octets_in (datagram ∷ more) = length datagram + octets_in more
 
 -- The datagrams `tried` were passed to sends, in order. The list of the datagrams sent was
--- `before`. Now it is `after`, with the datagrams `tried` at its end: all of them or, if `failed`
--- holds, perhaps all but the last.
+-- `before`. Now it is `after`: `before` followed by all of `tried` or, if `failed` holds, perhaps
+-- by all but the last.
 pub record AreSent (tried : List (List ℕ)) (failed : Type 0) (before after : List (List ℕ)) :
     Type 0 where
   pub prefix : List (List ℕ)
@@ -27,7 +27,8 @@ AreUsed ahead count left =
 
 -- Sends of the datagrams `tried`, in order, and at most `receives` receives took the link from
 -- `old` to `new`. `failed` says whether the last of these calls failed; no other did.
--- The agents and facts of the link are arguments, since the clauses of the trait itself use this.
+-- The agents and facts of the link are arguments, since the clauses of the trait `Link` use this
+-- definition.
 pub record Moves {W : Type 0} (Keeps Honest : W → Type 0) (agents_of : W → Agents)
     (traffic_of : W → Traffic) (faults_of : W → ℕ) (Ready : W → ℕ → ℕ → Type 0) (old : W)
     (tried : List (List ℕ)) (receives : ℕ) (failed : Type 0) (new : W) : Type 0 where

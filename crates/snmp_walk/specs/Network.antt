@@ -47,9 +47,9 @@ BeginWithSend (sent peer d ∷ more) = Unit {0}
 BeginWithSend (send_failed peer d ∷ more) = Unit {0}
 BeginWithSend _ = ⊥
 
--- Each datagram that arrived at the walk, and encodes a message of this sort, is the reply of one
--- of the agents to a datagram that the walk had sent, or tried to send, before, or encodes another
--- Response that one of the agents may send to such a datagram.
+-- Before each datagram r that arrived at the walk, and encodes a message m for which `Sort m`
+-- holds, the walk had sent, or tried to send, a datagram d. r is the reply of one of the agents to
+-- d, or m is another Response that one of them may send to d.
 abbrev pub AreRepliesOf : (Message → Type 0) → Agents → List (Event (Unit {0})) → Type 0
 AreRepliesOf Sort agents events =
     (before after : List (Event (Unit {0}))) (peer : Unit {0}) (r : List ℕ)
@@ -116,8 +116,9 @@ event_of_got (Ok (Some n)) buffer = came tt (take n buffer)
 event_of_got (Ok None) buffer = silence
 event_of_got (Err _) buffer = receive_failed
 
--- A receive of the walk returned the agent's reply to this datagram; or nothing, since the agent
--- drops the datagram or there is none; or it failed. Of a send, this says nothing.
+-- If the event is a receive of the walk, it returned the agent's reply to `request`; or nothing,
+-- since the agent drops `request` or there is no request; or it failed. If the event is a send,
+-- this always holds.
 abbrev pub RepliesTo : Agent → (request : Option (List ℕ)) → Event (Unit {0}) → Type 0
 RepliesTo agent request (came peer r) = (d : List ℕ) × (request ≡ Some d) × IsReply agent d r
 RepliesTo agent request silence = (request ≡ None)

@@ -18,7 +18,7 @@ IsAtOrBelow name root = (name ≡ root) ⊎ IsBelow name root
 abbrev pub IsUnsendable : List ℕ → Type 0
 IsUnsendable name = IsWire (wire name) → ⊥
 
--- a walk below `root` can be resumed after `name`: this is `root` or below it, and has an encoding
--- without being padded
+-- a walk below `root` can be resumed after `name`: `name` is `root` or below it, and has an
+-- encoding without being padded
 abbrev pub IsResumable : (root name : List ℕ) → Type 0
 IsResumable root name = (wire name ≡ name) × IsWire name × IsAtOrBelow name root

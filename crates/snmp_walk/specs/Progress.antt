@@ -16,7 +16,8 @@ use Rattle.snmp_walk.specs.declared.mode.Phase.TheVariants as phase
 use Rattle.snmp_walk.specs.declared.end.WalkEnd.TheVariants as ending
 use Rattle.snmp_walk.specs.declared.rows.Step.TheVariants as step
 
--- agents may return for o (`Answer`) a binding that has no room (`Large`)
+-- there is a binding p that agents may return for the name o (`Answer o p`), and for which a reply
+-- has no room (`Large p`)
 abbrev pub IsLarge : (List ℕ → VarBind → Type 0) → (VarBind → Type 0) → List ℕ → Type 0
 IsLarge Answer Large o = (p : VarBind) × Answer o p × Large p
 
@@ -157,7 +158,7 @@ abbrev pub CountsAll : WalkEnd → List VarBind → Type 0
 CountsAll (ending.Done n) given = n ≡ length given
 CountsAll _ given = Unit {0}
 
--- each binding is one that a GetNext of the name before it, at first o, may return
+-- a GetNext of o may return the first binding, and a GetNext of each binding's name the next one
 abbrev pub IsChain : (List ℕ → VarBind → Type 0) → List ℕ → List VarBind → Type 0
 IsChain Next o [] = Unit {0}
 IsChain Next o (p ∷ more) = Next o p × IsChain Next p.name more

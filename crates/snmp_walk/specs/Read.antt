@@ -22,9 +22,9 @@ abbrev pub heard_after : Step → Heard
 heard_after (step.Last rows why) = heard.ends why
 heard_after _ = heard.goes_on
 
--- The rows of a step were given to the sink, which went from `before` to `after`: all of them, or
--- those up to the first that it refused. `what` says whether the walk or the Get continues then,
--- or how it ends.
+-- The rows of a step were passed to the sink, which went from `before` to `after`. It took all of
+-- them, or it took the first ones, perhaps none, and refused the next. `what` says whether the
+-- walk or the Get continues then, or how it ends.
 pub data Delivers {S : Type 0} (takes : S → VarBind → Result (Unit {0}) SinkFault → S → Type 0)
     (given : Step) (before : S) (what : Heard) (after : S) : Type 0 where
   all_taken : what ≡ heard_after given → TakesAll takes before (rows_in given) after
@@ -47,8 +47,10 @@ pub record IsReadAs {W S : Type 0} (datagram : List ℕ) (community : List ℕ) 
   pub read : reads message given new
   pub delivered : Delivers takes given before what after
 
--- What a call that waits for a reply returns, by what came of the request. If the reply arrived,
--- `IsReadSo` holds of it and of the result. If none did, or the link failed, `Same` holds.
+-- The result of a call that waits for a reply, by the outcome `what` of the request. If a datagram
+-- answered the request, the result is `Some`, and `IsReadSo` holds of the datagram and of what is
+-- returned. If the reply was missed, it is `None`; if the link failed, an error. In the last two
+-- cases `Same` holds.
 abbrev pub Tells : {X E : Type 0} → (IsReadSo : List ℕ → X → Type 0) → (Same : Type 0)
     → Result (Option X) E → Outcome → Type 0
 Tells IsReadSo Same (Ok (Some x)) what = (datagram : List ℕ) × (what ≡ answered datagram)

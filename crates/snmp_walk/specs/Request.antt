@@ -11,8 +11,8 @@ use Rattle.snmp_walk.specs.declared.mode.Method.{Method}
 use Rattle.snmp_walk.specs.declared.mode.Method.TheVariants as method
 use Rattle.snmp_walk.specs.declared.mode.Phase.TheVariants as phase
 
--- A walk that includes its root begins with a Get of it, and any other with a request for the next
--- instances.
+-- the phase in which a walk of this mode begins: a Get of its root if the walk includes the root,
+-- and otherwise a request for the next instances
 abbrev pub first_phase : Mode → Phase
 first_phase mode.Include = phase.First
 first_phase _ = phase.Rows
@@ -48,7 +48,8 @@ abbrev pub asked_for : Method → ℕ
 asked_for method.Next = 1
 asked_for (method.Bulk repetitions) = unsigned_abs repetitions
 
--- the kind of the waiting request: by the method for the next instances, otherwise a Get
+-- the kind of the waiting request: GetNext or GetBulk, by the method, if the request is for the
+-- next instances, and Get otherwise
 abbrev pub request_kind : Phase → Method → Kind
 request_kind phase.Rows method.Next = kind.GetNextRequest
 request_kind phase.Rows (method.Bulk repetitions) = kind.GetBulkRequest

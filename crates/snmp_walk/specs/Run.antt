@@ -10,8 +10,8 @@ use Rattle.snmp_walk.specs.declared.mode.Phase.TheVariants as phase
 use Rattle.snmp_walk.specs.Request.{asked_for, request_of}
 use Rattle.std.specs.List.{list_any}
 
--- A request of a walk, by the walk's state, and how many times it was sent, or passed to a send
--- (`IsMovedByRequests`).
+-- A request of a walk: the state `by` in which the walk sent it, and how many times it was sent or,
+-- in `IsMovedByRequests`, passed to a send.
 pub record Try : Type 0 where
   pub by : WalkState
   pub times : ℕ
@@ -30,9 +30,10 @@ abbrev pub IsNameIn : List VarBind → List ℕ → Type 0
 IsNameIn [] name = ⊥
 IsNameIn (p ∷ rows) name = (name ≡ p.name) ⊎ IsNameIn rows name
 
--- A Get asks for the name that the walk begins from: the first request of a walk that includes its
--- root, and the last one of a plain walk. Any other request asks from that name, or from the name
--- of a row that was passed on.
+-- What the request sent in state `by`, of this phase, asks for, if the walk that began as `first`
+-- passes on `rows`. A Get asks for the name that the walk begins from. It is the first request of
+-- a walk that includes its root, or the last one of a plain walk. Any other request asks from that
+-- name, or from the name of one of the rows.
 abbrev pub AsksFor : WalkState → List VarBind → Phase → WalkState → Type 0
 AsksFor first rows phase.First by = (by.asked ≡ first.asked) × (first.mode ≡ mode.Include)
     × (by.id ≡ first.id)

@@ -7,7 +7,8 @@ use Rattle.snmp_walk.specs.{declared.end.SinkFault.SinkFault, declared.end.WalkE
 use Rattle.snmp_walk.specs.{Link.Agents, Link.AreLawful, Link.OneOf, Link.Outcome, Moved.IsMoved}
 use Rattle.snmp_walk.specs.{Moved.AreFew, Request.IsOfLowerId}
 use Rattle.snmp_walk.specs.{Moved.IsMovedByRequests, Network.AreReplies, Network.BeginWithSend}
-use Rattle.snmp_walk.specs.{Network.AreRepliesOrErrors, Sink.Took, WalkState.WalkState}
+use Rattle.snmp_walk.specs.{Network.AreRepliesOrErrors, Network.tried, Run.sent_by, Sink.Took}
+use Rattle.snmp_walk.specs.{WalkState.WalkState}
 use Rattle.snmp_walk.specs.declared.end.WalkEnd.TheVariants as ending
 use Rattle.snmp_walk.specs.declared.link.Link.{Ghosts as LinkFacts}
 use Rattle.snmp_walk.specs.Facts.{EndFacts, ReplyFacts, IsLastSent, IsReadyForAll, SendFacts, gets}
@@ -18,7 +19,7 @@ use Rattle.snmp_walk.specs.Progress.{IsPartOfWalk, Named, Increases}
 use Rattle.snmp_walk.specs.Tries.{AreTried, Happens, InTurn, IsNotAwaited, IsTried}
 
 -- A run passed the bindings `rows` to a sink, which perhaps refused one more, and ended with
--- `end`. `Facts` holds of the bindings passed and refused.
+-- `end`. `Facts` holds of `rows` and `refused`, the list of the binding refused, if any.
 pub record IsRun {S : Type 0} (takes : S → VarBind → Result (Unit {0}) SinkFault → S → Type 0)
     (before : S) (end : WalkEnd) (after : S) (Facts : (rows refused : List VarBind) → Type 0) :
     Type 0 where
@@ -37,17 +38,16 @@ abbrev pub IsHonestFrom : {W : Type 0} → LinkFacts W → (id : ℕ) → W → 
 IsHonestFrom {W} facts id link =
     facts.honest link × AreOfLowerIds (facts.traffic link).sent id
 
--- how a run ended, with an error status taken for a failure of the link
+-- the same end, but an error status is replaced by a failure of the link
 abbrev pub but_for_errors : WalkEnd → WalkEnd
 but_for_errors (ending.Fault status index) = ending.Link
 but_for_errors end = end
 
--- The events at a link, from state `link` to state `after`. If each message received is a reply of
--- one of these lawful agents to a datagram passed to a send before it, or another Response that
--- one of them may send to it, then `Given` holds of the agents and of the end (`replied`). If
--- messages with an error status, such as genErr, may have arrived too, then `Given` holds of the
--- agents and of the end with an error status taken for a failure of the link
--- (`replied_or_failed`).
+-- Events took the link from state `link` to state `after`; the first of them, if there is one, is
+-- a send. For any lawful agents, `Given` holds of the agents and of `end` if each message received
+-- is a reply of one of them to a datagram passed to a send before, or another Response that one of
+-- them may send to such a datagram (`replied`). If this is known only of the messages without an
+-- error status, `Given` holds of the agents and of `but_for_errors end` (`replied_or_failed`).
 pub record HasHappened {W : Type 0} (facts : LinkFacts W) (link after : W) (end : WalkEnd)
     (Given : Agents → WalkEnd → Type 0) : Type 0 where
   pub events : List (Event (Unit {0}))
@@ -57,14 +57,16 @@ pub record HasHappened {W : Type 0} (facts : LinkFacts W) (link after : W) (end 
   pub replied_or_failed : (agents : Agents) → AreLawful agents → AreRepliesOrErrors agents events
       → Given agents (but_for_errors end)
 
--- What is known of a walk over a link, whose state was `link` before the walk and is `after` then.
+-- What is known of a walk over a link. The link's state was `link` before the walk, and is `after`
+-- when the walk has ended.
 pub record IsWalkedOver {W : Type 0} (facts : LinkFacts W) (link after : W) (tries : ℕ)
     (first : WalkState) (given refused : List VarBind) (end : WalkEnd) : Type 0 where
   -- each binding passed on or refused has the name that the walk begins from, or is an instance
   -- below the root
   pub part : IsPartOfWalk Increases Named first (given ++ refused)
-  -- The names increase, a walk that is done has counted the rows, and each end has its reason in
-  -- what came of the requests. Each request found the link as the request before it had left it.
+  -- The names increase. If the walk is done, its end holds the number of rows. The end has its
+  -- reason in what came of the requests. Each request found the link as the request before it had
+  -- left it.
   pub ends : EndFacts (IsTried facts tries)
       (λ w. facts.records link → IsLastSent tries end (facts.traffic after) w) first link given
       refused end after
@@ -75,8 +77,8 @@ pub record IsWalkedOver {W : Type 0} (facts : LinkFacts W) (link after : W) (tri
   pub judged : IsHonestFrom facts first.id link
       → WalkFacts (facts.agents link) tries (facts.traffic link) first given refused end
       (facts.traffic after)
-  -- an honest link doesn't fail if earlier runs over it had lower ids, and it is ready for all
-  -- that is sent for k names below the root
+  -- an honest link doesn't fail if earlier runs over it had lower ids, `CountsNames` holds of k,
+  -- and the link is ready for all that a walk of k names sends
   pub ready : IsHonestFrom facts first.id link → (k : ℕ) → CountsNames (facts.agents link) first k
       → IsReadyForAll (facts.ready link) tries k → end ≢ ending.Link
   -- its requests changed the link, which failed if and only if the walk ended with `Link`
@@ -90,29 +92,34 @@ pub record IsWalkedOver {W : Type 0} (facts : LinkFacts W) (link after : W) (tri
   -- what happened over any link, and what was passed on if only replies of agents arrived
   pub happened : HasHappened facts link after end
       (λ agents why. ReplyFacts agents (λ w. Unit {0}) first given refused why)
+  -- the datagrams passed to sends in these events are the requests of `moved`, each as many times
+  -- as `moved` says
+  pub sends : tried happened.events ≡ sent_by moved.requests
 
--- what came of the request of a Get of these names, which took the link from `link` to `after`
+-- the request of a Get of these names had this outcome in at most `tries` tries, which took the
+-- link from `link` to `after`
 abbrev pub IsGetTried : {W : Type 0} → LinkFacts W → (link after : W) → (tries : ℕ)
     → (community : List ℕ) → (id : ℕ) → (names : List (List ℕ)) → Outcome → Type 0
 IsGetTried {W} facts link after tries community id names outcome =
     AreTried facts (IsNotAwaited community id) (canon (get_request community id names)) tries link
     outcome after
 
--- What is known of a Get of names over a link, whose state was `link` before the Get and is
--- `after` then.
+-- What is known of a Get of names over a link. The link's state was `link` before the Get, and is
+-- `after` when the Get has ended.
 pub record IsGotOver {W : Type 0} (facts : LinkFacts W) (link after : W) (tries : ℕ)
     (community : List ℕ) (id : ℕ) (names : List (List ℕ)) (given refused : List VarBind)
     (end : WalkEnd) : Type 0 where
   pub named : AreForNames (get_request community id names) names given refused end
-  -- if there are names, the end has its reason: what came of the request or, if it would be too
-  -- long, that nothing was sent
+  -- if there are names, the end has its reason (`IsReasonOfGet`): what came of the request; if the
+  -- request was too long, nothing was passed on
   pub reason : names ≢ [] → IsReasonOfGet (IsGetTried facts link after tries community id names)
       (IsDelivered (IsGetTried facts link after tries community id names) (facts.agents link)
       (IsHonestFrom facts id link) community id names) names given refused end
   -- without names, and if the request is too long, the link is unchanged
   pub unasked : (names ≡ []) ⊎ (end ≡ ending.RequestTooLong) → after ≡ link
-  -- over a link that lists what is sent: only the request, at most once for each try, and at least
-  -- once if it had to be sent and the link didn't fail
+  -- over a link that lists what is sent: only the request was sent, at most once for each try, all
+  -- `tries` times if no reply arrived, and at least once if it had to be sent and the link didn't
+  -- fail
   pub sent : facts.records link → (times : ℕ) × (times ≤ tries)
       × ((facts.traffic after).sent ≡ (facts.traffic link).sent
       ++ replicate times (canon (get_request community id names)))
@@ -139,3 +146,5 @@ pub record IsGotOver {W : Type 0} (facts : LinkFacts W) (link after : W) (tries 
   -- what happened over any link, and what was passed on if only replies of agents arrived
   pub happened : HasHappened facts link after end
       (λ agents why. GotFacts agents (get_request community id names) names given refused why)
+  -- the datagrams passed to sends in these events are the request, as many times as `moved` says
+  pub sends : tried happened.events ≡ replicate moved.0 (canon (get_request community id names))

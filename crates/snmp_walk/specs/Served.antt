@@ -16,7 +16,7 @@ use Rattle.snmp_walk.specs.declared.network.NetworkLink.{NetworkLink}
 abbrev pub agents_at : {N : Type 0} → NetworkLink N → Agents
 agents_at {N} link = agents_over (link.table.now ∷ []) link.config
 
--- the table and the configuration of the agent are unchanged
+-- the agent of the link has the same table, community and greatest message size
 abbrev pub SameAgent : {N : Type 0} → (old new : NetworkLink N) → Type 0
 SameAgent {N} old new =
     agent_of new.table.now new.config ≡ agent_of old.table.now old.config

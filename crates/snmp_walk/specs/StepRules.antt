@@ -32,8 +32,8 @@ pub record IsAwaitedReply (w : WalkState) (m : Message) : Type 0 where
 abbrev pub EndsBy : WalkState → List VarBind → WalkEnd → Step → WalkState → Type 0
 EndsBy w rows why given new = (given ≡ step.Last rows why) × (new ≡ record w { phase = phase.Over })
 
--- The walk passes on these rows and sends its next request, of phase `next`. That has the next id,
--- and the name of the last row or, if there are no rows, the same name as before.
+-- The walk passes on these rows and sends its next request, of phase `next`. The request has the
+-- next id, and the name of the last row or, if there are no rows, the same name as before.
 abbrev pub AsksOn : WalkState → Phase → List VarBind → Step → WalkState → Type 0
 AsksOn w next rows given new =
     (given ≡ step.Rows rows)
@@ -44,8 +44,8 @@ AsksOn w next rows given new =
       count = w.count + length rows;
     })
 
--- The walk passes on these rows and sends its next request, or ends if no id is left: the last one
--- is 2147483647.
+-- The walk passes on these rows and sends its next request, of phase `next`. If no id is left,
+-- since the last id is 2147483647, it passes on the rows and ends.
 abbrev pub GoesOn : WalkState → Phase → List VarBind → Step → WalkState → Type 0
 GoesOn w next rows given new =
     ((w.id < 2147483647) × AsksOn w next rows given new)
@@ -65,8 +65,8 @@ Closes w rows given new =
     (GivesNothing w rows × GoesOn w phase.Last [] given new)
     ⊎ ((GivesNothing w rows → ⊥) × EndsBy w rows (ending.Done (w.count + length rows)) given new)
 
--- the bindings are instances below the root; the first name comes after o, and each other name
--- after the one before it
+-- each binding has a name below the root and isn't endOfMibView (`IsInside`); the first name comes
+-- after o, and each other name after the one before it
 abbrev pub AreRowsFrom : (root o : List ℕ) → List VarBind → Type 0
 AreRowsFrom root o [] = Unit {0}
 AreRowsFrom root o (b ∷ more) = IsInside root b × Precedes o b.name × AreRowsFrom root b.name more
@@ -77,10 +77,9 @@ AreMisplaced w bindings = (asked_for w.method < length bindings)
     ⊎ ((b : VarBind) × OneOf bindings b × IsMissing b)
 
 -- What the walk does with `rows`, by the bindings `rest` that follow them in the reply. If none
--- follow, the walk continues, if an id is left (`GoesOn`). If the first that follows isn't an
--- instance below the root, there are no more instances (`Closes`). If it is an instance below the
--- root, but its name isn't greater than the name before it, the walk passes on `rows` and ends
--- with these two names.
+-- follow, the walk continues, if an id is left (`GoesOn`). If the first that follows isn't below
+-- the root or has endOfMibView, there are no more instances (`Closes`). Otherwise its name isn't
+-- greater than the name before it: the walk passes on `rows` and ends with `NotIncreasing`.
 abbrev pub FollowsBy : WalkState → (rows rest : List VarBind) → Step → WalkState → Type 0
 FollowsBy w rows [] given new = GoesOn w phase.Rows rows given new
 FollowsBy w rows (b ∷ _) given new =
@@ -88,8 +87,8 @@ FollowsBy w rows (b ∷ _) given new =
     ⊎ (IsInside w.root b × (Precedes (last_name w.asked rows) b.name → ⊥)
     × EndsBy w rows (ending.NotIncreasing (last_name w.asked rows) b.name) given new)
 
--- the bindings are `rows`, instances with increasing names, and then `rest`, which decides what
--- the walk does with the rows (`FollowsBy`)
+-- the bindings are `rows`, which are below the root and have increasing names (`AreRowsFrom`), and
+-- then `rest`, which decides what the walk does with the rows (`FollowsBy`)
 pub record ReadsRows (w : WalkState) (bindings : List VarBind) (given : Step)
     (new : WalkState) : Type 0 where
   pub rows : List VarBind
@@ -99,28 +98,30 @@ pub record ReadsRows (w : WalkState) (bindings : List VarBind) (given : Step)
   pub follows : FollowsBy w rows rest given new
 
 -- What the bindings of a reply to GetNext or GetBulk mean. If there are none, the walk ends with
--- `NoProgress`. If there are too many, or one has noSuchObject or noSuchInstance, it ends with
--- `BadReply`. Otherwise it reads them as rows.
+-- `NoProgress`. If there are more than asked for, or one has noSuchObject or noSuchInstance, it
+-- ends with `BadReply`. Otherwise `ReadsRows` says what they mean.
 abbrev pub MeansNext : WalkState → List VarBind → Step → WalkState → Type 0
 MeansNext w [] given new = EndsBy w [] (ending.NoProgress w.asked) given new
 MeansNext w (b ∷ more) given new =
     (AreMisplaced w (b ∷ more) × EndsBy w [] ending.BadReply given new)
     ⊎ ((AreMisplaced w (b ∷ more) → ⊥) × ReadsRows w (b ∷ more) given new)
 
--- b is the only binding of the reply to a Get of `asked`: it has that name, and isn't endOfMibView
+-- b is the only one of the bindings; its name is `asked`, and its value isn't endOfMibView
 pub record IsGot (asked : List ℕ) (bindings : List VarBind) (b : VarBind) : Type 0 where
   pub alone : bindings ≡ b ∷ []
   pub name : b.name ≡ asked
   pub value : b.value ≢ end_of_mib_view
 
--- What the bindings of a reply to a Get mean. If they reply to that Get, `Means` holds of the one
--- binding. If they don't, the walk ends with `BadReply`.
+-- What the bindings of a reply to a Get mean. If they are one binding with the name asked for and
+-- not endOfMibView, `Means` holds of that binding. Otherwise the walk ends with `BadReply`.
 abbrev pub MeansGot : WalkState → List VarBind → (VarBind → Type 0) → Step → WalkState → Type 0
 MeansGot w bindings Means given new =
     ((b : VarBind) × IsGot w.asked bindings b × Means b)
     ⊎ (((b : VarBind) → IsGot w.asked bindings b → ⊥) × EndsBy w [] ending.BadReply given new)
 
--- what the root's own binding means, before those below it: it is passed on if it has a value
+-- What b means, if b is the binding of the reply to the first Get of the root. If b has a value,
+-- it is passed on. With or without a value, the walk then continues with the instances below the
+-- root, if an id is left.
 abbrev pub MeansRoot : WalkState → Step → WalkState → VarBind → Type 0
 MeansRoot w given new b =
     (IsMissing b × GoesOn w phase.Rows [] given new)
@@ -152,8 +153,8 @@ Means w m given new =
     (IsAwaitedReply w m × MeansReply w m given new)
     ⊎ ((IsAwaitedReply w m → ⊥) × IsStray w given new)
 
--- What a datagram means: what the message means that it encodes. If it encodes none, it is a
--- stray.
+-- What a datagram means: if it encodes a message, what that message means. A datagram that encodes
+-- no message is a stray.
 abbrev pub MeansBy : WalkState → List ℕ → Step → WalkState → Type 0
 MeansBy w datagram given new =
     ((m : Message) × Spells m datagram × Means w m given new)

@@ -53,9 +53,9 @@ abbrev pub HoldsNames : Agents → WalkState → List (List ℕ) → Type 0
 HoldsNames agents first names = (view : MibView) → OneOf agents.tables view
     → (p : VarBind) → IsRow view p → IsBelowRoot first p.name → OneOf names p.name
 
--- The tables have at most k names below the root that come after the name that the walk begins
--- from. With one table, k is the number of its rows there; or, with any tables, it is the length
--- of a list that has all their names there, and maybe others.
+-- In the tables, at most k names are below the root and come after the name that the walk begins
+-- from. With one table, k can be the number of the rows with these names. With any tables, k can
+-- be the length of a list that has all of these names, and maybe others.
 pub data CountsNames (agents : Agents) (first : WalkState) (k : ℕ) : Type 0 where
   of_table : (view : MibView) → agents.tables ≡ view ∷ []
       → k ≡ length (rest_of first.root first.asked (variables view)) → CountsNames agents first k

@@ -44,7 +44,7 @@ Receives agents sent (None ∷ next) reply left = (left ≡ next) × (reply ≡ 
 Receives agents sent (Some k ∷ next) reply left = (left ≡ next)
     × Gives agents (datagram_at sent k) reply
 
--- this delivery can deliver nothing
+-- it is possible that this delivery delivers nothing
 abbrev pub IsNothing : Agents → List (List ℕ) → Option ℕ → Type 0
 IsNothing agents sent None = Unit {0}
 IsNothing agents sent (Some k) = Gives agents (datagram_at sent k) None

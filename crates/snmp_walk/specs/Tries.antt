@@ -7,13 +7,12 @@ use Rattle.snmp_walk.specs.{WalkState.WalkState, Request.request_of, StepRules.I
 use Rattle.snmp_walk.specs.{Traffic.Receives, Moved.IsMoved, declared.link.Link.Ghosts as LinkFacts}
 use Rattle.snmp_walk.specs.Link.{OneOf, Outcome, answered, missed, cut_off}
 
--- the datagram doesn't encode the reply with this community and request-id, but another message or
--- none
+-- the datagram doesn't encode a Response of SNMPv2c with this community and request-id
 abbrev pub IsNotAwaited : List ℕ → ℕ → List ℕ → Type 0
 IsNotAwaited community id datagram = (m : Message) → Spells m datagram
     → IsResponseTo community id m → ⊥
 
--- the event can happen at the link between these two states, by the facts of the link
+-- by the facts of the link, the event can happen in state `old` and leave the link in state `new`
 abbrev pub Happens : {L : Type 0} → LinkFacts L → L → Event (Unit {0}) → L → Type 0
 Happens {L} facts old (sent peer datagram) new = facts.sends old datagram new
 Happens {L} facts old (send_failed peer datagram) new = facts.send_fails old datagram new
@@ -21,39 +20,40 @@ Happens {L} facts old (came peer datagram) new = facts.delivers old datagram new
 Happens {L} facts old silence new = facts.is_silent old new
 Happens {L} facts old receive_failed new = facts.receive_fails old new
 
--- the datagram was sent
+-- a send of the datagram took the link from `old` to `new`
 abbrev pub Sends : {L : Type 0} → LinkFacts L → L → List ℕ → L → Type 0
 Sends {L} facts old datagram new = facts.sends old datagram new
     × IsMoved facts old (datagram ∷ []) 0 ⊥ new
 
--- a send of the datagram failed, and left what was sent and what is ahead as it was
+-- a send of the datagram failed, and left the link's traffic unchanged
 abbrev pub SendFails : {L : Type 0} → LinkFacts L → L → List ℕ → L → Type 0
 SendFails {L} facts old datagram new = facts.send_fails old datagram new
     × (facts.traffic new ≡ facts.traffic old) × IsMoved facts old (datagram ∷ []) 0 (Unit {0}) new
 
--- A receive returned `given`: a datagram or nothing. If the link is honest, this is what its next
--- delivery delivers.
+-- A receive that didn't fail took the link from `old` to `new`. If the link is honest, `given`, a
+-- datagram or nothing, is what one receive delivers by the link's traffic (`Receives`).
 abbrev pub Gets : {L : Type 0} → LinkFacts L → L → Option (List ℕ) → L → Type 0
 Gets {L} facts old given new = IsMoved facts old [] 1 ⊥ new
     × (facts.honest old → Receives (facts.agents old) (facts.traffic old).sent
     (facts.traffic old).ahead given (facts.traffic new).ahead)
 
--- a receive returned the datagram
+-- a receive returned the datagram, and took the link from `old` to `new`
 abbrev pub ReceivesDatagram : {L : Type 0} → LinkFacts L → L → List ℕ → L → Type 0
 ReceivesDatagram {L} facts old datagram new = facts.delivers old datagram new
     × Gets facts old (Some datagram) new
 
--- a receive returned nothing
+-- a receive returned nothing, and took the link from `old` to `new`
 abbrev pub ReceivesNothing : {L : Type 0} → LinkFacts L → L → L → Type 0
 ReceivesNothing {L} facts old new = facts.is_silent old new × Gets facts old None new
 
--- a receive failed, and used no delivery
+-- a receive failed, and left the link's traffic unchanged
 abbrev pub ReceiveFails : {L : Type 0} → LinkFacts L → L → L → Type 0
 ReceiveFails {L} facts old new = facts.receive_fails old new
     × (facts.traffic new ≡ facts.traffic old) × IsMoved facts old [] 1 (Unit {0}) new
 
--- How a try ends after `strays` datagrams that weren't the reply: a receive returns the reply; or
--- a receive returns nothing, or there were 64 datagrams; or a receive fails.
+-- How a try ends after it received `strays` datagrams that weren't the reply. If a datagram
+-- answers it, a receive returns that datagram. If it misses the reply, a receive returns nothing,
+-- or there were 64 such datagrams. If the link cuts it off, a receive fails.
 abbrev pub EndsTry : {L : Type 0} → LinkFacts L → (strays : ℕ) → L → Outcome → L → Type 0
 EndsTry {L} facts strays old (answered datagram) new = (strays < 64)
     × ReceivesDatagram facts old datagram new
@@ -61,8 +61,8 @@ EndsTry {L} facts strays old missed new = ((strays < 64) × ReceivesNothing fact
     ⊎ ((strays ≡ 64) × (new ≡ old))
 EndsTry {L} facts strays old cut_off new = (strays < 64) × ReceiveFails facts old new
 
--- after a send, receives returned the datagrams `strays`, in order, none of them the reply, and
--- then the try ended with this outcome
+-- From state `old` on, receives returned the datagrams `strays`, in order, and then the try ended
+-- with this outcome. `Other` holds of each of these datagrams.
 pub record AreReceives {L : Type 0} (facts : LinkFacts L) (Other : List ℕ → Type 0) (old : L)
     (outcome : Outcome) (new : L) (strays : List (List ℕ)) : Type 0 where
   pub last : L
@@ -70,7 +70,8 @@ pub record AreReceives {L : Type 0} (facts : LinkFacts L) (Other : List ℕ → 
   pub others : (datagram : List ℕ) → OneOf strays datagram → Other datagram
   pub over : EndsTry facts (length strays) last outcome new
 
--- the request was sent, and what was received then ended the try with this outcome
+-- One try of the request: it was sent, then the datagrams `strays` were received, and the try ended
+-- with this outcome. `Other` holds of each of these datagrams.
 pub record IsTry {L : Type 0} (facts : LinkFacts L) (Other : List ℕ → Type 0) (request : List ℕ)
     (outcome : Outcome) (old : L) (strays : List (List ℕ)) (new : L) : Type 0 where
   pub between : L
@@ -93,8 +94,9 @@ IsLastTry {L} facts Other request old outcome new =
     ((strays : List (List ℕ)) × IsTry facts Other request outcome old strays new)
     ⊎ ((outcome ≡ cut_off) × SendFails facts old request new)
 
--- What came of the request in at most `tries` tries: each of them missed the reply, or fewer did
--- and one more ended with this outcome.
+-- The request had this outcome in at most `tries` tries. If the outcome is `missed`, all `tries`
+-- of them missed the reply. Otherwise fewer than `tries` missed it, and one more ended with this
+-- outcome.
 abbrev pub AreTried : {L : Type 0} → LinkFacts L → (List ℕ → Type 0) → List ℕ → (tries : ℕ) → L
     → Outcome → L → Type 0
 AreTried {L} facts Other request tries old missed new = AreMissed facts Other request tries old new
@@ -103,7 +105,7 @@ AreTried {L} facts Other request tries old outcome new =
     × AreMissed facts Other request earlier old before
     × IsLastTry facts Other request before outcome new
 
--- what came of the request whose reply the walk w waits for, in at most `tries` tries
+-- the waiting request of the walk w had this outcome in at most `tries` tries
 abbrev pub IsTried : {L : Type 0} → LinkFacts L → (tries : ℕ) → WalkState → L → Outcome → L → Type 0
 IsTried {L} facts tries w old outcome new = AreTried facts (IsNotAwaited w.community w.id)
     (canon (request_of w)) tries old outcome new

@@ -14,7 +14,7 @@ rows_below root rows = filter (λ row. is_below row.name root) rows
 abbrev pub rows_after : List ℕ → List VarBind → List VarBind
 rows_after o rows = filter (λ row. comes_after o row.name) rows
 
--- the row with the name o, if there is one
+-- the rows with the name o; a table has at most one
 abbrev pub rows_named : List ℕ → List VarBind → List VarBind
 rows_named o rows = filter (λ row. pointwise nat_eq row.name o) rows
 

@@ -44,6 +44,8 @@ use std::marker::Model;
 ///   bindings passed are the first ones of what Gets of the names in that table return, and all of
 ///   them if the Get is done.
 /// - `happened.replied_or_failed`: the same if errors may have arrived too, such as genErr.
+/// - `sends`: the datagrams passed to [`Link::send`] in these events are the request, as many times
+///   as `moved` says.
 ///
 /// Over a link whose traffic lists what is sent (`Link::records`), `sent` says how many times the
 /// request was sent, and `later` that a later run may begin with the id after this one. Over an

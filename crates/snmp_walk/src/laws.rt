@@ -29,8 +29,8 @@ use snmp_wire::{
 };
 
 /// If the table is a MIB view (`IsMibView`), the rows that a walk returns below its root are the
-/// table's rows there, in the order of their names. The rest of the walk after a name is the rows
-/// among them that come after the name, in the same order.
+/// table's rows below that root, in the order of their names. The rest of the walk after a name is
+/// the rows among them that come after the name, in the same order.
 ///
 /// A law: the call does nothing, and its caller may use what it ensures.
 pub fn instances_below()

@@ -53,8 +53,7 @@ pub use run::run_walk;
 pub use sink::Sink;
 pub use walk_core::WalkCore;
 
-// Laws, which serve proofs only; and walks over networks and over a `LooseLink`, which only tests
-// run.
+// Laws, which serve proofs only; and walks over a `Network` or a `LooseLink`, which only tests run.
 pub use laws::{
     appended_bindings, honest_networks, instances_below, loose_replies, lower_ids, messages_mean,
     names_below, parts_of_lists, requests_are_short, rest_of_a_walk, short_rows_have_room,

@@ -1,8 +1,8 @@
 //! A walk over an agent in memory that replies in other ways than `snmp_agent`, as RFC 3416
 //! allows.
 //!
-//! A walk must be right over each agent that conforms to the standard, such as one that fails, one
-//! that stops a GetBulk early, and one that encodes its replies in another form.
+//! A walk must be right over each agent that conforms to the standard, such as one that replies
+//! with an error, one that stops a GetBulk early, and one that encodes its replies in another form.
 ghost use Rattle.std.specs.Prelude.{◌≡◌, ◌≤◌, ◌<◌, ◌<ℤ◌, ◌≤ℤ◌, ◌+◌, ◌↔◌, [], ◌∷◌, ℕ, List, length};
 ghost use Rattle.std.specs.Prelude.{pos, max, take, IfSome, IfNone, IsTrue};
 ghost use Rattle.snmp_wire.specs.declared.kind.Kind.TheVariants as kind;
@@ -137,7 +137,7 @@ fn only_asked<'a>(request: &MessageRef<'a>) -> Option<Binding<'a>>
 }
 
 /// Returns whether `request` has no non-repeaters and at least one repetition, if it is a GetBulk.
-/// Returns true if it isn't.
+/// Returns true for any other request.
 fn is_repeated(request: &MessageRef<'_>) -> bool
     ensures { IsTrue result ↔ (request.now.kind ≡ kind.GetBulkRequest
         → (request.now.a ≡ pos 0) × (pos 1 ≤ℤ request.now.b)) }
@@ -149,7 +149,8 @@ fn is_repeated(request: &MessageRef<'_>) -> bool
 }
 
 /// Writes the Response with genErr to `request`, whose one binding is `asked`, to the start of
-/// `out`, and returns its length. Returns `None`, and leaves `out` unchanged, if it doesn't fit.
+/// `out`, and returns its length. Returns `None`, and leaves `out` unchanged, if the Response
+/// doesn't fit.
 fn fail(
     config: &Config<'_>,
     request: &MessageRef<'_>,
@@ -335,7 +336,7 @@ impl<'a> LooseLink<'a> {
         }
     }
 
-    /// Returns the way of the next reply, and uses it.
+    /// Uses the next way and returns it. After the last way, returns `Whole`.
     fn next_way(&mut self) -> Way
         ensures next { IsNextWay (ways_left self.old) result (ways_left self.new) }
         ensures agent { agent_at self.new ≡ agent_at self.old }
@@ -416,8 +417,8 @@ impl<'a> Link for LooseLink<'a> {
 /// repetitions than asked for, and in another encoding. The caller must pass a link over which
 /// nothing was sent yet, and a core that has taken no reply yet.
 ///
-/// The bindings passed on are a prefix of the walk over its table, and all of it if the walk is
-/// done.
+/// The bindings passed on are a prefix of the walk over the agent's table, and all of it if the
+/// walk is done.
 pub fn walk_loose<S: Sink>(
     link: &mut LooseLink<'_>,
     core: WalkCore,
@@ -426,8 +427,8 @@ pub fn walk_loose<S: Sink>(
 ) -> WalkEnd
     requires fresh { IsFresh core }
     requires nothing_sent { last_sent link.old ≡ [] }
-    // `ReplyFacts` holds if an error status that ends the walk counts as a failure of the link. If
-    // no way left is `GenErr`, it also holds of the end as it is.
+    // `ReplyFacts` holds of the end with an error status replaced by a failure of the link
+    // (`but_for_errors`). If `GenErr` isn't among the ways left, it also holds of the end itself.
     ensures { IsRun S.takes sink.old result sink.new (λ rows refused.
         IsWalkedOver ⟦<LooseLink<'static> as Link>⟧ link.old link.new (retries + 1) core rows
         refused result

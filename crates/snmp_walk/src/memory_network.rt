@@ -92,8 +92,9 @@ impl<'a> MemoryNetwork<'a> {
     }
 
     /// Returns the number of the datagram that the walk's next receive returns. The receive returns
-    /// nothing if no datagram has this number, as none has 0. Returns `None` if the receive fails
-    /// since the agent's last turn did. Uses the next delivery if it is for the walk.
+    /// nothing if no datagram has this number, as none has 0. Returns `None` if the walk's receive
+    /// fails, since the agent's receive or send failed in its last turn. Uses the next delivery if
+    /// it is for the walk.
     fn next_reply(&mut self) -> Option<usize>
         ensures used { IsNextReply self.old.answer (ahead_of self.old) result (ahead_of self.new) }
         ensures requests { self.new.requests ≡ self.old.requests }

@@ -45,7 +45,7 @@ impl Root {
     }
 }
 
-/// Returns whether `name` begins with `root`, which may have any number of numbers, and is longer.
+/// Returns whether `name` begins with `root`, which may be of any length, and is longer.
 // `inline(never)`: only roots of fewer than two numbers come here. Inlined, its `Oid` would be
 // zeroed for each name tested, for every root.
 #[inline(never)]

@@ -28,6 +28,8 @@ use snmp_wire::MAX_DATAGRAM;
 ///   change, as over a network that neither invents nor alters messages (`honest_networks`), the
 ///   bindings passed are a prefix of the walk over that table, and all of it if the walk is done.
 /// - `happened.replied_or_failed`: the same if errors may have arrived too, such as genErr.
+/// - `sends`: the datagrams passed to [`Link::send`] in these events are the requests of `moved`,
+///   each as many times as `moved` says.
 ///
 /// Over a link whose traffic lists what is sent (`Link::records`):
 ///

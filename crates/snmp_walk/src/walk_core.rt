@@ -313,8 +313,8 @@ impl WalkCore {
     }
 
     /// Passes on `rows`, whose number is `count`. After them, no more instances are below the
-    /// root. So a plain walk that has passed on nothing, and has no rows now, continues with a Get
-    /// of the root, or ends with `TooManyRequests` if no id is left. Any other walk is done.
+    /// root. A plain walk that has passed on nothing, and has no rows now, continues with a Get of
+    /// the root, or ends with `TooManyRequests` if no id is left. Any other walk is done.
     fn close<'a>(&mut self, rows: Rows<'a>, count: u32, end: &mut WalkEnd) -> Judgement<'a>
         requires count { count ≡ length rows }
         ensures { (step_of result end.new, self.new) ≡ closes self.old rows.entry }
@@ -326,11 +326,12 @@ impl WalkCore {
         self.stop(rows, end, WalkEnd::Done(given))
     }
 
-    /// Finds the rows at the start of `bindings`: instances below the root, each with a greater
-    /// name than the one before it, the first with a greater name than the requested one. Sets
-    /// `last` to the name of the last row, if there is one, and `read` to the name of the binding
-    /// that ends the rows, if one does. Returns `None` if there are more bindings than were asked
-    /// for, or noSuchObject or noSuchInstance among them.
+    /// Returns the number of rows at the start of `bindings`, and what follows them. Rows are
+    /// instances below the root, each with a greater name than the one before it, the first with a
+    /// greater name than the requested one. Sets `last` to the name of the last row, if there is
+    /// one, and `read` to the name of the binding that ends the rows, if one does. Returns `None`
+    /// if there are more bindings than were asked for, or noSuchObject or noSuchInstance among
+    /// them.
     ///
     /// Reads no binding twice. The caller must pass `None` as `last`.
     fn read_rows<'a>(

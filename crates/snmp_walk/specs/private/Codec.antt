@@ -13,9 +13,9 @@ pub record Codec : Type 0 where
   pub one : OneMessage
   -- a strict encoding is decoded
   pub read : StrictIsRead
-  -- what is written is a strict encoding
+  -- the encoding that is written of a message in range is strict
   pub strict : EncodingIsStrict
-  -- what is written is the head and then the bindings
+  -- the encoding that is written is a head and then the bindings
   pub pieces : HasPieces
   -- the length of an encoding, and of its elements
   pub sizes : MessageSizes

@@ -4,7 +4,8 @@ use Rattle.snmp_wire.specs.Canon.{canon}
 use Rattle.snmp_walk.specs.{WalkState.WalkState, Request.IsOfLowerId, Request.request_of}
 use Rattle.snmp_walk.specs.Link.{Agents, IsReplyFrom, OneOf}
 
--- `Other` holds of no reply to q, and of each reply to another of the datagrams sent
+-- `Other` holds of no reply of the agents to q, and of each reply of theirs to a datagram in `sent`
+-- other than q
 pub record IsAsked (agents : Agents) (Other : List ℕ → Type 0) (q : List ℕ) (sent : List
     (List ℕ)) : Type 0 where
   pub own : (octets : List ℕ) → IsReplyFrom agents q octets → Other octets → ⊥

@@ -50,15 +50,16 @@ abbrev pub name_or : List ℕ → Option (List ℕ) → List ℕ
 name_or other None = other
 name_or other (Some name) = name
 
--- all of `prefix` but `left` was read: `rows` rows, up to the name `last`
+-- The first `rows` rows of `prefix` were read, and `left` is the rest of `prefix`. `last` is the
+-- name of the last row read, or `asked` if none was read.
 pub record IsReadTo (asked : List ℕ) (prefix : ReplyRows) (last : List ℕ) (rows : ℕ)
     (left : ReplyRows) : Type 0 where
   pub count : length prefix.rows ≡ rows + length left.rows
   pub name : last_name asked prefix.rows ≡ last_name last left.rows
   pub after : prefix.after ≡ left.after
 
--- all of `prefix` was read: `rows` rows at the start of `bindings`, up to the name `last`; what
--- follows them is `next`
+-- All rows of `prefix` were read: the first `rows` of `bindings`. `last` is the name of the last
+-- row, or `asked` if there are no rows. `next` says what follows the rows.
 pub record AreRowsRead (asked : List ℕ) (bindings : List VarBind) (prefix : ReplyRows)
     (last : List ℕ)
     (rows : ℕ) (next : After) : Type 0 where

@@ -7,7 +7,7 @@ use Rattle.snmp_walk.proofs.walk_core.WalkCore.take.Goals as goal
 pub returns-in_default : goal.returns-in_default
 returns-in_default c = inr ((λ (m : Message) (h : Spells m c.args.datagram.now). let e = c.in_default.ensures.only m h in let no : ⊥ = cc in no), (refl, refl))
 
--- if `take_message` read the message as `step`, with its end, and this is `given`, then the datagram means `given`
+-- if `take_message` returned `step`, and `step` with the stored end is `given`, then the datagram means `given`
 read_as : (c : After-take_message) (step : Judgement) (given : Step) → c.take_message.result ≡ step → step_of step c.take_message.new.end ≡ given
     → MeansBy c.args.self.now c.args.datagram.now given c.take_message.new.self
 read_as c step given at is =
