@@ -2,6 +2,7 @@
 //! ensures.
 ghost use Rattle.std.specs.{Prelude.◌≡◌, Prelude.ℕ, Prelude.List, Prelude.[], Prelude.◌⊎◌};
 ghost use Rattle.std.specs.{Prelude.MatchOption, Prelude.Some, List.slice_get};
+ghost use Rattle.std.specs.Prelude.{◌<◌, All, length};
 ghost use Rattle.smi_text.specs.declared.trees.tree.Module.{Module};
 ghost use Rattle.smi_names.specs.{declared.nodes.warning.Warning.Warning, nodes.Nodes.Node};
 ghost use Rattle.smi_names.specs.meaning.Meaning.{QualifiedName};
@@ -9,7 +10,7 @@ ghost use Rattle.smi_tree.specs.{Bare.bare, LongestPrefix.longest, Tree.Contents
 ghost use Rattle.smi_tree.specs.{Defined.IsRoot, Defined.IsDefined, columns.Index.IsNodeAt};
 ghost use Rattle.smi_tree.specs.{types.Chain.TypeOrigin, types.Types.Facts, types.Types.HasSyntax};
 ghost use Rattle.smi_tree.specs.Nodes.{IsFirstChild, child_of, oids_of};
-ghost use Rattle.smi_tree.specs.branches.FirstIndex.{HasNoBeginning, IsDeepestAt};
+ghost use Rattle.smi_tree.specs.branches.FirstIndex.{AreChildren, HasNoBeginning, IsDeepestAt};
 
 use smi_names::one_loading;
 
@@ -66,4 +67,10 @@ pub fn nodes_have_identifiers()
 pub fn one_syntax()
     ensures { (modules : List Module) (object : TypeOrigin QualifiedName) (facts other : Facts)
         → HasSyntax modules object facts → HasSyntax modules object other → facts ≡ other }
+{}
+
+/// Each child of an identifier is a node: its index is below the number of nodes.
+pub fn children_are_nodes()
+    ensures { (nodes : List Node) (o indices : List ℕ) → AreChildren (oids_of nodes) o indices
+        → All (λ id. id < length nodes) indices }
 {}

@@ -46,5 +46,6 @@ pub use crate::types::Types;
 
 // Laws: the calls do nothing, and a proof may use what they ensure.
 pub use laws::{
-    bare_tree, defined_nodes, look_ups, nodes_have_identifiers, one_deepest, one_syntax, one_tree,
+    bare_tree, children_are_nodes, defined_nodes, look_ups, nodes_have_identifiers, one_deepest,
+    one_syntax, one_tree,
 };

@@ -1,8 +1,9 @@
 -- After a poll whose sink counts rows by column, the counts are as `AreCounted` says (`counts_of_walk`, `counted`).
-use Rattle.std.proofs.Common.{arith, ◌≡◌, ◌≢◌, ◌∙◌, ◌+◌, ◌<◌, ◌≤◌, ◌++◌, ◌⊎◌, inl, inr, ℕ, List, [], ◌∷◌, Bool, true, false, cond, Option, Some}
-use Rattle.std.proofs.Common.{length, drop, refl, sym, ap, subst, append_assoc, append-nil, length-append, length-drop}
-use Rattle.std.proofs.lemmas.{List.append_cancel_left, List.Prefix.front_rest, List.Elements.filter-append, Slice.Eq.starts_is, Grind.common_steps}
-use Rattle.std.proofs.lemmas.{Bool.and_parts, Bool.and_from, Bool.cases_eq, Bool.false_from_ne_true, Bool.lt-ltb, Bool.ltb-true, Bool.Decides.Decides-eqb}
+use Rattle.std.proofs.Common.{arith, ◌≡◌, ◌∙◌, ◌+◌, ◌≤◌, ◌++◌, inl, inr, ℕ, List, [], ◌∷◌, Bool, true, false, cond, Option, Some}
+use Rattle.std.proofs.Common.{length, drop, refl, sym, ap, subst, append_assoc, append-nil, length-append}
+use Rattle.std.proofs.lemmas.{List.append_cancel_left, List.Prefix.front_rest, List.Elements.filter-append, Grind.common_steps}
+use Rattle.std.proofs.lemmas.{Bool.cases_eq, Bool.false_from_ne_true, Bool.Decides.Decides-eqb}
+use Rattle.std.specs.Prelude.{◌↔◌, IsTrue}
 use Rattle.std.specs.{BTreeMap.get, BTreeMap.is_at, List.filter, Option.unwrap_or, Prelude.slice_index_or, Ordering.is_eq, Ordering.nat_cmp}
 use Rattle.std.specs.declared.cmp.Ordering.TheVariants.{Less, Equal, Greater}
 use Rattle.snmp_oid.specs.Identifier.{IsBelow}
@@ -13,28 +14,9 @@ use Rattle.snmp_walk.specs.declared.end.WalkEnd.TheVariants as ending
 use Rattle.uses.specs.Columns.{AreCounted, AreCountsOf, CountsRow, HasCounted, count_of, entry_of, rows_of_column}
 use Rattle.uses.specs.{Polled.IsBeginning, declared.columns.ColumnCounts.ColumnCounts}
 
--- ---- `is_below` is true if and only if a name is below a root
-
-not_empty : (xs : List ℕ) → xs ≢ [] → 0 < length xs
-not_empty [] some = absurd (some refl)
-not_empty (x ∷ xs) some = omega arith
-
-passes : (root name : List ℕ) → IsBelow name root → is_below name root ≡ true
-passes root name h =
-    let size : length name ≡ length root + length h.0 = ap length h.2 ∙ length-append root h.0 in
-    let some = not_empty h.0 h.1 in
-    let longer : length root < length name = omega (arith, size, some) in
-    and_from _ _ ((starts_is Decides-eqb name root _ refl).1 h.0 h.2) (lt-ltb _ _ longer)
-
-below : (root name : List ℕ) → is_below name root ≡ true → IsBelow name root
-below root name passed =
-    let parts = and_parts _ _ passed in
-    let longer : length root < length name = ltb-true _ _ parts.1 in
-    let size = length-drop (length root) name in (
-      drop (length root) name,
-      (λ none. let short : length (drop (length root) name) ≡ 0 = ap length none in absurd (omega (arith, longer, size, short))),
-      (starts_is Decides-eqb name root _ refl).0 parts.0,
-    )
+-- the law `names_below` of `snmp_walk`
+abbrev TestsNames : Type 0
+TestsNames = (name root : List ℕ) → IsTrue (is_below name root) ↔ IsBelow name root
 
 -- ---- the rows below a column
 
@@ -55,9 +37,10 @@ filtered_twice p q within [] = refl
 filtered_twice p q within (x ∷ xs) = grind (arith, common_steps, filtered_twice p q within xs, within x)
 
 -- a column has the same rows among the rows below the entry as among all rows
-of_column : (entry : List ℕ) (number : ℕ) (rows : List VarBind) → rows_of_column entry number (rows_below entry rows) ≡ rows_of_column entry number rows
-of_column entry number rows = filtered_twice (λ (row : VarBind). is_below row.name (entry ++ number ∷ [])) (λ (row : VarBind). is_below row.name entry)
-    (λ row passed. passes entry row.name (below_entry entry row.name number (below (entry ++ number ∷ []) row.name passed))) rows
+of_column : TestsNames → (entry : List ℕ) (number : ℕ) (rows : List VarBind)
+    → rows_of_column entry number (rows_below entry rows) ≡ rows_of_column entry number rows
+of_column tests entry number rows = filtered_twice (λ (row : VarBind). is_below row.name (entry ++ number ∷ [])) (λ (row : VarBind). is_below row.name entry)
+    (λ row passed. (tests row.name entry).1 (below_entry entry row.name number ((tests row.name (entry ++ number ∷ [])).0 passed))) rows
 
 -- a name with two numbers or more after the entry is below the column of the first of these
 pub column : (entry name after : List ℕ) → IsBelow name entry → after ≡ drop (length entry) name → 2 ≤ length after
@@ -74,35 +57,35 @@ other_key : (less same : Bool) → same ≡ false → is_eq (cond less Less (con
 other_key true same h = refl
 other_key false same h = ap (λ (b : Bool). is_eq (cond b Equal Greater)) h
 
--- a row of a column is counted if the count of this column increases by 1, and no other changes
-pub counted_row : (old new : ColumnCounts) (row : VarBind) (number count : ℕ) → entry_of new ≡ entry_of old
+-- if the entry stays the same, the count of a row's column increases by 1, and no other count changes, then the row is counted
+pub counted_row : TestsNames → (old new : ColumnCounts) (row : VarBind) (number count : ℕ) → entry_of new ≡ entry_of old
     → IsBelow row.name (entry_of old ++ number ∷ []) → count ≡ count_of old number + 1 → get nat_cmp new.counts number ≡ Some count
     → ((q : ℕ) → is_at (nat_cmp number) q ≡ false → get nat_cmp new.counts q ≡ get nat_cmp old.counts q) → HasCounted old (row ∷ []) new
-counted_row old new row number count entry is_below more here others = record {
+counted_row tests old new row number count entry is_below more here others = record {
   entry = entry;
   counts = λ q. elim (cases_eq number q) [
     | inl e ↦
         let one : length (rows_of_column (entry_of old) number (row ∷ [])) ≡ 1 =
-        ap (λ (t : Bool). length (cond t (row ∷ []) [])) (passes (entry_of old ++ number ∷ []) row.name is_below) in
+        ap (λ (t : Bool). length (cond t (row ∷ []) [])) ((tests row.name (entry_of old ++ number ∷ [])).1 is_below) in
         let now : count_of new number ≡ count = ap (λ (o : Option ℕ). unwrap_or o 0) here in
         subst (λ (n : ℕ). count_of new n ≡ count_of old n + length (rows_of_column (entry_of old) n (row ∷ []))) e (omega (arith, one, now, more))
     | inr apart ↦
         let none : length (rows_of_column (entry_of old) q (row ∷ [])) ≡ 0 = ap (λ (t : Bool). length (cond t (row ∷ []) [])) (false_from_ne_true _
-        (λ t. apart (one_column (entry_of old) row.name number q is_below (below (entry_of old ++ q ∷ []) row.name t)))) in
+        (λ t. apart (one_column (entry_of old) row.name number q is_below ((tests row.name (entry_of old ++ q ∷ [])).0 t)))) in
         let key : is_at (nat_cmp number) q ≡ false = other_key _ _ (false_from_ne_true _ (λ t. apart ((Decides-eqb number q).0 t))) in
         let same : count_of new q ≡ count_of old q = ap (λ (o : Option ℕ). unwrap_or o 0) (others q key) in
         omega (arith, none, same)
   ];
 }
 
--- a row of no column is counted if nothing changes
-pub other_row : (counts : ColumnCounts) (row : VarBind) → ((number : ℕ) → IsBelow row.name (entry_of counts ++ number ∷ []) → ⊥)
+-- if a row is below no column of the entry, then counting it changes no count
+pub other_row : TestsNames → (counts : ColumnCounts) (row : VarBind) → ((number : ℕ) → IsBelow row.name (entry_of counts ++ number ∷ []) → ⊥)
     → HasCounted counts (row ∷ []) counts
-other_row counts row outside = record {
+other_row tests counts row outside = record {
   entry = refl;
   counts = λ q.
       let none : length (rows_of_column (entry_of counts) q (row ∷ [])) ≡ 0 = ap (λ (t : Bool). length (cond t (row ∷ []) []))
-      (false_from_ne_true _ (λ t. outside q (below (entry_of counts ++ q ∷ []) row.name t))) in
+      (false_from_ne_true _ (λ t. outside q ((tests row.name (entry_of counts ++ q ∷ [])).0 t))) in
       omega (arith, none);
 }
 
@@ -140,12 +123,12 @@ counts_of_walk entry old new rows refused end is none took =
     subst (λ (o : List ℕ). AreCountsOf o rows new) is (λ q. let before = none q in let after = h.counts q in omega (arith, before, after))
 
 -- if the counts count `rows`, and `rows` are a prefix of the table's rows below the entry (`IsBeginning`), then the counts are as `AreCounted` says
-pub counted : (view : MibView) (entry : List ℕ) (end : WalkEnd) (rows : List VarBind) (counts : ColumnCounts) → AreCountsOf entry rows counts
+pub counted : TestsNames → (view : MibView) (entry : List ℕ) (end : WalkEnd) (rows : List VarBind) (counts : ColumnCounts) → AreCountsOf entry rows counts
     → IsBeginning view entry end rows → AreCounted view entry end counts
-counted view entry end rows counts are begins = record {
+counted tests view entry end rows counts are begins = record {
   rows = rows;
   begins = begins;
   counted = are;
   all = λ done q. are q ∙ (ap (λ (all : List VarBind). length (rows_of_column entry q all)) (begins.2 done)
-      ∙ ap length (of_column entry q (variables view)));
+      ∙ ap length (of_column tests entry q (variables view)));
 }

@@ -41,8 +41,8 @@ waited (came peer d ∷ more) old new q h waits = ⊎_elim (λ later. inl later)
 waited (silence ∷ more) old new q h waits = ⊎_elim (λ later. inl later) (λ now. inr (sym h.1.now ∙ now)) (waited more h.0 new q h.2 waits)
 waited (receive_failed ∷ more) old new q h waits = ⊎_elim (λ later. inl later) (λ now. inr (sym h.1.now ∙ now)) (waited more h.0 new q h.2 waits)
 
--- if `before`, then the arrival of `r`, then `after` begin with a send, `before` took the link from `old` to `at`, and `q` is pending in `at`,
--- then a send of `q`, which may have failed, is in `before`
+-- Let the events `before`, then the arrival of `r`, then the events `after` begin with a send. If `before` took the link from `old` to `at`, and `q` is pending
+-- in `at`, then a send of `q`, which may have failed, is in `before`.
 sent_before : (before after : List (Event (Unit {0}))) (r : List ℕ) (old at : Direct) (q : List ℕ)
     → BeginWithSend (before ++ came tt r ∷ after) → Takes old before at → pending at ≡ Some q → OneOf (tried before) q
 sent_before [] after r old at q begins h waits = absurd begins

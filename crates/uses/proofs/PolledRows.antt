@@ -1,4 +1,5 @@
--- What a walk without its root's Get returns of one table is a prefix of the table's rows below the root, and all of them if the walk is done.
+-- A walk of one table in the mode `NoLast` (without a last Get of its root) returns a prefix of the table's rows below the root, and all of them if it is
+-- done.
 use Rattle.std.proofs.Common.{◌≡◌, ◌∙◌, ℕ, List, [], ◌∷◌, ◌++◌, sym, ap, subst, append_assoc}
 use Rattle.snmp_oid.specs.Identifier.{wire}
 use Rattle.snmp_wire.specs.Message.{VarBind}

@@ -21,12 +21,13 @@ count_of counts number = unwrap_or (get nat_cmp counts.counts number) 0
 abbrev pub rows_of_column : (entry : List ℕ) → (number : ℕ) → List VarBind → List VarBind
 rows_of_column entry number rows = rows_below (entry ++ number ∷ []) rows
 
--- the count of each column is the number of its instances among `rows`
+-- in `counts`, the count of each column of `entry` is the number of its instances among `rows`
 abbrev pub AreCountsOf : (entry : List ℕ) → (rows : List VarBind) → ColumnCounts → Type 0
 AreCountsOf entry rows counts = (number : ℕ)
     → count_of counts number ≡ length (rows_of_column entry number rows)
 
--- `rows` were counted: the count of each column increased by the number of its instances among them
+-- `rows` were counted, which took the counts from `old` to `new`: the count of each column
+-- increased by the number of its instances among `rows`
 pub record HasCounted (old : ColumnCounts) (rows : List VarBind) (new : ColumnCounts)
     : Type 0 where
   pub entry : entry_of new ≡ entry_of old

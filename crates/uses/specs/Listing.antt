@@ -13,7 +13,7 @@ pub record Seen : Type 0 where
   pub label : List ℕ
   pub oid : List ℕ
 
--- the column that the code returns, as a value
+-- the label and the identifier of a `Column`, which the code returns
 abbrev pub seen_column : Column → Seen
 seen_column column = record { label = column.label.now; oid = column.oid.now }
 
@@ -22,13 +22,14 @@ abbrev pub is_object : DefKind → Bool
 is_object (kind.ObjectType object) = true
 is_object _ = false
 
--- the column that a node with this definition is, if it is an object
+-- the label and identifier of `node`, if its definition `definition` is an OBJECT-TYPE
 abbrev pub column_by : Node → Def → Option Seen
 column_by node definition = if is_object definition.kind
     then Some (record { label = node.label; oid = node.oid })
     else None
 
--- the node at index `id` as a column, if it is an object
+-- the label and identifier of the node at index `id`, if its definition is an OBJECT-TYPE; None
+-- without such a node
 abbrev pub column_at : List Node → ℕ → Option Seen
 column_at nodes id = option_and_then
     (λ node. option_and_then (column_by node) node.definition) (slice_get nodes id)

@@ -31,7 +31,8 @@ IsBeginning view root end rows = (more : List VarBind)
     × (rows_below root (variables view) ≡ rows ++ more)
     × (IsDone end → rows ≡ rows_below root (variables view))
 
--- such a prefix is what a poll collects (`IsPolled`)
+-- if `view` is a MIB view, then rows that are a prefix as `IsBeginning` says are what a poll
+-- collects (`IsPolled`)
 abbrev pub AreBeginningsPolled : Type 0
 AreBeginningsPolled = (view : MibView) (root : List ℕ) (end : WalkEnd) (rows : List VarBind)
     → IsMibView view → IsBeginning view root end rows → IsPolled view root end rows

@@ -67,7 +67,7 @@ fn write_get(community: &[u8], name: &Oid, id: i32, out: &mut [u8; 1000]) -> usi
 
 /// Puts a row into a table and removes it again, and sends a Get of its name to the agent after
 /// each. Writes the replies to the start of `first` and `second`, and returns their lengths in
-/// octets, `None` for no reply. If the table had a row of this name before, that is gone too.
+/// octets, `None` for no reply. If the table had a row of this name before, that row is gone too.
 /// Fails if the row can't be put: then no Get is sent, and the table is unchanged.
 pub fn put_and_remove(
     table: &mut Table,
@@ -77,12 +77,13 @@ pub fn put_and_remove(
     first: &mut [u8; MAX_DATAGRAM],
     second: &mut [u8; MAX_DATAGRAM],
 ) -> Result<(Option<usize>, Option<usize>), PutError>
-    // If a reply with the value is no longer than the agent's messages may be, it is the first.
+    // After the row is put, a reply with `value` is written to `first`, if it is no longer than
+    // the agent's messages may be.
     ensures there { IfOk result (λ sizes. IsSent config.now.max_size
         (reply_with config.now.community.now (pos 1)
         (record { name = name.now; value = datum value.entry })) sizes.0 first.new) }
-    // If a reply with what a Get returns when no row has the name is no longer either, it is the
-    // second.
+    // After the row is removed, a Get of the name returns some `binding`. A reply with it is
+    // written to `second`, if it is no longer than the agent's messages may be.
     ensures gone { IfOk result (λ sizes. (binding : VarBind)
         → IsGet (without_row table.old name.now) name.now binding
         → IsSent config.now.max_size (reply_with config.now.community.now (pos 1) binding)

@@ -10,7 +10,7 @@ ghost use Rattle.uses.specs.Columns.{AreCounted, AreCountsOf};
 
 use snmp_walk::{
     Link, Method, Mode, Sink, SinkFault, StartError, WalkCore, WalkEnd, instances_below,
-    parts_of_lists, run_walk,
+    names_below, parts_of_lists, run_walk,
 };
 use snmp_wire::{Binding, Oid};
 use std::alloc::Global;
@@ -60,6 +60,7 @@ impl Sink for ColumnCounts {
     ghost takes = { CountsRow };
 
     fn row(&mut self, binding: &Binding<'_>) -> Result<(), SinkFault> {
+        names_below();
         let Some(number) = column_of(&self.entry, &binding.name) else {
             return Ok(());
         };
@@ -127,6 +128,7 @@ pub fn count_columns<L: Link>(
         × (link.new ≡ link.old)) }
 {
     instances_below();
+    names_below();
     parts_of_lists();
     let mut counts = ColumnCounts::new(alloc, entry.copy());
     match WalkCore::start(entry, Mode::NoLast, method, community, first_id) {

@@ -12,7 +12,8 @@ use std::alloc::Global;
 
 /// A link to the agent of a table. A receive returns the agent's reply to the datagram that was
 /// sent last, if there is a reply; no other datagram is stored. Before the first send, and after a
-/// send that failed, it returns nothing. A receive into a buffer of fewer than 65507 octets fails.
+/// send that failed, a receive returns nothing. A receive into a buffer of fewer than 65507 octets
+/// fails.
 #[derive(Drop)]
 pub struct Direct<'a> {
     table: &'a Table,

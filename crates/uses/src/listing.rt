@@ -46,7 +46,7 @@ pub fn columns_of<'t>(
 fn column_at<'t>(tree: &'t Tree, id: NodeId) -> Option<Column<'t>>
     ensures { option_map seen_column result ≡ column_at tree.now.nodes id }
 {
-    // Each child of a node is a node too; the test spares the proof of that.
+    // Each child is a node, by the law `children_are_nodes`; the test spares a proof by that law.
     if id >= tree.len() {
         return None;
     }

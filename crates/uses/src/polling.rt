@@ -50,8 +50,8 @@ pub fn poll<L: Link>(
         (λ agents why. (view : MibView) → agents.tables ≡ view ∷ []
         → IsPolled view root why rows.new)) }
     ensures rising { AreOrdered rows.new }
-    // There was at most one request for each row, and one more. So the next poll over the link may
-    // begin with the id after theirs.
+    // There was at most one request for each row, and one more. So their ids are below
+    // `first_id + length rows + 1`, and the next poll over the link may begin with this id.
     ensures next { IsHonestFrom L.Link first_id link.old
         → IsHonestFrom L.Link (first_id + length rows.new + 1) link.new }
     ensures agents { L.agents link.new ≡ L.agents link.old }
@@ -71,7 +71,7 @@ pub fn poll<L: Link>(
 }
 
 /// Returns the id with which a poll may begin after one that began with `first_id` and collected
-/// these rows, or None if there is none up to 2147483647.
+/// these rows, or `None` if that id is greater than 2147483647.
 pub fn next_id(first_id: u32, rows: &Collected) -> Option<u32>
     ensures some { IfSome result (λ id. (id ≡ first_id + length rows.now + 1) × (id < 2 ^ 31)) }
     ensures none { IfNone result (2 ^ 31 ≤ first_id + length rows.now + 1) }

@@ -91,8 +91,8 @@ fn an_agent_in_memory_is_polled_again(rt: HostRuntime) {
     }
 }
 
-/// A link over UDP, at whose other end an agent of the same process serves a turn before each
-/// receive.
+/// A link over UDP. Before each receive, an agent in the same process receives once at the other
+/// end, and sends its reply if it has one.
 #[derive(Drop)]
 struct Looped<'a, N> {
     wire: UdpLink,

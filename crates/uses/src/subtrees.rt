@@ -22,7 +22,7 @@ pub struct Subtree {
 ///
 /// A poll that fails doesn't stop those after it: each subtree says how its poll ended. The call
 /// fails if memory for the list of subtrees runs out; then no further poll is begun. Ids continue
-/// from poll to poll; if none is left, the next poll begins with 1 again.
+/// from poll to poll; if no greater id is left, the next poll begins with 1 again.
 ///
 /// The link may be a socket: then nothing is promised about what arrives. If all that arrived in a
 /// poll are replies of a lawful agent (`AreLawful`) with one table to what the poll sent, the rows

@@ -19,7 +19,7 @@ returns-in-Ok-clause-table g c =
     (walked g.L.Link g.met.L.Link.lawful c.instances_below.ensures.from_root c.args.link.now c.run_walk-end.new.link _ c.args.entry c.args.community.now
     c.args.method c.args.first_id c.in-Ok.core c.in-Ok.ensures.ok run.rows run.refused c.run_walk-end.result run.facts
     (λ view why. AreCounted view c.args.entry why c.run_walk-end.new.sink)
-    (λ view why good begins. counted view c.args.entry why run.rows c.run_walk-end.new.sink are begins)).0
+    (λ view why good begins. counted c.names_below.ensures view c.args.entry why run.rows c.run_walk-end.new.sink are begins)).0
 
 pub returns-in-Ok-clause-happened : goal.returns-in-Ok-clause-happened
 returns-in-Ok-clause-happened g c =
@@ -29,4 +29,4 @@ returns-in-Ok-clause-happened g c =
     (walked g.L.Link g.met.L.Link.lawful c.instances_below.ensures.from_root c.args.link.now c.run_walk-end.new.link _ c.args.entry c.args.community.now
     c.args.method c.args.first_id c.in-Ok.core c.in-Ok.ensures.ok run.rows run.refused c.run_walk-end.result run.facts
     (λ view why. AreCounted view c.args.entry why c.run_walk-end.new.sink)
-    (λ view why good begins. counted view c.args.entry why run.rows c.run_walk-end.new.sink are begins)).1
+    (λ view why good begins. counted c.names_below.ensures view c.args.entry why run.rows c.run_walk-end.new.sink are begins)).1

@@ -5,7 +5,7 @@ use Rattle.uses.proofs.CountedRows.{counted_row, other_row}
 use Rattle.uses.proofs.columns.ColumnCountsSink.row.Goals as goal
 
 pub returns-in_default : goal.returns-in_default
-returns-in_default c = other_row c.args.self.now (var_bind c.args.binding.now) c.in_default.ensures.none
+returns-in_default c = other_row c.names_below.ensures c.args.self.now (var_bind c.args.binding.now) c.in_default.ensures.none
 
 pub returns-in-Ok : goal.returns-in-Ok
 returns-in-Ok c =
@@ -13,5 +13,5 @@ returns-in-Ok c =
     let after = c.in-Some-checked_add.ensures in
     let more : c.in-Some-checked_add.count ≡ count_of c.args.self.now c.in-Some.number + 1 = omega (arith, before, after) in
     let updates = c.in-Ok.ensures.updates in
-    counted_row c.args.self.now (record { entry = c.args.self.now.entry; counts = c.insert.new.self }) (var_bind c.args.binding.now) c.in-Some.number
-    c.in-Some-checked_add.count refl c.in-Some.ensures.some more updates.1 updates.2
+    counted_row c.names_below.ensures c.args.self.now (record { entry = c.args.self.now.entry; counts = c.insert.new.self }) (var_bind c.args.binding.now)
+    c.in-Some.number c.in-Some-checked_add.count refl c.in-Some.ensures.some more updates.1 updates.2
