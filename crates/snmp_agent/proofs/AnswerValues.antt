@@ -1,5 +1,5 @@
--- What a MIB view answers has a value that a reply can have (`get_value`, `next_value`). If the name asked for has an encoding, then so has the name that a
--- GetNext returns (`next_name`).
+-- The result of a Get or a GetNext has a value that a reply can have (`get_value`, `next_value`). If the name asked for has an encoding, then so
+-- has the name that a GetNext returns (`next_name`).
 use Rattle.std.proofs.{Common.arith, Common.◌≡◌, Common.ℕ, Common.zero, Common.suc, Common.List, Common.sym, Common.subst, lemmas.Grind.common_steps}
 use Rattle.snmp_oid.specs.Identifier.{IsWire}
 use Rattle.snmp_wire.specs.{Message.Datum, Message.VarBind, Message.Datum.end_of_mib_view}
@@ -8,7 +8,7 @@ use Rattle.snmp_agent.specs.table.Table.{MibView, IsMibView, IsInstanceValue, Is
 instance_answer : (v : Datum) → IsInstanceValue v → IsAnswerValue v
 instance_answer v h = grind (arith, common_steps)
 
--- what holds of a binding `q` holds of a binding `p` that equals it
+-- if a binding `p` equals `q`, then what holds of `q` holds of `p`
 at_binding : (Q : VarBind → Type 0) (p q : VarBind) → p ≡ q → Q q → Q p
 at_binding Q p q same h = subst Q (sym same) h
 

@@ -1,4 +1,4 @@
--- The Response to a GetBulk has the longest prefix of its bindings that fits (`bulk_response`).
+-- The Response to a GetBulk has the longest prefix that fits of all bindings that the GetBulk asks for (`bulk_response`).
 use Rattle.std.proofs.Common.{◌≡◌, ◌≢◌, ℕ, pos, ◌≤◌, ◌<◌, List, [], ◌∷◌, ◌++◌, length, refl, sym, ap, subst, ◌∙◌, ⊎_elim, arith, length-append}
 use Rattle.std.proofs.lemmas.Bool.{cases_lt}
 use Rattle.snmp_wire.specs.declared.kind.Kind.TheVariants as kind
@@ -12,7 +12,7 @@ no_octets : (bindings : List VarBind) → length (canon_bindings bindings) ≡ 0
 no_octets [] none = refl
 no_octets (p ∷ more) none = absurd (omega (arith, none, longer_by [] more p, some_octets p))
 
--- if the binding after `added`, if any, has no room, then no prefix that fits is longer than `added`
+-- `all` is `added ++ more`: if the first of `more` has no room, or `more` is empty, then no prefix of `all` that fits is longer than `added`
 is_longest : MessageSizes → (q : Message) (limit room : ℕ) → IsRoom (response q no_error (pos 0) []) limit room → (all added more : List VarBind) (total : ℕ)
     → all ≡ added ++ more → total ≡ length (canon_bindings added) → HasNoRoom room total more → (ahead rest : List VarBind) → all ≡ ahead ++ rest
     → Fits limit (response q no_error (pos 0) ahead) → length ahead ≤ length added
@@ -29,7 +29,8 @@ is_longest sizes q limit room is_room all added (p ∷ more) total prefix size n
     (λ short. short)
     (cases_lt (length added) (length ahead))
 
--- if a prefix of the bindings of a GetBulk was written, and the next one, if any, had no room, then the Response with this prefix is the Response to it
+-- if a prefix of `all`, the bindings that the GetBulk `q` asks for, was written, and the next binding, if any, had no room, then the Response to `q` has this
+-- prefix
 pub bulk_response : MessageSizes → (view : MibView) (limit room : ℕ) (q m : Message) (all : List VarBind) (end : Held) → q.kind ≡ kind.GetBulkRequest
     → IsBulk view q all → m ≡ response q no_error (pos 0) [] → IsRoom m limit room → (here : HoldsPrefix room [] all end)
     → IsResponse view limit q (response q no_error (pos 0) here.added)

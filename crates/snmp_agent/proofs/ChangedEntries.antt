@@ -1,5 +1,5 @@
--- If a row is inserted among others or removed, then the entries change as `put` and `without_name` say. A MIB view stays one if a variable with a name and
--- a value of an instance is put (`put_good`), or if an instance is removed (`removed_good`).
+-- If a row is inserted among others or removed, then the entries change as `put` and `without_name` say. A MIB view stays a MIB view if a variable with a
+-- name and a value that an instance can have is put (`put_good`), or if an instance is removed (`removed_good`).
 use Rattle.std.proofs.{lemmas.Grind.common_steps, lemmas.Option.slice_get-get_or, lemmas.Option.slice_get_within}
 use Rattle.std.proofs.Common.{◌≡◌, ℕ, suc, ◌-◌, Bool, true, false, not, cond, is_some, List, [], ◌∷◌, ◌++◌, length, take, drop, Some, slice_index_or}
 use Rattle.std.proofs.Common.{None, slice_set, refl, sym, ◌∙◌, ap, subst, arith, Ordering, Less, Result, Ok, Err, IfOk, IfErr}
@@ -59,8 +59,7 @@ pub find_in : (o : List ℕ) (es back : Entries) → IsBeforeAll o back → find
 find_in o [] back h = none_after o back h
 find_in o (e ∷ es) back h = grind (arith, common_steps, find_in o es back h)
 
--- a change or a look-up of a name acts only on the entries between those before the name and those
--- after it
+-- `o` comes after all of `prefix` and before all of `back`: to put, to remove or to find `o` in `prefix ++ (es ++ back)` is to do it in `es`
 module _ (o : List ℕ) (prefix es back : Entries) (passed : IsAfterAll o prefix) (ahead : IsBeforeAll o back) where
   pub put_mid : (v : Datum) → put cmp o v (prefix ++ (es ++ back)) ≡ prefix ++ (put cmp o v es ++ back)
   put_mid v = put_past o v prefix (es ++ back) passed ∙ ap (λ fs. prefix ++ fs) (put_in o v es back ahead)
@@ -88,7 +87,7 @@ pub entries_around : (rows : List VarBind) (index : ℕ) (row : VarBind) → ent
     ≡ entries_of (take index rows) ++ entry_of row ∷ entries_of (drop (suc index) rows)
 entries_around rows index row = map-append entry_of (take index rows) (row ∷ drop (suc index) rows)
 
--- if the last of the rows up to a name has that name, it is the row of the name
+-- if the last row whose name isn't greater than `o` has the name `o`, then it is the only row of the name `o`, at index `index - 1`
 abbrev pub has_name_at : (rows : List VarBind) (index : ℕ) (o : List ℕ) (row : VarBind) → IsIncreasing rows → IsIndexAfter o rows index
     → IsLast (take index rows) row
     → row.name ≡ o → HasNameAt o rows (index - 1)
@@ -210,7 +209,7 @@ module _ (o : List ℕ) (es fs : Entries) (rising : IsSorted es) where
 pub tied : (o p : List ℕ) (b : Bool) → eq_by_cmp cmp o p ≡ b → b ≡ true → o ≡ p
 tied o p b is yes_it = grind (arith, common_steps, same_name)
 
--- if `b` says whether the comparison of a row's name with `o` is equal, then the row has the name `o` if and only if `b` is true
+-- `b` is the result of a test whether a row's name equals `o`: the row has the name `o` if `b` is true (`same_named`), and only then (`other_named`)
 module _ (o : List ℕ) {row name : List ℕ} {r : Ordering} {b : Bool} (is : name ≡ row) (compared : r ≡ cmp name o) (test : b ≡ is_eq r) where
   tie : b ≡ eq_by_cmp cmp row o
   tie = test ∙ ap is_eq (compared ∙ ap (λ (p : List ℕ). cmp p o) is)

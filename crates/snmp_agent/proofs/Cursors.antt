@@ -37,7 +37,7 @@ one_past zero o (e ∷ es) = refl
 one_past (suc round) o [] = refl
 one_past (suc round) o (e ∷ es) = one_past round e.0 es
 
--- a position that is passed once more is the position one round later
+-- one more GetNext from the position after `round` rounds results in the position after `round + 1` rounds
 pub cursor_passed : (view : MibView) (round : ℕ) (o : List ℕ) → passed (cursor_of view round o) ≡ cursor_of view (round + 1) o
 unfolding cursor_of
 cursor_passed view round o = rw add-one (one_past round o (entries_after o (entries view.rows)))

@@ -1,4 +1,4 @@
--- A string has at most one first bar (`same_cut`), and a name ends at most at one bar (`same_end`).
+-- A string is split at its first bar in only one way (`same_cut`), and so is a line at the bar that ends its name (`same_end`).
 use Rattle.std.proofs.Common.{◌≡◌, ◌≢◌, ℕ, ◌<◌, List, ◌∷◌, ◌++◌, length, refl, sym, arith}
 use Rattle.std.specs.List.{All}
 use Rattle.std.proofs.{lemmas.List.append_cancel_left, lemmas.List.Elements.All-contains, lemmas.List.Elements.Contains-append_right}
@@ -15,7 +15,7 @@ pub no_cut : (text prefix back : List ℕ) → HasNoBar text → text ≡ prefix
 no_cut text prefix back h e =
     All-contains (λ octet. octet ≢ bar) text bar h (rw e (Contains-append_right prefix (bar ∷ back) bar (0, omega arith, refl))) refl
 
--- a string has at most one first bar
+-- if a string is split at its first bar in two ways, then both are the same: neither `prefix` nor `other` has a bar
 pub same_cut : (prefix back other after : List ℕ) → HasNoBar prefix → HasNoBar other → prefix ++ bar ∷ back ≡ other ++ bar ∷ after
     → (prefix ≡ other) × (back ≡ after)
 same_cut prefix back other after h k e =
@@ -26,7 +26,7 @@ same_cut prefix back other after h k e =
     let same : prefix ≡ other = same_prefix prefix other (bar ∷ back) (bar ∷ after) e (omega (arith, early, late)) in
     let rest : bar ∷ back ≡ bar ∷ after = append_cancel_left other _ _ (rw same at e) in (same, cc)
 
--- a name ends at most at one bar
+-- if a line is split in two ways at a bar that ends its name, then both are the same
 pub same_end : (format : Format) (name back other after : List ℕ) → EndsAtBar format name → EndsAtBar format other
     → name ++ bar ∷ back ≡ other ++ bar ∷ after → (name ≡ other) × (back ≡ after)
 same_end first_format name back other after h k e = same_cut name back other after h k e

@@ -6,8 +6,8 @@ use Rattle.std.specs.{Char.is_ascii_digit, Str.all_ascii_digits}
 use Rattle.snmp_oid.specs.Numeric.{decimal_value, IsNumeral, IsDotted}
 use Rattle.snmp_agent.specs.table.Text.{IsDecimal}
 
--- `text` was read as `number` up to `left`: `number`, followed by the digits of `left`, is the value of `text`, and `left` is only digits if and only if
--- `text` is
+-- `number` was read from `text`, and `left` is still to be read: `number` followed by the digits of `left` is the value of `text`, and `left` has only digits
+-- if and only if `text` has only digits
 pub record IsReadTo (text left : List ℕ) (number : ℕ) : Type 0 where
   pub value : number * 10 ^ length left + decimal_value left ≡ decimal_value text
   pub digits : all_ascii_digits left ≡ all_ascii_digits text

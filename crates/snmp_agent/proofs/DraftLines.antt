@@ -1,4 +1,5 @@
--- If a draft stores what some lines define, then it does so with one more line (`row_added`), or the reading stops there (`row_halted`, `stopped`).
+-- If a draft stores what some lines define, then it also stores what the next line defines (`row_added`), or the reading stops at that line (`row_halted`,
+-- `stopped`).
 use Rattle.std.proofs.lemmas.Grind.{common_steps}
 use Rattle.std.proofs.Common.{◌≡◌, ℕ, List, [], ◌∷◌, ◌++◌, refl, sym, ap, subst, Result, IfOk, IfErr, MatchResult, append-nil, ◌∙◌, Bool}
 use Rattle.std.proofs.Common.{◌+◌, ◌<◌, ◌≤◌, append_assoc, arith, length, length-append}
@@ -31,7 +32,7 @@ full P exact = halts_weaker (λ _. ⊥) P exact (λ fault none. absurd none)
 
 module _ (format : Format) (before : List (List ℕ)) (line : List ℕ) (number : ℕ) (old : TableBuilder)
     (h : IsDraft format before old) where
-  -- if the line contains a row and the draft gets that row, then it stores what the lines up to this one define
+  -- if `line` contains a row, and that row is added to the draft, then the draft stores what the lines `before` and `line` define
   pub row_added : (row : VarBind) → StatesOnly format line (instance row) → (new : TableBuilder)
       → IsPermutation (draft_entries old ++ entry_of row ∷ []) (draft_entries new)
       → new.objects ≡ old.objects → IsDraft format (before ++ line ∷ []) new
@@ -42,7 +43,7 @@ module _ (format : Format) (before : List (List ℕ)) (line : List ℕ) (number 
         (IsPermutation-append_left (entry_of row ∷ []) h.0 (draft_entries old) h.2) moved,
   )
 
-  -- if no two entries of the draft have the same name, the lines before this one define a table
+  -- if no two entries of the draft have the same name, then the lines `before` define a table
   table_before : AreDistinct (draft_entries old) → AreTable format before
   table_before distinct = good_lines format before h.0 (draft_objects old) h.1
       (distinct_moved h.0 (draft_entries old) h.2 distinct)
@@ -50,7 +51,7 @@ module _ (format : Format) (before : List (List ℕ)) (line : List ℕ) (number 
   abbrev Here : TableError → Type 0
   Here fault = AreTable format before × IsFaultAfter format before line number fault
 
-  -- if the reading stops at a row since another row has its name, then it stops at the faulty line of this row
+  -- if the reading stops since an entry of the draft has the name of the row on `line` (`IsHaltAt`), then it stops since `line` is faulty (`IsHalt`)
   pub row_halted : (row : VarBind) → States format line (instance row) → (e : Halt)
       → IsHaltAt row.name (draft_entries old) number old.exact e
       → IsHalt format before line number old.exact e
@@ -64,14 +65,15 @@ module _ (format : Format) (before : List (List ℕ)) (line : List ℕ) (number 
             (refl, double format before line h.0 (draft_objects old) h.1 row k.2 states there),
       ))
 
-  -- if the reading stops at the fault `wrong` of the line, after entries that differ in name, then it stops at this faulty line
+  -- if the reading stops with the fault `wrong` (`IsStop`), and `wrong` says what is wrong with `line`, then the reading stops since `line` is faulty
+  -- (`IsHalt`)
   pub stopped : (wrong : TableError) → IsFaultAfter format before line number wrong → (e : Halt)
       → IsStop (draft_entries old) old.exact wrong e
       → IsHalt format before line number old.exact e
   stopped wrong faulty = halts_weaker (λ fault. (fault ≡ wrong) × AreDistinct (draft_entries old))
       Here old.exact (λ fault k. (table_before k.1, rw k.0 faulty))
 
--- if all collected rows were inserted, then no two rows have the same name
+-- if all collected rows of the draft `old` were inserted, which resulted in `new`, then no two rows of `old` have the same name
 pub settled_distinct : (old new : TableBuilder) → IsPermutation (draft_entries old) (draft_entries new)
     → new.late.items ≡ [] → AreDistinct (draft_entries old)
 settled_distinct old new moved none =
@@ -96,7 +98,8 @@ read_nothing format text draft holds =
 
 module _ (format : Format) (text rest line after : List ℕ) (old : TableBuilder) (number : ℕ)
     (h : IsReadTo format text rest old number) (e : lines rest ≡ line ∷ lines after) where
-  -- if the draft then also stores what the next line defines, the text is read up to the end of that line
+  -- if the draft `more` stores what the lines up to `line`, the next one, define, and `new` stores the same as `more`, then the text is read up to the end of
+  -- `line`
   pub read_more : (more new : TableBuilder) → length after < length rest
       → IsDraft format (h.done ++ line ∷ []) more
       → IsPermutation (draft_entries more) (draft_entries new) → new.objects ≡ more.objects

@@ -23,8 +23,7 @@ some_none v e = let no : ⊥ = cc in no
 
 -- ---- Get
 
--- if `has_prefix` finds a prefix of the name among the object prefixes, the view has an object for
--- the name
+-- if `has_prefix` returns `true`, then an object prefix of the view equals or begins the name `o`
 prefix_found : (view : MibView) (o : List ℕ) (n : ℕ) → has_prefix view o n ≡ true → HasObject view o
 prefix_found view o zero e = ([], o, e, refl)
 prefix_found view o (suc n) e = elim (or_cases _ _ e) [
@@ -32,7 +31,7 @@ prefix_found view o (suc n) e = elim (or_cases _ _ e) [
   | inr there ↦ prefix_found view o n there
 ]
 
--- if `has_prefix` finds none of at most `n` numbers, no such prefix is an object prefix
+-- if `has_prefix` returns `false` for `n`, then no prefix of the name `o` with at most `n` numbers is an object prefix
 no_prefix : (view : MibView) (o : List ℕ) (n k : ℕ) → has_prefix view o n ≡ false → k ≤ n → contains view.objects (take k o) ≡ true → ⊥
 no_prefix view o zero zero e low is = false≢true (sym e ∙ is)
 no_prefix view o zero (suc k) e low is = absurd (omega (arith, low))

@@ -22,7 +22,7 @@ read_message q octets h = read_bindings q.bindings h.is_pdu.bindings h.is_pdu.ar
 
 -- ---- what a table serves
 
--- what a table answers has an encoding
+-- a value that a reply can have has an encoding
 pub answer_value : (value : Datum) → IsAnswerValue value → HasEncoding value
 answer_value value h = grind (arith, common_steps)
 
@@ -34,7 +34,7 @@ encodable_value value h short = grind (arith, common_steps)
 pub encodable : (binding : VarBind) → IsWritable binding → IsShortValue binding.value → IsEncodable binding
 encodable binding h short = record { name = h.name; value = encodable_value binding.value h.value short }
 
--- an element is longer than its content
+-- the encoding of an element is longer than the content of the element
 longer_element : ElementSizes → (tag : ℕ) (content : List ℕ) → length content < length (canon_element tag content)
 longer_element sizes tag content = omega (arith, sizes.element tag content)
 
@@ -50,7 +50,7 @@ long_content : (value : Datum) → (IsShortValue value → ⊥) → 65535 < leng
 unfolding canon_content
 long_content value long = grind (arith, common_steps, ⊎_elim)
 
--- a binding with a longer string than a reply can have is longer than any datagram
+-- if the value of a binding is a string of more than 65535 octets, then the encoding of the binding has more than 65535 octets
 pub long_binding : ElementSizes → (binding : VarBind) → (IsShortValue binding.value → ⊥) → 65535 < length (canon_binding binding)
 long_binding sizes binding long =
     omega (arith, long_content binding.value long, longer_value sizes binding.value, longer_binding sizes binding)

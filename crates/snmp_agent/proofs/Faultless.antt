@@ -38,7 +38,7 @@ pub line_good : (format : Format) (prefix : List (List ℕ)) (line : List ℕ) (
 line_good format prefix line back h =
     All-contains (IsGoodLine format) (prefix ++ line ∷ back) line h (Contains-append_right prefix (line ∷ back) line (0, omega arith, refl))
 
--- if no two lines are rows of the same name, then a line differs in name from each line before it
+-- if no two of the lines contain rows of the same name, then neither do `line` and `other`, one of the lines before `line`
 pub earlier_differs : (format : Format) (prefix : List (List ℕ)) (line : List ℕ) (back : List (List ℕ)) (other : List ℕ)
     → AllPairs (DifferInName format) (prefix ++ line ∷ back)
     → Contains prefix other → DifferInName format other line

@@ -9,7 +9,7 @@ use Rattle.snmp_agent.proofs.Cuts.{HasNoBar, no_cut}
 
 -- ---- names of a reader
 
--- if a reader of names finds nothing, the string isn't a name
+-- if a reader of names returns `None` for a string, then the string isn't a name in the second format
 pub no_name : (names : Names) (text : List ℕ) → IsLeadingName names text None → IsOnly (IsNameIn (second_format names) text) None
 no_name names text h = grind (arith, common_steps)
 

@@ -20,18 +20,18 @@ Entries = List (List ℕ × Datum)
 abbrev Rows : Type 0
 Rows = FinMap (slice_cmp nat_cmp) Datum
 
--- the entries of a map that was made from sorted entries are these
+-- a map that was made from the sorted entries `es` has the entries `es`
 pub entries_are : (es : Entries) (m : Rows) → IsSorted es → from_sorted {R = slice_cmp nat_cmp} es ≡ m
     → entries m ≡ es
 entries_are es m rising is = ap entries (sym is) ∙ entries-from_sorted (slice_cmp nat_cmp) es rising
 
 -- ---- lists in another order
 
--- if an entry is moved from the later ones to the end of the earlier ones, then all are the same in another order
+-- if the entry `e` is moved to the end of `xs`, then the whole list has the same entries in another order
 to_first : (xs ys zs : Entries) (e : List ℕ × Datum) → IsPermutation (xs ++ (ys ++ e ∷ zs)) ((xs ++ e ∷ []) ++ (ys ++ zs))
 to_first xs ys zs e = grind (arith, common_steps, append_assoc, IsPermutation-append_right, IsPermutation-middle)
 
--- entries at the start may be exchanged for a permutation of them
+-- if the start of a list, `a ++ b`, is replaced by a permutation of it, `c ++ d`, then `total` is still a permutation of the list
 regathered : (total a b c d zs : Entries) → IsPermutation total (a ++ (b ++ zs)) → IsPermutation (a ++ b) (c ++ d) → IsPermutation total (c ++ (d ++ zs))
 regathered total a b c d zs h moved =
     rw (← append_assoc c d zs) (IsPermutation-trans total ((a ++ b) ++ zs) ((c ++ d) ++ zs)
@@ -46,7 +46,7 @@ row_moves m n row had put has hasnt =
     let absent = none_of (find (slice_cmp nat_cmp) row.name (entries m)) (ap is_some (sym (get-entries m row.name)) ∙ sym has ∙ hasnt) in
     rw (put, entries-insert nat_list_cmp_total m row.name row.value) (put_moves row.name row.value (entries m) absent)
 
--- if one of the remaining rows is inserted under a name that no row has, then the rows and the remaining ones are together as before
+-- if a row that isn't inserted yet has a new name and is inserted, then `total` is still a permutation of the inserted rows and those not inserted yet
 taken : (total : Entries) (m n : Rows) (xs ys : Entries) (row : VarBind) (had : Bool)
     → IsPermutation total (entries m ++ (xs ++ entry_of row ∷ ys))
     → n ≡ insert m row.name row.value → had ≡ contains_key m row.name → had ≡ false
@@ -55,7 +55,7 @@ taken total m n xs ys row had h put has hasnt =
     IsPermutation-trans _ _ _ h (IsPermutation-trans _ _ _ (to_first (entries m) xs ys (entry_of row))
     (IsPermutation-append_left (xs ++ ys) _ _ (row_moves m n row had put has hasnt)))
 
--- if the last of the remaining rows is inserted under a name that no row has, then the rows and the remaining ones are together as before
+-- if the last of the rows that aren't inserted yet has a new name and is inserted, then `total` is still a permutation of the inserted rows and the other rows
 pub last_moves : (total : Entries) (m n : Rows) (rows rest : List VarBind) (row : VarBind) (had : Bool)
     → IsPermutation total (entries m ++ entries_of rows) → rows ≡ rest ++ row ∷ []
     → n ≡ insert m row.name row.value → had ≡ contains_key m row.name → had ≡ false
@@ -64,7 +64,8 @@ last_moves total m n rows rest row had h parts put has hasnt =
     rw (append-nil (entries_of rest)) at (taken total m n (entries_of rest) [] row had
     (rw (parts, rows-append rest (row ∷ [])) at h) put has hasnt)
 
--- if the first row of a page is inserted after some of the other rows, under a name that no row has, then all rows are together as before
+-- if some of `others` are inserted, and then `row`, the first row of a page, under a new name, then `total` is still a permutation of the inserted rows, of
+-- `left`, the others that are left, and of the rest of the page
 pub page_row_moves : (total : Entries) (l m n : Rows) (others left : List VarBind) (row : VarBind)
     (rest : List VarBind) (had : Bool)
     → IsPermutation total (entries l ++ (entries_of others ++ entries_of (row ∷ rest)))
@@ -96,7 +97,7 @@ pub merge_ends : (total new : Entries) (m : Rows) (others : List VarBind) (pages
     → IsPermutation (entries m ++ entries_of others) new → IsPermutation total new
 merge_ends total new m others pages h none put = grind (arith, common_steps, IsPermutation-trans, append-nil)
 
--- if collected rows were inserted in another order, then the entries are still the old entries and the entries of the collected rows
+-- if `put`, the collected rows `late` in another order, were inserted, then the new entries are a permutation of the old ones and those of `late`
 pub sorted_moves : (m : Rows) (new : Entries) (late put : List VarBind) → IsPermutation late put
     → IsPermutation (entries m ++ entries_of put) new
     → IsPermutation (entries m ++ entries_of late) new
@@ -104,7 +105,7 @@ sorted_moves m new late put sorted moved =
     IsPermutation-trans _ _ _ (IsPermutation-append_right (entries m) (entries_of late)
     (entries_of put) (IsPermutation-map entry_of late put sorted)) moved
 
--- if the rows that were collected are moved into the table, and none is left, then the entries of both are the same in another order
+-- if all collected rows are inserted into the table, then the entries of the table and of the collected rows together are the same as before, in another order
 pub settled_moves : (m n : Rows) (late taken kept : List VarBind) → taken ≡ late
     → IsPermutation (entries m ++ entries_of taken) (entries n) → kept ≡ []
     → IsPermutation (entries m ++ entries_of late) (entries n ++ entries_of kept)
@@ -112,7 +113,7 @@ settled_moves m n late taken kept same moved none = rw (← same, none, append-n
 
 -- ---- a row that is added to a draft: inserted, appended or collected
 
--- if no collected row is left, and a row with a new name is inserted, then the entries are those before and this one, in another order
+-- if no collected row is left, and a row with a new name is inserted, then all entries are the earlier entries and that of the row, in another order
 pub placed_moves : (old m n : Rows) (gathered late : List VarBind) (row : VarBind) (had : Bool)
     → IsPermutation (entries old ++ entries_of gathered) (entries m ++ entries_of late) → late ≡ []
     → n ≡ insert m row.name row.value → had ≡ contains_key m row.name → had ≡ false
@@ -122,7 +123,7 @@ placed_moves old m n gathered late row had h none put has hasnt =
     rw (none, append-nil (entries n)) (IsPermutation-trans _ _ _ (IsPermutation-append_left (entry_of row ∷ []) _ _
     (rw (none, append-nil (entries m)) at h)) (row_moves m n row had put has hasnt))
 
--- if a row is appended to the inserted entries `ms`, then all entries are the entries before and this one, in another order
+-- if a row is appended to the inserted entries `ms`, then all entries are the earlier entries and that of the row, in another order
 pub appended_moves : (ms ns late : Entries) (row : VarBind) → ns ≡ ms ++ entry_of row ∷ []
     → IsPermutation ((ms ++ late) ++ entry_of row ∷ []) (ns ++ late)
 appended_moves ms ns late row appended =

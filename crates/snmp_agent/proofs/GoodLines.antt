@@ -23,7 +23,7 @@ holds_table : (format : Format) (lines : List (List ℕ)) (h : HasDraft format l
     → HoldsTable format lines h.1 h.2
 holds_table format lines h = whole format lines h.0 h.1 h.2 h.3 h.4 h.5
 
--- if the lines `done` have a draft, and `line` is the next line of a table, then the lines with `line` have one (`one_more`)
+-- if the lines `done` have a draft (`HasDraft`), and `line` is the next line of a table, then `done` with `line` appended has a draft too (`one_more`)
 module _ (format : Format) (done : List (List ℕ)) (line : List ℕ) (rest : List (List ℕ))
     (good : AreTable format (done ++ line ∷ rest)) (h : HasDraft format done) where
   no_row : (p : VarBind) → IsRowLine format line p → find (slice_cmp nat_cmp) p.name h.1 ≡ None

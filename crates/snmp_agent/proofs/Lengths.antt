@@ -12,7 +12,7 @@ pub some_head : (m : Message) (total : ℕ) → 0 < length (canon_head m total)
 unfolding canon_head canon_header
 some_head m total = omega arith
 
--- with bindings of at least one octet and within the room a message stays within the limit, and with longer ones than the room it doesn't
+-- if the bindings take at least one octet and at most `room`, then the message stays within the limit; with more than `room` it doesn't (`beyond`)
 
 pub within : MessageSizes → (m : Message) (limit room n : ℕ) → IsRoom m limit room → n ≢ 0 → n ≤ room → whole_size m n ≤ limit
 within sizes m limit room n h some low = omega (arith, h.fits (λ none. some (omega (arith, none, low))), longer sizes m n room low)

@@ -25,7 +25,7 @@ module _ {X : Type 0} (P : X → Type 0) where
   of_each (y ∷ xs) x h (suc k, low, at) = of_each xs x h.1 (k, omega (arith, low), at)
 
 module _ {X : Type 0} where
-  -- prefixes with the same length are the same
+  -- two prefixes of a list that have the same length are the same
   pub same_prefix : (xs ys more rest : List X) → xs ++ more ≡ ys ++ rest → length xs ≡ length ys → xs ≡ ys
   same_prefix xs ys more rest e long =
       sym (take_at xs more (length xs) refl) ∙ ap (take (length xs)) e ∙ take_at ys rest (length xs) (sym long)
@@ -67,7 +67,7 @@ module _ {X : Type 0} where
   pub nothing_left : (xs : List X) → length xs ≡ 0 → xs ≡ []
   nothing_left xs h = grind (arith, common_steps)
 
-  -- if the elements before index `i` were changed, the one at `i` is still the same
+  -- if `ys` is `xs` with only the elements before index `i` changed, then the element `x` of `ys` at index `i` is also the element of `xs` at `i`
   pub still_there : (f : X → X) (xs ys : List X) (i : ℕ) (x : X) → i < length xs → ys ≡ map f (take i xs) ++ drop i xs → x ≡ get_or ys i x
       → drop i xs ≡ x ∷ drop (i + 1) xs
   still_there f xs ys i x low changed at = grind (arith, common_steps, drop_more, length-map, length-take-le, get_or_at)

@@ -17,7 +17,7 @@ use Rattle.snmp_agent.proofs.Lists.{of_each}
 use Rattle.snmp_agent.proofs.SortedEntries.{not_before_itself, not_both, before_from, before_later, is_after, none_before, second_of_both, before_no_earlier}
 use Rattle.snmp_agent.proofs.SortedEntries.{find-listed, listed_from_find}
 
--- the order of names is the standard's order
+-- the comparison of names as lists of numbers is the lexicographic order of the standard (`Precedes`)
 abbrev pub IsOrder : Type 0
 IsOrder = (o p : List ℕ) → (slice_cmp nat_cmp o p ≡ Less) ↔ Precedes o p
 
@@ -47,7 +47,7 @@ next_from view zero o p q first more = (p, first, more)
 next_from view (suc rounds) o p q first more = (more.0, next_from view rounds o p more.0 first more.1, more.2)
 
 module _ (order : IsOrder) where
-  -- a row after the name is among the later entries
+  -- a row whose name is after `o` is in `back`, the entries after `o`
   later_listed : (view : MibView) (o : List ℕ) (prefix back : Entries) → IsSplitAt view.rows o prefix back → (q : VarBind) → IsRow view q → Precedes o q.name
       → Contains back (q.name, q.value)
   later_listed view o prefix back apart q row after =
@@ -77,8 +77,8 @@ module _ (order : IsOrder) where
         nearest_in p back q (before_later prefix back p apart.rising) (later_listed view o prefix (p ∷ back) apart q row after);
   }
 
-  -- if a GetNext of the name of the last of the first `rounds` entries after `o`, or of `o` if there are none, returns `q`, then so do `rounds + 1` GetNexts
-  -- from `o`
+  -- if the first `rounds` entries after `o` are skipped, and a GetNext of the last name skipped (or of `o` if none was) returns `q`, then the last of
+  -- `rounds + 1` GetNexts from `o` returns `q`
   pub asked_past : (view : MibView) (rounds : ℕ) (o : List ℕ) (prefix back : List (List ℕ × Datum)) → IsSplitAt view.rows o prefix back → (q : VarBind)
       → IsNext view (last_name o (take rounds back)) q → IsNextAfter view rounds o q
   asked_past view zero o prefix back apart q next = next

@@ -27,7 +27,7 @@ module _ (format : Format) (line : List ℕ) where
     stated : IsDouble format prefix line → IsGoodLine format line
     stated double = a_row double.0 double.2
 
-    -- at most one thing is wrong with a line
+    -- at most one thing is wrong with a line: two errors that say what is wrong with it, and have the same number, are the same
     one_wrong : (fault other : TableError) → number_of fault ≡ number_of other
         → IsWrong format prefix line fault → IsWrong format prefix line other → fault ≡ other
     one_wrong (error.BadLine n) (error.BadLine m) e h k = ap error.BadLine e
@@ -55,7 +55,7 @@ first : (format : Format) (lines : List (List ℕ)) (fault : TableError)
 first format lines fault h = grind (arith, common_steps)
 
 module _ (format : Format) (lines : List (List ℕ)) where
-  -- a faulty line isn't one of the good lines before another faulty line
+  -- the faulty line of `fault` isn't before the faulty line of `other`, since all lines before that of `other` define a table
   not_before : (fault other : TableError) (h : IsFaulty format lines fault) (k : IsFaulty format lines other)
       → fault ≢ error.Memory → length h.0 < length k.0 → ⊥
   not_before fault other h k known low =

@@ -18,8 +18,7 @@ OneSpelling = (m n : Message) (b c rest more : List ℕ) → Spells m b → Spel
 
 -- ---- answers
 
--- each name has exactly one answer: to a Get, to a GetNext, and to a repeated GetNext (the law
--- `one_answer`)
+-- each name has exactly one answer to a Get; the next two definitions say the same of a GetNext and of a repeated GetNext (the law `one_answer`)
 abbrev pub HasGets : Type 0
 HasGets = (view : MibView) (o : List ℕ) → HasOne (IsGet view o)
 
@@ -61,7 +60,7 @@ module _ (nexts : HasNextsAfter) (view : MibView) (repetitions : ℕ) (names : L
       let none : round ∷ more ≡ [] = k.last end.0 (round ∷ more) end.1
       (ap (λ rs. rs ++ round ∷ more) end.2 ∙ append_assoc end.0 (end.1 ∷ []) (round ∷ more)) end.3 in cc
 
-  -- rounds that begin in the same way continue in the same way
+  -- if `before ++ a` and `before ++ b` are both all rounds of a GetBulk, then `a` and `b` are the same
   same_rounds : (before a b : List (List VarBind)) → AreRounds view repetitions names (before ++ a)
       → AreRounds view repetitions names (before ++ b) → a ≡ b
   same_rounds before [] [] h k = refl

@@ -1,4 +1,4 @@
--- A line contains at most one statement.
+-- A line contains at most one statement: nothing, an object prefix, or an instance with its value.
 use Rattle.std.proofs.lemmas.Grind.{common_steps}
 use Rattle.std.proofs.Common.{◌≡◌, ℕ, ℤ, neg_ℤ, ◌⊎◌, true, false, List, ◌++◌, length, Ok, sym, ◌∙◌, ap, subst, arith, codes, Some}
 use Rattle.std.specs.Str.{all_ascii_digits}

@@ -30,16 +30,16 @@ module _ (pages : List Page) (index : ℕ) where
       → entries_in (slice_set pages index new) ≡ prefix pages index ++ (es ++ back pages index)
   spliced new es low same = set-parts pages index new low ∙ ap (λ (fs : Entries). prefix pages index ++ (fs ++ back pages index)) same
 
-  -- the page read at an index is the page at that index
+  -- if `page` is at the index, then reading the list of pages at that index returns `page`
   pub page_read : (page found : Page) → slice_get pages index ≡ Some page → found ≡ slice_index_or pages index found → found ≡ page
   page_read page found at read = read ∙ get_or_from_slice_get pages index page found at
 
-  -- replacing a page by one with the same rows changes nothing
+  -- replacing a page by one with the same rows doesn't change the entries of all pages
   pub same_rows : (found new : Page) → index < length pages → found ≡ slice_index_or pages index found → new.rows.items ≡ found.rows.items
       → entries_in (slice_set pages index new) ≡ entries_in pages
   same_rows found new low read same = grind (arith, common_steps, spliced, parts, slice_get_read)
 
-  -- if the row at index `row` of a page is removed, then all entries are the entries without the entry of this row
+  -- if the row at index `row` of a page is removed, then only the entry of this row is removed from the entries of all pages
   pub without_row_of : (page found new : Page) (row : ℕ) → slice_get pages index ≡ Some page → found ≡ slice_index_or pages index found
       → new.rows.items ≡ remove_at found.rows.items row
       → entries_in (slice_set pages index new) ≡ prefix pages index ++ (entries_of (remove_at page.rows.items row) ++ back pages index)
@@ -47,7 +47,7 @@ module _ (pages : List Page) (index : ℕ) where
       spliced new _ (slice_get_within pages index page at)
       (ap entries_of (removed ∙ ap (λ (p : Page). remove_at p.rows.items row) (page_read page found at read)))
 
-  -- if a page of one row is removed, then all entries are the entries without the entry of this row
+  -- if a page of one row is removed, then only the entry of this row is removed from the entries of all pages
   pub without_page : (page : Page) (row : ℕ) → row < length page.rows.items → length page.rows.items ≤ 1
       → entries_in (remove_at pages index) ≡ prefix pages index ++ (entries_of (remove_at page.rows.items row) ++ back pages index)
   without_page page row low one =
@@ -64,8 +64,8 @@ pub get_in : (o : List ℕ) (pages : List Page) → ArePages pages
     → get (from_sorted {R = slice_cmp nat_cmp} (entries_in pages)) o ≡ find (slice_cmp nat_cmp) o (entries_in pages)
 get_in o pages rising = get-from_sorted (slice_cmp nat_cmp) (entries_in pages) o rising
 
--- if `early` are entries up to a name and `late` those after it, and both together are the entries of all pages, then the name splits the pages' rows into
--- these
+-- if the entries of all pages are `early ++ late`, the names in `early` aren't greater than `o` and the names in `late` are, then `o` splits the rows of the
+-- pages into `early` and `late`
 pub splits_apart : (o : List ℕ) (pages : List Page) (early late : List (List ℕ × Datum)) → ArePages pages → entries_in pages ≡ early ++ late
     → IsBeforeNone o early → IsBeforeAll o late → IsSplitAt (from_sorted (entries_in pages)) o early late
 splits_apart o pages early late rising whole passed ahead = grind (arith, common_steps, get_in)
@@ -230,8 +230,7 @@ apart_between o pages index page k rising at splits =
           (all_both _ early (e ∷ []) (after_none o early (after_up_to o early late e sorted splits.up_to)) (none_before o e.0 splits.up_to, tt)) ahead,
     )
 
--- if the k-th row of the n-th page has the name, the rows of the page after it and the pages after
--- that are the rows after the name
+-- if the k-th row of the n-th page has the name `o`, then the rows after `o` are the later rows of that page and the rows of the later pages
 pub apart_after : (o : List ℕ) (pages : List Page) (n : ℕ) (page : Page) (k : ℕ) (row : VarBind) → ArePages pages → n ≤ length pages
     → 0 < length (take n pages) → IsLast (take n pages) page → 0 < length (take k page.rows.items) → IsLast (take k page.rows.items) row → row.name ≡ o
     → (early : List (List ℕ × Datum))

@@ -1,4 +1,4 @@
--- The rows after a name begin at the index that a search finds, on a page (`index_found`) and among the pages (`page_before`).
+-- What a search finds: the index at which the rows after a name begin on a page (`index_found`), and the page that can have a row of a name (`page_before`).
 use Rattle.std.proofs.lemmas.Grind.{common_steps}
 use Rattle.std.proofs.Common.{◌≡◌, ℕ, zero, suc, ◌-◌, ◌≤◌, ◌<◌, true, false, List, [], ◌∷◌, ◌++◌, ◌∙◌, length, take, drop, slice_index_or, slice_set}
 use Rattle.std.proofs.Common.{refl, ap, subst, arith, append_assoc, Some, Less}
@@ -62,7 +62,8 @@ pub pages-append : (xs ys : List Page) → entries_in (xs ++ ys) ≡ entries_in 
 pages-append [] ys = refl
 pages-append (page ∷ xs) ys = grind (arith, common_steps, pages-append xs ys, append_assoc)
 
--- `prefix` are the entries before the page at `index`, and `back` the entries after it; together with its own they are all entries (`parts`)
+-- `prefix` are the entries of the pages before index `index`, and `back` those of the pages after it; with the entries of the page at `index` between them,
+-- they are all entries (`parts`)
 module _ (pages : List Page) (index : ℕ) where
   abbrev pub prefix : List (List ℕ × Datum)
   prefix = entries_in (take index pages)
@@ -78,7 +79,7 @@ module _ (pages : List Page) (index : ℕ) where
 
 -- ---- pages
 
--- if the first of `rows` isn't greater than the name, the name comes after all rows before it
+-- if the names increase, and the first of `rows` isn't greater than the name `o`, then `o` comes after all of `early`, the entries before `rows`
 pub rows_passed : (o : List ℕ) (early : List (List ℕ × Datum)) (rows : List VarBind) (late : List (List ℕ × Datum)) → 1 ≤ length rows
     → IsSorted (early ++ (entries_of rows ++ late)) → begins_up_to o rows ≡ true → IsAfterAll o early
 rows_passed o early rows late some rising begins = grind (arith, common_steps, after_up_to)
@@ -102,8 +103,7 @@ pages_partitioned o (page ∷ pages) rising (suc i) zero d order low h = absurd 
 pages_partitioned o (page ∷ pages) rising (suc i) (suc j) d order low h =
     pages_partitioned o pages (rising_rest (entries_of page.rows.items) (entries_in pages) rising) i j d (omega (arith, order)) (omega (arith, low)) h
 
--- if the name comes before the first of `rows`, it comes before all of them and all rows after
--- them
+-- if the name `o` comes before the first of `rows`, then `o` comes before all of `rows` and all of `more`, the entries after them
 pub rows_ahead : (o : List ℕ) (rows : List VarBind) (more : List (List ℕ × Datum)) → IsSorted (entries_of rows ++ more) → begins_up_to o rows ≡ false
     → IsBeforeAll o (entries_of rows ++ more)
 rows_ahead o rows more rising begins = grind (arith, common_steps, before_from)

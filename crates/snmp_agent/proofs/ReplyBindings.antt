@@ -1,5 +1,4 @@
--- The bindings of a reply while they are written: a prefix of all that were appended
--- (`all_prefix`).
+-- If bindings are appended to a reply, then the reply has a prefix of them: those before the first that has no room (`all_prefix`).
 use Rattle.std.proofs.{lemmas.Grind.common_steps, lemmas.Grind.flat_map-append, lemmas.List.append-nil, lemmas.Bool.Decides.nat_tests, lemmas.Bool.cases_lt}
 use Rattle.std.proofs.Common.{◌≡◌, ◌≢◌, ℕ, ◌+◌, ◌-◌, ◌≤◌, ◌<◌, List, [], ◌∷◌, ◌++◌, length, refl, ⊎_elim, sym, ap, ◌∙◌, arith, length-append}
 use Rattle.std.proofs.Common.{append_assoc, ◌⊎◌, take}
@@ -23,7 +22,7 @@ refused : (h : Held) (p : VarBind) → h.left < length (canon_binding p) → add
 unfolding add
 refused h p large = grind (arith, nat_tests)
 
--- if the octets of a binding that fits are appended, and what is left shrinks by their number, then the reply has this binding added
+-- if the octets of the binding `p` are appended to those of `h`, and `left` is less than `h.left` by the number of these octets, then the result is `add h p`
 pub held_more : (h : Held) (p : VarBind) (octets : List ℕ) (left : ℕ) → octets ≡ h.octets ++ canon_binding p → left + length (canon_binding p) ≡ h.left
     → record { octets = octets; left = left } ≡ add h p
 held_more h p octets left more size = grind (arith, common_steps, added)
@@ -46,13 +45,13 @@ fill_full h (p ∷ more) full = ap (λ (g : Held). fill g more) (add_full h p fu
 
 -- ---- prefixes
 
--- there are no bindings, or the first of them has no room after `total` octets
+-- the list of bindings is empty, or its first binding, appended after `total` octets, takes more than `room` octets together with them
 abbrev pub HasNoRoom : ℕ → ℕ → List VarBind → Type 0
 HasNoRoom room total [] = Unit {0}
 HasNoRoom room total (p ∷ more) = room < total + length (canon_binding p)
 
--- after `start`, a prefix of the bindings was written. If it is all of them, then `end.left` octets of `room` are left; otherwise the next binding had no
--- room, and no room is left.
+-- `end` has the octets `start`, followed by a prefix of the bindings `all`. If the prefix is `all`, then `end.left` octets of `room` are left; otherwise the
+-- binding after the prefix had no room, and no room is left.
 pub record HoldsPrefix (room : ℕ) (start : List ℕ) (all : List VarBind) (end : Held) : Type 0 where
   pub added : List VarBind
   pub more : List VarBind
@@ -113,8 +112,7 @@ pub longer_by : (prefix rest : List VarBind) (p : VarBind)
 unfolding canon_bindings
 longer_by prefix rest p = grind (arith, common_steps, flat_map-append, length-append)
 
--- if bindings had as much room as the limit allows, all of them were written, or they are longer
--- than the limit and no room is left
+-- if bindings were appended to an empty reply with room for `limit` octets, then all were written, or they take more than `limit` octets and no room is left
 pub all_or_full : (limit : ℕ) (reply : ReplyBindings) (out : List ℕ) (returned : List VarBind) → length (take reply.total out) ≡ reply.total
     → HoldsPrefix limit [] returned (held reply out)
     → (take (limit - reply.left) out ≡ canon_bindings returned) ⊎ ((reply.left ≡ 0) × (limit < length (canon_bindings returned)))

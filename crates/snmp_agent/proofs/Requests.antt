@@ -1,5 +1,5 @@
--- The whole Response that is computed for a request is the one that the standard describes (`whole_response`), and its length is computed right
--- (`response_size`).
+-- The whole Response that is computed for a request is the one that the standard describes (`whole_response`), and the length
+-- that is computed for a Response is that of its encoding (`response_size`).
 use Rattle.std.proofs.{lemmas.Grind.common_steps, lemmas.Int.to_z-of_z}
 use Rattle.std.specs.Cmp.Lexicographic.{pointwise, same_text, other_text}
 use mir.Syntax.{w32}
@@ -56,8 +56,8 @@ response_size sizes q status index returned =
     ap (λ head. length head + length (canon_bindings returned)) (same_head (response q status index returned) (length (canon_bindings returned)))
     ∙ sym (sizes.whole (response q status index returned))
 
--- `out` begins with the bindings of the message `r`, which take `total` octets, and `part` is the output that a message may take. If the head of `r` and
--- these bindings are written to the start of `part` whenever they fit, then `r` is written, or it is too long (`is_written`).
+-- `out` begins with the bindings of the message `r`, which take `total` octets; `part` is the first `limit` octets of the output. If `part` begins with the
+-- head of `r` and these bindings whenever they fit, then `r` was written, or it is longer than `limit` (`is_written`).
 module _ (sizes : MessageSizes) (pieces : HasPieces) (limit total : ℕ) (m r : Message) (out part rest : List ℕ) (parts : m ≡ record r { bindings = [] })
     (octets : take total out ≡ canon_bindings r.bindings) (long : length (take total out) ≡ total) (room : length part ≡ limit) where
   total_size : total ≡ length (canon_bindings r.bindings)
@@ -75,7 +75,7 @@ module _ (sizes : MessageSizes) (pieces : HasPieces) (limit total : ℕ) (m r : 
 
 -- ---- the tests of a request
 
--- if `handed` fits in a signed word of 32 bits, and that word is 1, then `z`, which is the same number, is 1
+-- if `handed` equals `z` and fits in a signed word of 32 bits, and that word is 1, then `z` is 1
 pub is_one : {handed z : ℤ} → SFits w32 handed → handed ≡ z → of_z w32 handed ≡ 1 → z ≡ pos 1
 is_one {handed} {z} fits e one = sym e ∙ sym (to_z-of_z w32 handed fits) ∙ ap (to_z w32) one
 

@@ -56,8 +56,7 @@ module _ (view : MibView) (names : List VarBind) (repetitions : ℕ) (old : Held
 -- ---- the computed rounds are the rounds of the standard
 
 module _ (order : IsOrder) (view : MibView) (mib : IsMibView view) (names : List VarBind) where
-  -- the round at an index has the results of that round for the names, and no round follows one that is
-  -- endOfMibView throughout
+  -- each of the computed rounds has the results of that round for the names; if all these results are endOfMibView, then no round follows
   at_index : (i left : ℕ) (before later : List (List VarBind)) (round : List VarBind) → rounds_from view names i left ≡ before ++ round ∷ later
       → AreInRound view (i + length before) names round × (AreEnds round → later ≡ [])
   at_index i zero before later round e = absurd (not_empty before later round e)

@@ -28,7 +28,7 @@ other_name o q other =
 
 -- ---- Gets
 
--- if a look-up of `q` finds the same in `view.rows` and in `rows`, then a Get of `q` returns the same from both
+-- if a look-up of `q` finds the same in `view.rows` and in `rows`, and a Get of `q` returns `p` from `view`, then it returns `p` from the view with `rows` too
 same_get : (view : MibView) (rows : Rows) (q : List ℕ) (p : VarBind) → get view.rows q ≡ get rows q → IsGet view q p
     → IsGet (record { rows = rows; objects = view.objects }) q p
 same_get view rows q p same (variable named row) =

@@ -8,7 +8,7 @@ use Rattle.snmp_agent.specs.{declared.server.Served.Served, declared.server.Turn
 use Rattle.snmp_agent.specs.declared.server.Turn.TheVariants as turn
 use Rattle.snmp_agent.specs.Serving.{AreTurns, IsTurn, TurnDone, same_turn, tally}
 
--- if steps lead from `old` to `between`, and others from there to `new`, then all of them in turn lead from `old` to `new`
+-- if `xs` in turn change the state `old` into `between`, and `ys` change `between` into `new`, then all of them in turn change `old` into `new`
 pub in_turn-append : {L X : Type 0} (step : L → X → L → Type 0) (xs ys : List X) (old between new : L) → InTurn step old xs between
     → InTurn step between ys new → InTurn step old (xs ++ ys) new
 in_turn-append step [] ys old between new h k = subst (λ l. InTurn step l ys new) h k
@@ -42,11 +42,11 @@ module _ {Peer : Type 0} where
   one_more_counts : (done : List (TurnDone Peer)) (d : TurnDone Peer) → one_more d.turn (tally done) ≡ tally (done ++ d ∷ [])
   one_more_counts done d = grind (arith, common_steps, one_more_of, count_push)
 
-  -- if nothing was counted, then the counts are right for no turns
+  -- if all counts are 0, then they are right for 0 turns
   pub no_turns : (agent : Agent) (s : Served) → s ≡ record { replies = 0; dropped = 0; idle = 0; faults = 0 } → AreTurns {Peer = Peer} agent 0 s []
   no_turns agent s none = grind (arith, common_steps, All-nil)
 
-  -- if the counts are right for `n` turns, and one more turn is counted, then they are right for `n + 1` turns
+  -- if the counts are right for `n` turns, and one more turn happens and is counted, then they are right for `n + 1` turns
   pub more_turns : (agent : Agent) (n : ℕ) (s more : Served) (events : List (Event Peer)) (t : Turn) (now : List (Event Peer)) → more ≡ one_more t s
       → AreTurns agent n s events → IsTurn agent t now → AreTurns agent (n + 1) more (events ++ now)
   more_turns agent n s more events t now counted so_far is =
@@ -70,7 +70,7 @@ risen_more n m a b c h k = grind (arith, common_steps)
 faults_with : (t : Turn) (s : Served) → s.faults + cond (same_turn turn.Failed t) 1 0 ≡ (one_more t s).faults
 faults_with t s = grind (arith, common_steps)
 
--- if the endpoint's count increased by the faults counted so far, and in one more turn by 1 if that failed, then it increased by the faults then counted
+-- if the endpoint's fault count increased by `s.faults`, and then by 1 if the turn `t` failed, or not if it didn't, then it increased by `more.faults` in all
 pub risen_in_turn : (t : Turn) (s more : Served) (a b c : ℕ) → more ≡ one_more t s → HasIncreasedBy s.faults a b
     → HasIncreasedBy (cond (same_turn turn.Failed t) 1 0) b c → HasIncreasedBy more.faults a c
 risen_in_turn t s more a b c is h k = grind (arith, common_steps, faults_with, risen_more)

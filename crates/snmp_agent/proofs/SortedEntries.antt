@@ -90,8 +90,8 @@ after_up_to o (f ∷ es) fs e h up_to =
     let less = (all_back _ es (e ∷ fs) (before_all f.0 (es ++ e ∷ fs) (first_of_both _ _ h))).0 in
     (turned f.0 o Less (before_up_to f.0 e.0 o less up_to), after_up_to o es fs e (second_of_both _ _ h) up_to)
 
--- an entry of the list comes before all later ones, after all earlier ones, and before none of
--- those up to it
+-- an entry of the list comes before all later ones; it comes after all earlier ones (`after_earlier`), and neither before these nor before itself
+-- (`before_no_earlier`)
 pub before_later : (es fs : List (List ℕ × Datum)) (e : List ℕ × Datum) → T (is_sorted (slice_cmp nat_cmp) (es ++ e ∷ fs)) → IsBeforeAll e.0 fs
 before_later es fs e h = let rest = rising_rest es (e ∷ fs) h in before_all e.0 fs (first_of_both _ _ rest)
 

@@ -61,14 +61,14 @@ tag_stated format t text _ h = rw h.0 (found _ refl)
 pub row_form : (format : Format) (l : List ℕ) (p : VarBind) (h : IsRowLine format l p) → IsRowForm format l h.name h.tag h.text
 row_form format l p h = grind (arith, common_steps, tag_stated)
 
--- the bar after the name splits a line that has the form of a row
+-- a line with the form of a row is its name, a bar, and the text after that bar: the tag, a bar and the text of the value
 first_cut : (format : Format) (l name tag text : List ℕ) → IsRowForm format l name tag text → l ≡ name ++ bar ∷ (tag ++ bar ∷ text)
 first_cut format l name tag text h = h.parts ∙ append_assoc name (bar ∷ tag) (bar ∷ text)
 
 pub no_row_without_bar : (format : Format) (l name tag text : List ℕ) → HasNoEnd format l → IsRowForm format l name tag text → ⊥
 no_row_without_bar format l name tag text none h = none name (tag ++ bar ∷ text) (first_cut format l name tag text h) h.name_ends
 
--- the name of a row ends at the bar that ends a name, and the rest follows that bar
+-- if a line with the form of a row is split at a bar that ends a name, then the row's name is before that bar, and its tag, a bar and its text are after it
 cursor_past_first : (format : Format) (l prefix after name tag text : List ℕ) → l ≡ prefix ++ bar ∷ after → EndsAtBar format prefix
     → IsRowForm format l name tag text
     → (name ≡ prefix) × (tag ++ bar ∷ text ≡ after)

@@ -111,7 +111,7 @@ holds_no_lines format es os no_entries no_objects = rw (no_entries, no_objects) 
 -- if `es` and `os` are the entries and the object prefixes of the lines `before`, then `holds_more` says what they are with `line` after these
 module _ (format : Format) (before : List (List ℕ)) (line : List ℕ)
     (es : List (List ℕ × Datum)) (os : List (List ℕ)) (h : HoldsLines format before es os) where
-  -- what the lines then contain is what they contained before, and what this one contains
+  -- the lines `before`, together with `line`, contain what `before` contain, and what `line` contains
   stated : (s : Statement) → StatesOnly format line s → (t : Statement) {P Q : Type 0} → P ↔ IsStated format before t → Q ↔ (P ⊎ (t ≡ s))
       → Q ↔ IsStated format (before ++ line ∷ []) t
   stated s only t old new = (
@@ -122,8 +122,8 @@ module _ (format : Format) (before : List (List ℕ)) (line : List ℕ)
     λ is. new.1 (elim (stated_either format before line t is) [ inl earlier ↦ inl (old.1 earlier) | inr now ↦ inr (only.1 t now) ]),
   )
 
-  -- if `fs` and `more` are `es` and `os` with what `line` contains, and the names in `fs` differ only if those in `es` do and the name of a row on `line`
-  -- isn't among these, then `fs` and `more` are the entries and the object prefixes of `before` and `line`
+  -- `fs` and `more` are the entries and the object prefixes of `before` and `line` if two conditions are met: they are `es` and `os` with what `line` contains;
+  -- and if the names in `fs` are distinct, then so are the names in `es`, and none of these is the name of a row on `line`
   holds_more : (s : Statement) → StatesOnly format line s → (fs : List (List ℕ × Datum)) (more : List (List ℕ))
       → ((p : VarBind) → Contains fs (entry_of p) ↔ (Contains es (entry_of p) ⊎ (instance p ≡ s)))
       → ((o : List ℕ) → (list_any (eq_by_cmp (slice_cmp nat_cmp) o) more ≡ true)

@@ -11,21 +11,22 @@ pub data Event (Peer : Type 0) : Type 0 where
   sent : Peer → List ℕ → Event Peer
   send_failed : Peer → List ℕ → Event Peer
 
--- the steps of the list, one after the other, change the state `old` into the state `new`; each
--- begins in the state that the previous one left
+-- the elements of the list, one after the other, can change the state `old` into the state `new`:
+-- `step a x b` says that the element `x` can change the state `a` into `b`
 abbrev pub InTurn : {L X : Type 0} → (L → X → L → Type 0) → L → List X → L → Type 0
 InTurn {L} step old [] new = new ≡ old
 InTurn {L} step old (x ∷ more) new =
     (between : L) × step old x between × InTurn step between more new
 
--- the event of a receive: a datagram that came, silence, or a fault
+-- the event of a receive with this result, after which the buffer has these octets: a datagram
+-- came, none came in time, or the receive failed
 abbrev pub event_of_receive : {Peer : Type 0} → Result (Option (ℕ × Peer)) EndpointFault → List ℕ
     → Event Peer
 event_of_receive (Ok (Some (n, peer))) buffer = came peer (take n buffer)
 event_of_receive (Ok None) buffer = silence
 event_of_receive (Err _) buffer = receive_failed
 
--- the event of a send: a datagram that was sent, or a fault
+-- the event of a send of the datagram to the peer with this result: it was sent, or the send failed
 abbrev pub event_of_reply : {Peer : Type 0} → Result (Unit {0}) EndpointFault → Peer → List ℕ
     → Event Peer
 event_of_reply (Ok _) peer datagram = sent peer datagram

@@ -43,7 +43,8 @@ pub record IsRequest (community octets : List ℕ) (q : Message) : Type 0 where
 
 -- ---- responses
 
--- a Response to a request: it has the request's version, community and request-id
+-- the Response to the request `q` with this error-status, this error-index and these bindings; its
+-- version, community and request-id are those of `q`
 abbrev pub response : Message → ℤ → ℤ → List VarBind → Message
 response q status index bindings = record {
   version = q.version;
@@ -55,8 +56,8 @@ response q status index bindings = record {
   bindings = bindings;
 }
 
--- the lists have the same length, and each binding of the second is an answer to the one that the
--- first has at its index
+-- the two lists have the same length, and each binding of the second list is an answer to the
+-- binding at the same index of the first list
 abbrev pub AreAnswers : (VarBind → VarBind → Type 0) → List VarBind → List VarBind → Type 0
 AreAnswers IsAnswer [] [] = Unit {0}
 AreAnswers IsAnswer (asked ∷ more) (returned ∷ rest) = IsAnswer asked returned
@@ -73,7 +74,8 @@ too_big = pos 1
 abbrev pub not_writable : ℤ
 not_writable = pos 17
 
--- the error-index of the Response to a Set: 1, its first binding, or 0 if it has none
+-- the error-index of the Response to a Set with these bindings: 1, which means the first binding,
+-- or 0 if there are no bindings
 abbrev pub failed_index : List VarBind → ℤ
 failed_index [] = pos 0
 failed_index (_ ∷ _) = pos 1
@@ -103,20 +105,20 @@ abbrev pub or_zero : ℤ → ℕ
 or_zero (pos n) = n
 or_zero (negsuc n) = 0
 
--- all bindings have endOfMibView
+-- each of the bindings has the value endOfMibView
 abbrev pub AreEnds : List VarBind → Type 0
 AreEnds [] = Unit {0}
 AreEnds (p ∷ more) = (p.value ≡ end_of_mib_view) × AreEnds more
 
--- the rounds as one list
+-- the bindings of all rounds in one list, one round after the other
 abbrev pub joined : List (List VarBind) → List VarBind
 joined [] = []
 joined (round ∷ more) = round ++ joined more
 
--- `rounds` are the rounds of a GetBulk for the names that repeat. The round after n others has for
--- each name the last result of n + 1 GetNexts, the first of the name and each other of the name
--- that the previous one returned. There are `repetitions` rounds, or fewer if all of the last round
--- is endOfMibView. No round follows such a round.
+-- `rounds` are the rounds of a GetBulk for the repeating names. Round n, counted from 0, has for
+-- each name the result of the last of n + 1 GetNexts: the first is of the name, and each other is
+-- of the name that the previous one returned. A round of nothing but endOfMibView is the last.
+-- Without such a round, there are `repetitions` rounds; there are never more.
 pub record AreRounds (view : MibView) (repetitions : ℕ) (names : List VarBind) (rounds : List
     (List VarBind)) : Type 0 where
   pub few : length rounds ≤ repetitions
@@ -130,9 +132,10 @@ pub record AreRounds (view : MibView) (repetitions : ℕ) (names : List VarBind)
       → (before : List (List VarBind)) × (round : List VarBind) × (rounds ≡ before ++ round ∷ [])
       × AreEnds round
 
--- `bindings` are all that a GetBulk asks for, whatever their length: the results of a GetNext of
--- its first names, as many as non-repeaters says, or of all if there are fewer, and then the rounds
--- of the other names, at most max-repetitions (`AreRounds`). A negative number counts as 0.
+-- `bindings` are all that the GetBulk `q` asks for, whatever their length: the results of
+-- one GetNext for each of the first non-repeaters names (or for all names if there are fewer),
+-- followed by the rounds of the other names, at most max-repetitions rounds (`AreRounds`). A
+-- negative non-repeaters or max-repetitions counts as 0.
 pub record IsBulk (view : MibView) (q : Message) (bindings : List VarBind) : Type 0 where
   pub singles : List VarBind
   pub rounds : List (List VarBind)
@@ -141,8 +144,8 @@ pub record IsBulk (view : MibView) (q : Message) (bindings : List VarBind) : Typ
       (or_zero q.a) q.bindings) singles
   pub are_rounds : AreRounds view (or_zero q.b) (drop (or_zero q.a) q.bindings) rounds
 
--- `bindings` are the longest prefix of `all` with which the Response fits, or empty if the Response
--- doesn't fit even without bindings
+-- `bindings` are the longest prefix of `all` with which the Response to `q` has at most `max_size`
+-- octets, or empty if the Response is longer even without bindings
 pub record IsLongestPrefix (max_size : ℕ) (q : Message) (all bindings : List VarBind) : Type 0 where
   pub more : List VarBind
   pub prefix : all ≡ bindings ++ more
@@ -166,8 +169,8 @@ pub data IsResponse (view : MibView) (max_size : ℕ) (q r : Message) : Type 0 w
 
 -- ---- replies
 
--- `reply` is the agent's reply to the datagram `octets`: the shortest encoding of its Response to
--- the request in it
+-- `reply` is the agent's reply to the datagram `octets`: the shortest encoding of the Response to
+-- the request that `octets` encode
 pub record IsReply (agent : Agent) (octets reply : List ℕ) : Type 0 where
   pub request : Message
   pub response : Message
@@ -176,8 +179,9 @@ pub record IsReply (agent : Agent) (octets reply : List ℕ) : Type 0 where
   pub fits : Fits agent.max_size response
   pub encoding : reply ≡ canon response
 
--- the octets aren't a request that the agent serves, for this reason; the reasons are tested in
--- this order
+-- the octets aren't a request that an agent with this community serves. The reason is the first
+-- that applies: the octets don't encode a message, or it has another version, another community or
+-- a PDU that isn't served. `TooLong` is never the reason.
 abbrev pub IsRefused : List ℕ → List ℕ → DropReason → Type 0
 IsRefused community octets why.Undecodable = (q : Message) → Spells q octets → ⊥
 IsRefused community octets why.Version = (q : Message) × Spells q octets × (q.version ≢ pos 1)
@@ -187,8 +191,8 @@ IsRefused community octets why.Pdu = (q : Message) × Spells q octets × (q.vers
     × (q.community ≡ community) × (IsServed q.kind → ⊥)
 IsRefused community octets why.TooLong = ⊥
 
--- the agent sends no reply to the octets, for this reason: they aren't a request that it serves,
--- or even its Response without bindings doesn't fit
+-- the agent sends no reply to the octets, for this reason: the octets aren't a request that the
+-- agent serves, or even a Response without bindings is too long
 abbrev pub IsDropped : Agent → List ℕ → DropReason → Type 0
 IsDropped agent octets why.TooLong = (q : Message) × (r : Message)
     × IsRequest agent.community octets q × IsResponse agent.view agent.max_size q r

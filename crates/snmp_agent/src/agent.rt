@@ -44,7 +44,7 @@ pub fn answer(
     ensures reply { (n : ℕ) → result ≡ Outcome.Reply n
         → IsReply (agent_of table.now config.now) request.now (take n out.new) }
     ensures length { (n : ℕ) → result ≡ Outcome.Reply n → n ≤ config.now.max_size }
-    // A request that has a reply gets it.
+    // If the datagram has a reply, that reply is the result.
     ensures replied { (octets : List ℕ)
         → IsReply (agent_of table.now config.now) request.now octets
         → (result ≡ Outcome.Reply (length octets)) × (take (length octets) out.new ≡ octets) }
@@ -73,7 +73,7 @@ pub fn answer_near(
     ensures reply { (n : ℕ) → result ≡ Outcome.Reply n
         → IsReply (agent_of table.now config.now) request.now (take n out.new) }
     ensures length { (n : ℕ) → result ≡ Outcome.Reply n → n ≤ config.now.max_size }
-    // A request that has a reply gets it.
+    // If the datagram has a reply, that reply is the result.
     ensures replied { (octets : List ℕ)
         → IsReply (agent_of table.now config.now) request.now octets
         → (result ≡ Outcome.Reply (length octets)) × (take (length octets) out.new ≡ octets) }
@@ -94,7 +94,7 @@ fn answer_by(
     ensures reply { (n : ℕ) → result ≡ Outcome.Reply n
         → IsReply (agent_of table.now config.now) request.now (take n out.new) }
     ensures length { (n : ℕ) → result ≡ Outcome.Reply n → n ≤ config.now.max_size }
-    // A request that has a reply gets it.
+    // If the datagram has a reply, that reply is the result.
     ensures replied { (octets : List ℕ)
         → IsReply (agent_of table.now config.now) request.now octets
         → (result ≡ Outcome.Reply (length octets)) × (take (length octets) out.new ≡ octets) }

@@ -59,7 +59,7 @@ fn append_answer(
     }
 }
 
-/// Appends what a Get of the name of `asked` returns.
+/// Appends what a Get of the name of `asked` returns, if there is room for it.
 fn append_get(
     table: &Table,
     asked: &BindingRef<'_>,
@@ -75,7 +75,8 @@ fn append_get(
     }
 }
 
-/// Appends the exception that a Get of the name of `asked` returns if no row has that name.
+/// Appends the exception that a Get of the name of `asked` returns if no row has that name. Appends
+/// it only if there is room for it.
 /// `inline(never)`: its local `Binding`, of over a thousand octets, is zeroed when the function
 /// begins; inlined, it would be zeroed for each name of a Get.
 #[inline(never)]
@@ -98,8 +99,8 @@ fn append_exception(
     reply.append(out, &binding)
 }
 
-/// Appends what a GetNext of the name of `asked` returns. If that is a row, records it in `hint`
-/// as the last one returned.
+/// Appends what a GetNext of the name of `asked` returns, if there is room for it. If that is a
+/// row, records its position in `hint`.
 pub fn append_next(
     table: &Table,
     asked: &BindingRef<'_>,

@@ -48,7 +48,8 @@ pub fn one_fault()
 {}
 
 /// If lines don't begin with the mark of the second format, `#snmptab 2`, then the first format
-/// decides which table they define, if any, and what their first fault is, whatever the names.
+/// decides which table they define, if any, and what their first fault is. The names of the
+/// second format make no difference.
 pub fn unmarked_table()
     ensures table { (names : Names) (lines : List (List ℕ)) (view : MibView)
         → (IsMarked lines → ⊥) → (IsTableOf names lines view ↔ IsTableIn first_format lines view) }

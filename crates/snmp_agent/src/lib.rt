@@ -1,7 +1,7 @@
 //! A read-only agent: the replies to the requests of SNMPv2c, from octets to octets (RFC 3416,
 //! section 4.2).
 //!
-//! Built on the messages of `snmp_wire`. A table stores the value of each instance. A server, or a
+//! The messages are those of `snmp_wire`. A table stores the value of each instance. A server, or a
 //! link in memory of `snmp_walk`, passes the datagrams to the agent.
 //!
 //! # Examples

@@ -1,6 +1,6 @@
 //! The table of an agent: the instances that it serves. It can be read from a text file.
 //!
-//! Built on identifiers and values. The agent computes its replies from it.
+//! The agent computes its replies from the table.
 ghost use Rattle.std.specs.Prelude.{◌↔◌, map, IsTrue};
 ghost use Rattle.snmp_agent.specs.table.Entries.{HasBeginning};
 
@@ -121,8 +121,8 @@ impl Table {
         ensures fault { IfErr result (IsFirstFaultIn (F.format format.now) (lines text.now)) }
     {
         let read = match TableBuilder::read(alloc, text, format, false) {
-            // Memory ran out, perhaps since rows were collected to be sorted. An exact reading
-            // collects none.
+            // Memory ran out, or collected rows couldn't all be inserted. An exact reading
+            // collects no rows.
             Err(Halt::Again) => TableBuilder::read(alloc, text, format, true),
             read => read,
         };
@@ -171,7 +171,7 @@ impl Table {
     }
 }
 
-// Single variables, for a program that changes a table itself; `snmp` doesn't.
+// Calls for single variables, for a program that changes a table itself; `snmp` doesn't.
 impl Table {
     ghost use Rattle.std.specs.Prelude.{◌≡◌, IfOk, IfErr};
     ghost use Rattle.std.specs.{Option.option_map, FinMap.contains_key, FinMap.get};

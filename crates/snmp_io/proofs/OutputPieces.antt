@@ -6,7 +6,7 @@ use Rattle.snmp_io.specs.{Count.HasIncreased, Output.FailsWithin, Output.Stream,
 pub rest_whole : (w : ℕ) (text : List ℕ) → take (length text - w) (drop w text) ≡ drop w text
 rest_whole w text = ap (λ n. take n (drop w text)) (sym (length-drop w text)) ∙ take-length (drop w text)
 
--- if w octets of the text were taken and then n more, then w + n were taken
+-- if the first `w` octets of the text were taken, and then the next `n` (or all that follow, if these are fewer), then the first `w + n` were taken (or all)
 pub extended_take : (before now after : Stream) (w n : ℕ) (text : List ℕ) → now ≡ stream_after before (take w text)
     → after ≡ stream_after now (take n (take (length text - w) (drop w text))) → after ≡ stream_after before (take (w + n) text)
 extended_take before now after w n text first more =

@@ -1,4 +1,4 @@
--- What the loops that look for `stop` outside quotes know after each octet.
+-- For loops that look for the octet `stop` outside quotes: what they know after each octet (`IsSoFar`).
 use Rattle.std.proofs.Common.{◌≡◌, ◌+◌, ◌<◌, ◌∙◌, ℕ, List, [], ◌∷◌, ◌++◌, length, take, get_or, Option, None, refl, sym, ap, subst}
 use Rattle.std.proofs.lemmas.List.{take_more}
 use Rattle.snmp_io.specs.{QuoteLaws.quote_after, QuoteLaws.quote_after_both, QuoteLaws.HasNoneAfter, QuoteLaws.none_later, Quotes.open_after}

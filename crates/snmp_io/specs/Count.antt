@@ -1,7 +1,7 @@
 -- How a count of 64 bits increases.
 use Rattle.std.specs.Prelude.{◌≡◌, ◌<◌, ℕ, ◌+◌, min}
 
--- `now` is one more than the count `before`, or stays at the greatest value
+-- `now` is one more than the count `before`, but at most the greatest number of 64 bits
 abbrev pub HasIncreased : ℕ → ℕ → Type 0
 HasIncreased before now = now ≡ min (before + 1) 18446744073709551615
 

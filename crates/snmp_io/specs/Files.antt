@@ -6,7 +6,8 @@ use Rattle.std.specs.Prelude.{◌≡◌, ⊤, ℕ, List, Option, Some, None}
 abbrev pub Holdings : Type 0
 Holdings = List ℕ → Option (Option (List ℕ))
 
--- if it is known what a path holds (the first argument), it is `text`; None stands for no text
+-- If it is known what a path holds (the first argument), then this is `text`. None for `text`
+-- means that the path holds no text.
 abbrev pub HoldsIfKnown : Option (Option (List ℕ)) → Option (List ℕ) → Type 0
 HoldsIfKnown None text = ⊤
 HoldsIfKnown (Some held) text = held ≡ text

@@ -1,4 +1,4 @@
--- How large a file may be, and what an error of the machine means for one.
+-- The most octets that a file may have, and which failed reads mean that memory ran out.
 use Rattle.std.specs.{Prelude.◌≡◌, Prelude.ℕ, IoError.error_kind}
 use Rattle.std.specs.declared.io.ErrorKind.TheVariants.{OutOfMemory}
 use Rattle.snmp_io.specs.declared.machine.ReadError.{ReadError}

@@ -20,7 +20,8 @@ pub quote_after_both : (quote : Option ℕ) (prefix back : List ℕ)
 quote_after_both quote [] back = refl
 quote_after_both quote (octet ∷ prefix) back = quote_after_both (open_after quote octet) prefix back
 
--- a quote stays open over octets of other kinds, and the next of its kind closes it
+-- if the octet `quote` isn't among `inside`, then a quote that is open before `inside` is closed by
+-- the `quote` after it
 closed_by : (quote : ℕ) (inside : List ℕ) → All (λ octet. octet ≢ quote) inside
     → quote_after (Some quote) (inside ++ quote ∷ []) ≡ None
 closed_by quote [] none = rw (quote_after, eq-eqb quote quote refl) refl
@@ -47,7 +48,8 @@ none_open text (pieces, all, is) = ap (quote_after None) is ∙ none_after piece
         (piece_closes piece (All-head IsPiece piece more all))
         ∙ none_after more (All-tail IsPiece piece more all)
 
--- the text closes the quote that is open before it, if one is, and is closed from there on
+-- if no quote is open before `text`, then `text` is closed; if `quote` is open before it, then
+-- `text` has that quote again, and what follows the first one is closed
 abbrev IsClosedAfter : Option ℕ → List ℕ → Type 0
 IsClosedAfter None text = IsClosed text
 IsClosedAfter (Some quote) text = (inside rest : List ℕ) × All (λ octet. octet ≢ quote) inside
@@ -147,7 +149,8 @@ same_cut stop quote (x ∷ prefix) rest (y ∷ other) other_rest e f g h k =
     (subst K same (none_later stop quote y other k)) in
     (ap (λ (z : ℕ). z ∷ other) same ∙ ap (λ (t : List ℕ). x ∷ t) later.0, later.1)
 
--- `stop` never occurs outside quotes if and only if a quote is open before each of its occurrences
+-- if `stop` never occurs outside quotes, then a quote is open before each of its occurrences;
+-- `none_outside` is the converse
 pub never_outside : (stop : ℕ) (text : List ℕ) → HasNoneOutside stop text
     → HasNoneAfter stop None text
 never_outside stop text none before after e at_end = none before after e (is_closed before at_end)

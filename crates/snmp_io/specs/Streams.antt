@@ -16,7 +16,7 @@ octets_after-nil (Some taken) = ap Some (append-nil taken)
 abbrev with_octets : Stream → Option (List ℕ) → Stream
 with_octets s taken = record { taken = taken; faults = s.faults }
 
--- a stream that takes two texts, one after the other, takes the two as one
+-- a stream that took the text `a` and then `b` is the same as one that took `a ++ b`
 pub stream_after-twice : (before : Stream) (a b : List ℕ)
     → stream_after (stream_after before a) b ≡ stream_after before (a ++ b)
 stream_after-twice before a b = ap (with_octets before) (octets_after-twice before.taken a b)

@@ -3,8 +3,8 @@
 //! machine's own outputs and files, only the number of failed writes is known; of outputs and files
 //! in memory, all is known.
 //!
-//! Also here: [`Draft`], a text that is appended whole or not at all, and [`split_unquoted`],
-//! which cuts a text at an octet outside quotes.
+//! The crate also has [`Draft`], a text that is appended whole or not at all, and
+//! [`split_unquoted`], which cuts a text at an octet outside quotes.
 //!
 //! # Examples
 //!

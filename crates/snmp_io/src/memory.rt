@@ -93,7 +93,7 @@ impl Output for MemoryOutput {
     ghost after_takes = { λ _ _. refl };
 }
 
-/// Files in memory. If several have the same path, the first one is at that path.
+/// Files in memory. If several have the same path, only the first one is read.
 #[derive(Clone, Copy, Debug)]
 pub struct MemoryFiles<'a> {
     /// The paths, each with its text.

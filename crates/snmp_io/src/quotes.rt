@@ -1,5 +1,4 @@
-//! Cuts a text at an octet outside quotes. So names are cut at `.` and `:`, and lines of a table
-//! at `|`.
+//! Cuts a text at an octet outside quotes: names at `.` and `:`, and lines of a table at `|`.
 ghost use Rattle.std.specs.Prelude.{◌≡◌, MatchOption};
 ghost use Rattle.snmp_io.specs.Quotes.{HasNoneOutside, IsCut, IsUnquotedPrefix, is_quote};
 ghost use Rattle.snmp_io.specs.Quotes.{open_after};

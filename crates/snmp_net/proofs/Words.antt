@@ -35,7 +35,7 @@ pub parted : (word : List ℕ) (r : Option (Bor (List ℕ) × Bor (List ℕ))) �
     → MatchOption r ⊥ (λ x. (x.0.now ≡ host) × (x.1.now ≡ at.digits))
 parted word r split host port at = split_after 58 word host at.digits r split (omega arith) at.parts (clear host at.host_stated.no_colon)
 
--- if `IsPortOfHost` holds of one host and port only, then `IsHostAndPort` holds of no other
+-- if `r` is an address, and `IsPortOfHost` holds of no other host and port, then `IsHostAndPort` holds of no other
 pub address_only : (word : List ℕ) (r : Option UdpAddress)
     → IfSome r (λ at. (host : List ℕ) (port : ℕ) → IsPortOfHost word host port → (host ≡ at.host.now) × (port ≡ at.port))
     → IfSome r (λ at. (host : List ℕ) (port : ℕ) → IsHostAndPort word host port → (host ≡ at.host.now) × (port ≡ at.port))
@@ -47,7 +47,7 @@ pub address_none : (word : List ℕ) (r : Option UdpAddress) → IfNone r ((host
 address_none word (Some at) fails = tt
 address_none word None fails = λ host port h. fails host port h.2
 
--- if the argument isn't only a host, and `IsPortOfHost` holds of one host and port only, then `IsTarget` holds of no other
+-- if the argument isn't only a host, `r` is an address, and `IsPortOfHost` holds of no other host and port, then `IsTarget` holds of no other
 pub target_only : (word : List ℕ) (r : Option UdpAddress) → ¬ (IsHost word)
     → IfSome r (λ at. (host : List ℕ) (port : ℕ) → IsPortOfHost word host port → (host ≡ at.host.now) × (port ≡ at.port))
     → IfSome r (λ at. (host : List ℕ) (port : ℕ) → IsTarget word host port → (host ≡ at.host.now) × (port ≡ at.port))
@@ -71,7 +71,7 @@ host_only word alone host port t = elim t [
 pub after_prefix : (word prefix rest : List ℕ) → StripsPrefix (FindsTextPrefix prefix) word rest → word ≡ prefix ++ rest
 after_prefix word prefix rest (k, found, is, long) = found.1 ∙ ap (λ (r : List ℕ). prefix ++ r) (sym is)
 
--- no argument begins with both prefixes
+-- no argument begins with both `udp:` and `table:`
 two_prefixes : (word rest path : List ℕ) → word ≡ codes "udp:" ++ rest → word ≡ codes "table:" ++ path → ⊥
 two_prefixes word rest path e f =
     let u : slice_index word 0 ≡ 117 = ap (λ (w : List ℕ). slice_index w 0) e in
@@ -79,7 +79,7 @@ two_prefixes word rest path e f =
     omega arith
 
 module _ (word : List ℕ) where
-  -- the target after `udp:` is the only agent that the argument names
+  -- if `rest` names no other target than `at`, then `udp:` followed by `rest` names no other agent
   pub udp_only : (rest : List ℕ) (at : UdpAddress) → word ≡ codes "udp:" ++ rest
       → ((host : List ℕ) (port : ℕ) → IsTarget rest host port → (host ≡ at.host.now) × (port ≡ at.port))
       → (other : Address) → IsAgent word other → other ≡ udp at.host.now at.port
@@ -98,7 +98,7 @@ module _ (word : List ℕ) where
   ]
 
   module _ (no_table : LacksPrefix word (codes "table:")) (no_udp : LacksPrefix word (codes "udp:")) where
-    -- the target is the only agent that an argument without a prefix names
+    -- if an argument without a prefix names no other target than `at`, then it names no other agent
     pub plain_only : (at : UdpAddress) → ((host : List ℕ) (port : ℕ) → IsTarget word host port → (host ≡ at.host.now) × (port ≡ at.port))
         → (other : Address) → IsAgent word other → other ≡ udp at.host.now at.port
     plain_only at sole (table path) is = absurd (no_table path is.1)

@@ -59,7 +59,7 @@ IsAgent word (udp host port) =
     ⊎ (LacksPrefix word (codes "table:") × LacksPrefix word (codes "udp:")
     × IsTarget word host port)
 
--- the address that a value of the code stands for
+-- the address that an `AgentAddress` stands for
 abbrev pub address_of : AgentAddress → Address
 address_of (agent.Table path) = table path.now
 address_of (agent.Udp at) = udp at.host.now at.port

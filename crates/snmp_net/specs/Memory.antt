@@ -25,8 +25,8 @@ abbrev pub OpensTo : List MemoryAgent → (host : List ℕ) → (port : ℕ) →
 OpensTo agents host port link =
     (agent : MemoryAgent) × (agent_at agents host port ≡ Some agent) × IsLinkTo agent link
 
--- the door can be opened at this host and port: none of the agents has them, all of the requests
--- are still to come at the door, and nothing has failed there
+-- The door can be opened at this host and port: no agent has this host and port. All of the
+-- requests are still to come at the door, and nothing has failed there.
 abbrev pub BindsAt : List MemoryAgent → (requests : List (Bor (List ℕ))) → (host : List ℕ)
     → (port : ℕ) → MemoryDoor → Type 0
 BindsAt agents requests host port door =
@@ -38,8 +38,8 @@ abbrev pub ahead_of : MemoryDoor → List (List ℕ)
 ahead_of door = map (λ request. request.now) (drop door.used door.requests.now)
 
 -- What can happen at the door between two of its states: the next request arrives, or none after
--- the last, or the next is longer than any datagram over UDP and is skipped. A reply leaves the
--- requests that are still to come, and never fails.
+-- the last, or the next is longer than any datagram over UDP and is skipped. A reply doesn't change
+-- the requests that are still to come, and never fails.
 abbrev pub HappensAtDoor : MemoryDoor → Event (Unit {0}) → MemoryDoor → Type 0
 HappensAtDoor old (came peer datagram) new = ahead_of old ≡ datagram ∷ ahead_of new
 HappensAtDoor old silence new = (ahead_of old ≡ []) × (ahead_of new ≡ [])

@@ -87,8 +87,7 @@ impl<'a> AgentAddress<'a> {
     ghost use Rattle.snmp_net.specs.Address.{Address, IsAgent, address_of};
 
     /// Reads the argument that names an agent: `table:PATH`, or `HOST` or `HOST:PORT`, perhaps
-    /// after `udp:`. What begins with `table:` or `udp:` isn't read as a host of this name with a
-    /// port.
+    /// after `udp:`. A `table:` or `udp:` at the start is always this prefix, never a host.
     pub fn read(word: &'a str) -> Option<AgentAddress<'a>>
         ensures stated { IfSome result (λ agent. IsAgent word.now (address_of agent)) }
         ensures only { IfSome result (λ agent. (other : Address)

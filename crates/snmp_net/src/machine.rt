@@ -85,7 +85,8 @@ impl<N: Net> Links for MachineLinks<N> {
 }
 
 /// Returns a socket bound to `port` of the first IPv4 address of `host`. A receive from it waits
-/// up to one second. Returns `None` if no such address is found or the system refuses the socket.
+/// up to one second. Returns `None` if no such address is found, or if the system refuses the
+/// socket or its time limit.
 fn bind_socket<N: Net>(net: &N, host: &str, port: u16) -> Option<UdpSocket> {
     let socket = UdpSocket::bind(net, first_address(net, host, port)?).ok()?;
     socket.set_read_timeout(Some(turn_time())).ok()?;

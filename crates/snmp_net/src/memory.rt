@@ -1,4 +1,4 @@
-//! Links to agents in memory, and doors in memory, for tests and measurements.
+//! Links to agents in memory, and doors (server sockets) in memory, for tests and measurements.
 ghost use Rattle.std.specs.Prelude.{◌≡◌, ◌<◌, ◌≤◌, ℕ, List, Option, IfOk, IfSome, IfNone, length};
 ghost use Rattle.snmp_io.specs.Count.{HasIncreased};
 ghost use Rattle.snmp_net.specs.Memory.{AreServed, BindsAt, OpensTo, agent_at};

@@ -39,7 +39,8 @@ impl UdpLink {
     /// Opens a link to `port` of the first IPv4 address of `host`. A receive over it waits up to
     /// `seconds` seconds.
     ///
-    /// Fails if no IPv4 address of the host is found, or if the system refuses a socket.
+    /// Fails if no IPv4 address of the host is found, or if the system refuses a socket or its time
+    /// limit.
     pub fn open<N: Net>(net: &N, host: &str, port: u16, seconds: u64) -> Result<UdpLink, LinkFault>
         // The time limit of a receive is at least a second.
         requires { 0 < seconds }

@@ -5,7 +5,7 @@ use Rattle.std.specs.Ordering.{nat_cmp, ordering_then}
 use Rattle.std.specs.{Cmp.ranked, Cmp.nat_cmp_is, Cmp.Lexicographic.slice_cmp, declared.cmp.Ordering.Ordering}
 use Rattle.std.specs.declared.cmp.Ordering.TheVariants.{Less, Equal, Greater}
 
--- two lists compare as they do with a common prefix before them
+-- `o` and `p` compare as `prefix ++ o` and `prefix ++ p` do
 prefix_alike : (prefix o p : List ℕ) → slice_cmp nat_cmp o p ≡ slice_cmp nat_cmp (prefix ++ o) (prefix ++ p)
 prefix_alike [] o p = refl
 prefix_alike (n ∷ prefix) o p = rw (← nat_cmp_is n n Equal refl) (prefix_alike prefix o p)
@@ -21,7 +21,7 @@ decides_by n m rest Less is differ = refl
 decides_by n m rest Equal is differ = absurd (differ (ranked n m Equal is))
 decides_by n m rest Greater is differ = refl
 
--- if o and p agree before index i and differ there, then their numbers at i compare as o and p do
+-- if o and p agree before index i and differ at i, then o and p compare as their numbers at i do
 pub first_decides : (i : ℕ) (o p : List ℕ) → i < length o → i < length p → take i o ≡ take i p → (get_or o i 0 ≡ get_or p i 0 → ⊥)
     → nat_cmp (get_or o i 0) (get_or p i 0) ≡ slice_cmp nat_cmp o p
 first_decides i o p h k same differ =
@@ -36,14 +36,14 @@ pub one_more_alike : (i : ℕ) (o p : List ℕ) → i < length o → i < length 
     → take (i + 1) o ≡ take (i + 1) p
 one_more_alike i o p h k same equal = grind (arith, common_steps, take_more)
 
--- if s or t is empty, then they compare as n and m do, which are their lengths plus `both`
+-- if `s` or `t` is empty, then `s` and `t` compare as `n` and `m` do: the length of `s` plus `both`, and the length of `t` plus `both`
 ends : (n m both : ℕ) (s t : List ℕ) → length s + both ≡ n → length t + both ≡ m → (both < n → both < m → ⊥) → nat_cmp n m ≡ slice_cmp nat_cmp s t
 ends n m both [] [] e d h = sym (nat_cmp_is n m Equal (omega arith))
 ends n m both [] (y ∷ t) e d h = sym (nat_cmp_is n m Less (omega arith))
 ends n m both (x ∷ s) [] e d h = sym (nat_cmp_is n m Greater (omega arith))
 ends n m both (x ∷ s) (y ∷ t) e d h = absurd (h (omega arith) (omega arith))
 
--- if o and p agree before index `both` and one of them ends there, then they compare as their lengths do
+-- if o and p agree before index `both`, and one of them has exactly `both` numbers, then they compare as their lengths do
 pub longer_after : (both : ℕ) (o p : List ℕ) → both ≤ length o → both ≤ length p → (both < length o → both < length p → ⊥) → take both o ≡ take both p
     → nat_cmp (length o) (length p) ≡ slice_cmp nat_cmp o p
 longer_after both o p h k end same =

@@ -1,4 +1,4 @@
--- Dotted names, as the parts between their dots.
+-- A text is dotted with some numbers (`IsDotted`) if and only if the parts between its dots are numerals of these numbers.
 use Rattle.std.proofs.{lemmas.Grind.common_steps, lemmas.Bool.and_parts, lemmas.Bool.ne_eqb, lemmas.List.append-nil, lemmas.List.Sums.take_while-cons}
 use Rattle.std.proofs.Common.{◌≡◌, ◌≢◌, ℕ, true, false, not, ◌==◌, List, [], ◌∷◌, ◌++◌, length, All, Option, Some, None, MatchOption, refl, sym, ◌∙◌}
 use Rattle.std.proofs.Common.{ap, subst, arith}
@@ -7,11 +7,11 @@ use Rattle.std.proofs.lemmas.List.Splits.{slice_split_at, slice_split_none, join
 use Rattle.std.specs.{Char.is_ascii_digit, List.slice_split, List.take_while, List.join_with_byte, Str.all_ascii_digits}
 use Rattle.snmp_oid.specs.Numeric.{dot, IsNumeral, IsDotted}
 
--- the parts between the dots
+-- the parts of a text between its dots
 abbrev pub parts : List ℕ → List (List ℕ)
 parts text = slice_split (λ octet. octet == dot) text
 
--- the parts of what is left of a text, if anything is
+-- the parts of the text that is left, or no parts if nothing is left
 abbrev pub parts_left : Option (List ℕ) → List (List ℕ)
 parts_left None = []
 parts_left (Some here) = parts here
@@ -39,7 +39,7 @@ digits_have_no_dot (octet ∷ rest) e =
 tests_false : (part : List ℕ) → HasNoDot part → All (λ octet. (octet == dot) ≡ false) part
 tests_false part free = All-weaker (λ octet. octet ≢ dot) (λ octet. (octet == dot) ≡ false) (λ octet other. ne_eqb octet dot other) part free
 
--- if a text is a part without dots, a dot and a rest, then its parts are this part and the parts of the rest
+-- if `part` has no dot, then the parts of `part ++ dot ∷ rest` are `part` and then the parts of `rest`
 pub parts_of_first : (part rest : List ℕ) → HasNoDot part → parts (part ++ dot ∷ rest) ≡ part ∷ parts rest
 parts_of_first part rest free = slice_split_at (λ octet. octet == dot) part dot rest (tests_false part free) refl
 
@@ -50,7 +50,7 @@ parts_of_last part free = slice_split_none (λ octet. octet == dot) part (tests_
 some_part : (text : List ℕ) → parts text ≢ []
 some_part text none = omega (arith, length-slice_split (λ octet. octet == dot) text, ap length none)
 
--- if a text is dotted, then its parts are numerals
+-- if a text is dotted with the numbers `o`, then its parts are numerals of these numbers
 pub numerals_from_dotted : (o text : List ℕ) → IsDotted text o → AreNumerals (parts text) o
 numerals_from_dotted [] text h = absurd h
 numerals_from_dotted (n ∷ []) text h = rw (parts_of_last text (digits_have_no_dot text h.digits)) (h, tt)
@@ -67,7 +67,7 @@ joined_is_dotted (p ∷ q ∷ ps) [] some h = absurd h
 joined_is_dotted (p ∷ q ∷ ps) (n ∷ []) some h = absurd h.1
 joined_is_dotted (p ∷ q ∷ ps) (n ∷ m ∷ more) some h = (p, join_with_byte dot (q ∷ ps), refl, h.0, joined_is_dotted (q ∷ ps) (m ∷ more) (λ none. cc) h.1)
 
--- if the parts of a text are numerals, then the text is dotted
+-- if the parts of a text are numerals of the numbers `o`, then the text is dotted with these numbers
 pub dotted_from_numerals : (o text : List ℕ) → AreNumerals (parts text) o → IsDotted text o
 dotted_from_numerals o text h =
     subst (λ (t : List ℕ). IsDotted t o) (join_with_byte-slice_split dot text) (joined_is_dotted (parts text) o (some_part text) h)

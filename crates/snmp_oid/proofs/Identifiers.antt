@@ -1,4 +1,4 @@
--- Identifiers as lists of numbers: what is below a root, and the order.
+-- Identifiers as lists of numbers: which are below a root, and how identifiers are ordered.
 use Rattle.std.proofs.Common.{◌≡◌, ℕ, ◌<◌, ◌↔◌, ◌⊎◌, inl, inr, List, [], ◌∷◌, ◌++◌, length, take, drop, refl, sym, ◌∙◌, ap, subst, arith, length-drop}
 use Rattle.std.proofs.{lemmas.List.take-append-drop, Math.Seq.take-append_seam, lemmas.Map.Text.is_eq-slice_cmp, lemmas.Slice.Eq.bytes_eq-Decides}
 use Rattle.std.specs.Ordering.{MatchOrdering, nat_cmp, ordering_then, ordering_reverse}
@@ -22,7 +22,7 @@ prefix_from_below o root h = ap (take (length root)) h.2 ∙ take-append_seam ro
 
 pub ruleset prefixes = (is_eq-slice_cmp, bytes_eq-Decides, below_from_prefix, prefix_from_below)
 
--- if o precedes p, then it does with the same number before both
+-- if `o` precedes `p`, then `n ∷ o` precedes `n ∷ p`
 precedes_after : (n : ℕ) (o p : List ℕ) → Precedes o p → Precedes (n ∷ o) (n ∷ p)
 precedes_after n o p (inl h) = inl (h.0, h.1, ap (λ (s : List ℕ). n ∷ s) h.2)
 precedes_after n o p (inr h) =
@@ -45,7 +45,7 @@ parts_at_once n m o p h =
 abbrev pub Says : Ordering → List ℕ → List ℕ → Type 0
 Says r o p = MatchOrdering r (Precedes o p) (o ≡ p) (Precedes p o)
 
--- the first numbers decide how two identifiers compare, or the rest does if they are equal
+-- if `n` and `m` compare as `r` says, and `o` and `p` as `s` says, then `n ∷ o` and `m ∷ p` compare as `r` says, or as `s` says if `r` is `Equal`
 by_first : (n m : ℕ) (o p : List ℕ) (r s : Ordering) → MatchOrdering r (n < m) (n ≡ m) (m < n) → Says s o p → Says (ordering_then r s) (n ∷ o) (m ∷ p)
 by_first n m o p Less s h rest = parts_at_once n m o p h
 by_first n m o p Equal Less h rest = subst (λ (k : ℕ). Precedes (n ∷ o) (k ∷ p)) h (precedes_after n o p rest)
@@ -59,7 +59,7 @@ compared [] (m ∷ p) = inl (m ∷ p, (λ none. cc), refl)
 compared (n ∷ o) [] = inl (n ∷ o, (λ none. cc), refl)
 compared (n ∷ o) (m ∷ p) = by_first n m o p (nat_cmp n m) (slice_cmp nat_cmp o p) (ranked n m (nat_cmp n m) refl) (compared o p)
 
--- a proper prefix is less
+-- a list is less than a longer list that begins with it
 less_from_longer : (o rest : List ℕ) → (rest ≡ [] → ⊥) → slice_cmp nat_cmp o (o ++ rest) ≡ Less
 less_from_longer [] [] some = absurd (some refl)
 less_from_longer [] (m ∷ rest) some = refl
@@ -78,7 +78,7 @@ itself_equal : (o : List ℕ) → slice_cmp nat_cmp o o ≡ Equal
 itself_equal [] = refl
 itself_equal (n ∷ o) = rw (← nat_cmp_is n n Equal refl) (itself_equal o)
 
--- the result of a comparison is `Less` if and only if o precedes p, `Equal` if and only if they are the same, and `Greater` if and only if p precedes o
+-- the result of a comparison is `Less` if and only if o precedes p
 pub ordered_less : (o p : List ℕ) → (slice_cmp nat_cmp o p ≡ Less) ↔ Precedes o p
 ordered_less o p = (λ e. subst (λ (r : Ordering). Says r o p) e (compared o p), less_from_precedes o p)
 

@@ -8,7 +8,8 @@ use Rattle.std.proofs.lemmas.Str.Parse.{IsNumeralModel, numerals_by_weight, tell
 use Rattle.std.specs.{Char.is_ascii_digit, Str.all_ascii_digits}
 use Rattle.snmp_oid.specs.Numeric.{decimal_value, IsNumeral}
 
--- `left` is the end of the part that is still to be read, and `number`, of 32 bits, is the value of the digits before it
+-- `part` is read up to `left`: `number`, of 32 bits, and then the digits of `left` write the value of `part`; `left` consists of digits if and only if
+-- `part` does
 pub record IsReadTo (part left : List ℕ) (number : ℕ) : Type 0 where
   pub value : number * 10 ^ length left + decimal_value left ≡ decimal_value part
   pub digits : all_ascii_digits left ≡ all_ascii_digits part
@@ -37,7 +38,7 @@ pub read_large : (part rest : List ℕ) (digit number : ℕ) → 2 ^ 32 ≤ numb
     → IsNumeral part n → ⊥
 read_large part rest digit number large h n numeral = grind (arith, common_steps, le-mul_of_pos_right, one-le-pow, value_more)
 
--- what follows `count` octets of a part is the octet at this offset, and then the octets after it
+-- what follows the first `count` octets of `part` is the octet at offset `count`, and then the octets from offset `count + 1` on
 prefix_at : (part : List ℕ) (count : ℕ) → count < length part → drop count part ≡ get_or part count 0 ∷ drop (count + 1) part
 prefix_at part count low = rw (add-one, drop-cons part count 0) refl
 
@@ -69,7 +70,7 @@ prefix_numeral text count number some h =
     read_all (take count text) number (λ none. omega (arith, ap length none, full))
     (subst (λ (t : List ℕ). IsReadTo t [] number) (append-nil (take count text)) (h.read []))
 
--- the decimal digits of a number are a numeral of it
+-- texts of decimal digits, and their value `decimal_value`, satisfy `IsNumeralModel`
 own : IsNumeralModel (λ ds. all_ascii_digits ds ≡ true) decimal_value
 own = numerals_by_weight (λ ds. all_ascii_digits ds ≡ true) tells_all_ascii_digits decimal_value record { empty = refl; more = λ digit rest range. refl }
 

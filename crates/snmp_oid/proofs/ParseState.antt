@@ -1,4 +1,4 @@
--- The state of a parse: the parts read so far, the offset of the next, and what is known at the end.
+-- The state while a text is parsed: the parts read so far, the offset of the next part, and what the text names when all is read.
 use Rattle.std.proofs.{lemmas.Grind.common_steps, lemmas.Bool.cases_order, Math.Seq.get_or-append_seam}
 use Rattle.std.proofs.Common.{◌≡◌, ◌≢◌, ℕ, min, ◌+◌, ◌-◌, ◌≤◌, ◌<◌, ◌⊎◌, inl, inr, Bool, true, false, List, [], ◌∷◌, ◌++◌, length, take, drop, get_or}
 use Rattle.std.proofs.Common.{slice_index, Option, Some, None, refl, sym, ◌∙◌, ap, subst, arith, length-append, append_assoc, ⊎_elim, MatchOption}
@@ -38,7 +38,7 @@ pub record IsParsedTo (text : List ℕ) (left : Option (List ℕ)) (kept : List 
   pub at_position : IsPositionOf text left at
   pub before : (k : ℕ) → k < at → BeginsPart text k → (n : ℕ) × IsNumeral (part_at text k) n
 
--- a text that begins with a dot isn't dotted
+-- a text that begins with a dot doesn't satisfy `IsDotted`
 no_empty_first : (rest o : List ℕ) → IsDotted (dot ∷ rest) o → ⊥
 no_empty_first rest o h = (part_is_numeral [] [] (parts rest) o (numerals_from_dotted o (dot ∷ rest) h)).1.some refl
 
@@ -62,7 +62,7 @@ dot_alone text o is (inr (inr h)) =
     let none : h.0 ≡ [] = cc (h.1, is) in
     absurd ((part_is_numeral [] [] [] o (numerals_from_dotted o [] (rw none at h.2))).1.some refl)
 
--- a text names at most one list of numbers
+-- if a text is dotted with the numbers o and with the numbers p, then o and p are the same
 same_dotted : (text o p : List ℕ) → IsDotted text o → IsDotted text p → o ≡ p
 same_dotted text o p h g = same_numerals (parts text) o p (numerals_from_dotted o text h) (numerals_from_dotted p text g)
 
@@ -81,8 +81,8 @@ one_bad_part text at k h g =
     let not_above : k < at → ⊥ = λ low. (let one = h.before k low g.part in g.bad one.0 one.1) in
     omega (arith, not_below, not_above)
 
--- if the text isn't a single dot, and `dotted`, the text without its leading dot, begins at offset `at`, with no part before it, then the text is read up to
--- `dotted`, with no numbers
+-- if the text isn't a single dot, then it is read up to `dotted`, the text without its leading dot if it has one, with no numbers; `at` is the offset of
+-- `dotted`, and no part begins before it
 begins_at : (text dotted kept : List ℕ) → text ≢ dot ∷ [] → IsAfterDot text dotted → kept ≡ [] → (at : ℕ) → IsPositionOf text (Some dotted) at
     → ((k : ℕ) → k < at → BeginsPart text k → ⊥) → IsParsedTo text (Some dotted) kept false
 begins_at text dotted kept more prefix none at at_position before = record {
@@ -184,7 +184,8 @@ keeps_more numbers kept new too_long now n first long (inr keeps) =
       λ _. omega (arith, length_push numbers n),
     )
 
--- if a text is read up to a part, and the part is read too, then the text is read up to the end of this part
+-- if a text is read up to `here`, and the first part of `here` is a numeral of n, then the text is read up to the end of this part; `new` and `now` are the
+-- numbers and the flag after n (`Keeps`)
 pub parse_more : {text here : List ℕ} {suffix : Option (List ℕ)} {kept : List ℕ} {too_long : Bool} (new : List ℕ) (now : Bool) {n : ℕ}
     → IsParsedTo text (Some here) kept too_long → IsPartRead here (Some n) suffix → Keeps kept too_long n new now → IsParsedTo text suffix new now
 parse_more {text} {here} {suffix} {kept} {too_long} new now {n} h r keeps =
@@ -205,7 +206,7 @@ parse_more {text} {here} {suffix} {kept} {too_long} new now {n} h r keeps =
       before = before_more text r h.at h.at_position.0 n r.read h.before;
     }
 
--- a digit before a dot is a part, and a numeral
+-- if a text begins with a digit and a dot, then its first part is the digit, a numeral
 digit_read : (digit : ℕ) (rest : List ℕ) → is_ascii_digit digit ≡ true → IsPartRead (digit ∷ dot ∷ rest) (Some (digit - 48)) (Some rest)
 digit_read digit rest is_digit =
     let digits : all_ascii_digits (digit ∷ []) ≡ true = ap (λ b. b && true) is_digit in record {
@@ -215,7 +216,8 @@ digit_read digit rest is_digit =
       read = record { some = λ none. cc; digits = digits; value = omega arith; fits = omega (arith, digit_small digit is_digit) };
     }
 
--- if a text is read up to some parts of one digit each, then it is read up to their end with the numbers of these digits appended
+-- if a text is read up to `here`, which begins with parts of one digit each, and there is room for their numbers, then it is read up to `rest`, with the
+-- numbers appended
 parse_each : (digits text here rest kept : List ℕ) (too_long : Bool) → IsParsedTo text (Some here) kept too_long
     → All (λ digit. is_ascii_digit digit ≡ true) digits → here ≡ flat_map (λ digit. digit ∷ dot ∷ []) digits ++ rest → length kept + length digits ≤ 128
     → IsParsedTo text (Some rest) (kept ++ map (λ digit. digit - 48) digits) too_long
@@ -234,7 +236,7 @@ pub parse_digits : {count : ℕ} {text here rest kept new : List ℕ} {too_long 
     → AreDigitsRead count here rest kept new → IsParsedTo text (Some rest) new too_long
 parse_digits {count} {text} {here} {rest} {kept} {new} {too_long} h read = grind (arith, common_steps, parse_each, parts)
 
--- if the next part isn't a numeral, then it is the first bad one, and the text names nothing
+-- if a text is read up to `here`, and the first part of `here` isn't a numeral, then this part is the first bad one of the text
 pub bad_part_here : {text here : List ℕ} {suffix : Option (List ℕ)} {kept : List ℕ} {too_long : Bool} → IsParsedTo text (Some here) kept too_long
     → IsPartRead here None suffix → IsFirstBadPart text (length text - length here)
 bad_part_here {text} {here} h r =
@@ -256,11 +258,11 @@ bad_part_no_name {text} {here} {suffix} h r o name =
     let one = part_is_numeral h.done r.part (parts_left suffix) o all in
     r.read one.0 one.1
 
--- at the end, the text names the numbers read
+-- if the whole text is read, then it names the numbers read
 pub parsed_name : (text kept : List ℕ) (too_long : Bool) (h : IsParsedTo text None kept too_long) → IsNumericName text h.numbers
 parsed_name text kept too_long h = grind (arith, common_steps, name_from_dotted, dotted_from_numerals, append-nil)
 
--- at the end, the text names nothing but the numbers read
+-- if the whole text is read, then it names only the numbers read
 pub parsed_only : (text kept : List ℕ) (too_long : Bool) (h : IsParsedTo text None kept too_long) (o : List ℕ) → IsNumericName text o → o ≡ h.numbers
 parsed_only text kept too_long h o name = grind (arith, common_steps, same_numerals, append-nil, numerals_from_dotted, dotted_from_name)
 
@@ -277,8 +279,8 @@ parts_after : (text part : List ℕ) (after : Option (List ℕ)) → text ≡ pa
 parts_after text part None e = e ∙ append-nil part
 parts_after text part (Some rest) e = e
 
--- if one or more digits at the start of a text write `number` (`IsLeadingNumber`), and a dot or the end follows, they are the first part of the text, which
--- is a numeral of `number`
+-- if one or more digits at the start of a text write `number` (`IsLeadingNumber`), and a dot or the end follows, then these digits are the first part of
+-- the text, a numeral of `number`
 pub part_is_read : (text : List ℕ) (count number : ℕ) (after : Option (List ℕ)) → 0 < count → IsLeadingNumber text count number
     → drop count text ≡ dot_and_rest after → IsPartRead text (Some number) after
 part_is_read text count number after some h suffix =

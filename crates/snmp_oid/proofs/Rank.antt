@@ -1,4 +1,4 @@
--- Identifiers are ordered as their ranks are.
+-- One identifier precedes another if and only if its rank is smaller. The base of the digits is 4294967297, 2^32 + 1.
 use Rattle.std.proofs.{lemmas.Grind.common_steps, lemmas.List.append-nil, lemmas.List.drop_at, lemmas.List.append_assoc}
 use Rattle.std.proofs.Common.{◌≡◌, ◌≢◌, ℕ, suc, ◌+◌, ◌-◌, ◌*◌, ◌^◌, ◌<◌, ◌≤◌, ◌↔◌, inl, inr, List, [], ◌∷◌, ◌++◌, length, drop, All, refl, sym, ◌∙◌}
 use Rattle.std.proofs.Common.{ap, arith, lit<, length-append}
@@ -9,15 +9,15 @@ use Rattle.std.specs.declared.cmp.Ordering.TheVariants.{Less, Equal, Greater}
 use Rattle.snmp_oid.specs.Identifier.{Precedes, IsIdentifier, rank_in, rank}
 use Rattle.snmp_oid.proofs.Identifiers.{Says, compared}
 
--- a power of the base is the power before it times the base
+-- if `digits` isn't 0, then the base to the power `digits` is the base to the power `digits - 1`, times the base
 power_step : (digits : ℕ) → 0 < digits → 4294967297 ^ digits ≡ 4294967297 ^ (digits - 1) * 4294967297
 power_step digits some = let e : digits ≡ suc (digits - 1) = omega arith in ap (λ d. 4294967297 ^ d) e ∙ pow-suc 4294967297 (digits - 1)
 
--- a digit and the digits after it are together below the next greater digit
+-- if n is below m, and `rest` is below `power`, then the digit n + 1 followed by digits of the value `rest` is below the digit m + 1 followed by zeros
 digit_below : (n m power rest : ℕ) → rest < power → n < m → (n + 1) * power + rest < (m + 1) * power
 digit_below n m power rest low less = grind (arith, common_steps, mul-le-mul_right)
 
--- `digits` digits write a number below the base to the power `digits`
+-- the rank of an identifier of at most `digits` numbers is below the base to the power `digits`
 rank_fits : (digits : ℕ) (o : List ℕ) → length o ≤ digits → All (λ n. n < 2 ^ 32) o → rank_in digits o < 4294967297 ^ digits
 rank_fits digits [] short small = one-le-pow digits 4294967297 (lit< tt)
 rank_fits digits (n ∷ rest) short small =
@@ -26,7 +26,7 @@ rank_fits digits (n ∷ rest) short small =
     let below = digit_below n 4294967296 (4294967297 ^ (digits - 1)) (rank_in (digits - 1) rest) low first in
     omega (arith, power_step digits (omega arith), below)
 
--- if `s` ranks below `t`, then so it does with a common prefix before both
+-- if `s` ranks below `t`, then `prefix ++ s` ranks below `prefix ++ t`
 rises_after : (digits : ℕ) (prefix s t : List ℕ) → rank_in (digits - length prefix) s < rank_in (digits - length prefix) t
     → rank_in digits (prefix ++ s) < rank_in digits (prefix ++ t)
 rises_after digits [] s t h = let e : digits - 0 ≡ digits = omega arith in rw e at h

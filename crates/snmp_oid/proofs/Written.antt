@@ -10,7 +10,7 @@ abbrev pub text_of : List ℕ → ℕ → List ℕ
 text_of [] count = dot ∷ []
 text_of (n ∷ more) count = flat_map (λ m. dot ∷ decimal m) (take count (n ∷ more))
 
--- `text` is the text of the first `count` numbers, and has at most 11 octets for each of them (or one, a dot, if the list is empty)
+-- `text` is the text of the first `count` numbers, and has at most 11 octets for each of them, and one more if the list is empty
 pub record IsWritten (numbers : List ℕ) (count : ℕ) (text : List ℕ) : Type 0 where
   pub text_is : text ≡ text_of numbers count
   pub short : length text ≤ 11 * count + (1 - length numbers)

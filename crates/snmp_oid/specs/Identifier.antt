@@ -18,8 +18,8 @@ pub record PartsBelow (o p : List ℕ) : Type 0 where
   pub that : p ≡ prefix ++ larger ∷ suffix
   pub is_smaller : smaller < larger
 
--- o comes before p: it is a proper prefix of p, or has the smaller number at the first index at
--- which the two differ
+-- o comes before p: o is a proper prefix of p, or o has the smaller number at the first index where
+-- the two differ
 abbrev pub Precedes : List ℕ → List ℕ → Type 0
 Precedes o p = IsBelow p o ⊎ PartsBelow o p
 
@@ -41,12 +41,12 @@ wire [] = 0 ∷ 0 ∷ []
 wire (x ∷ []) = x ∷ 0 ∷ []
 wire (x ∷ y ∷ rest) = x ∷ y ∷ rest
 
--- the identifier, of at most `digits` numbers, as a number of `digits` digits to the base 2^32 +
--- 1: each of its numbers plus 1 is a digit, and zeros follow the last
+-- an identifier of at most `digits` numbers, as one number to the base 2^32 + 1: its digits are the
+-- identifier's numbers, each plus 1, and then zeros, `digits` digits in all
 abbrev pub rank_in : ℕ → List ℕ → ℕ
 rank_in digits [] = 0
 rank_in digits (n ∷ rest) = (n + 1) * (2 ^ 32 + 1) ^ (digits - 1) + rank_in (digits - 1) rest
 
--- the rank of an identifier: identifiers are ordered as their ranks are
+-- the rank of an identifier: one identifier comes before another if and only if its rank is smaller
 abbrev pub rank : List ℕ → ℕ
 rank o = rank_in 128 o

@@ -157,9 +157,11 @@ fn read_other_part(text: &[u8]) -> (Option<u32>, Option<&[u8]>)
 }
 
 /// Reads the number that `text` has before its first dot, or that is all of `text` if it has no
-/// dot. Returns it with the text after the dot, or with `None` if there is no dot. Each numeral
-/// below 4000000000 is read, fastest if it is one digit before a dot. A result of `None` says
-/// nothing about `text`.
+/// dot. Returns it with the text after the dot, or with `None` if there is no dot. A number of one
+/// digit before a dot is read fastest.
+///
+/// Reads only numerals below 4000000000, and returns `None` for any other part, even for a numeral
+/// from 4000000000 to 4294967295.
 // Hot: runs for each number of a name that `read_three` leaves.
 #[inline(always)]
 pub fn leading_number(text: &[u8]) -> Option<(u32, Option<&[u8]>)>

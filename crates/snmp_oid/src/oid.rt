@@ -186,7 +186,7 @@ impl Oid {
         self.is_below_numbers(root.as_slice())
     }
 
-    /// Returns whether the identifier begins with these numbers and is longer.
+    /// Returns whether the identifier begins with the numbers `root` and is longer.
     #[tactic(auto, using(std::proofs::lemmas::Grind::common_steps, crate::proofs::Identifiers::prefixes))]
     pub fn is_below_numbers(&self, root: &[u32]) -> bool
         ensures { IsTrue result ↔ IsBelow self.now root.now }
@@ -312,8 +312,8 @@ pub fn strict_order()
     ensures total { (o p : List ℕ) → Precedes o p ⊎ ((o ≡ p) ⊎ Precedes p o) }
 {}
 
-/// Identifiers are ordered as their ranks are. A rank is a number of 128 digits to the base 2^32 +
-/// 1.
+/// One identifier precedes another if and only if its rank is smaller. A rank is a number of 128
+/// digits to the base 2^32 + 1.
 ///
 /// A law: the call does nothing, and its caller may use what it ensures.
 #[inline]

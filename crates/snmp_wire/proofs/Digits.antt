@@ -52,7 +52,7 @@ unfolding digits
 are_digits base zero n some = tt
 are_digits base (suc count) n some = (mod-lt (n / base ^ count) some, are_digits base count n some)
 
--- the number of the lowest `count` digits of `n` is `n % base ^ count`
+-- if the base isn't 0, then the lowest `count` digits of `n` write the number `n % base ^ count`
 pub number_of-digits : (base count n : ℕ) → 0 < base → number_of base (digits base count n) ≡ n % base ^ count
 unfolding digits
 number_of-digits base zero n some = rw pow-zero (sym (mod-one n))
@@ -61,14 +61,14 @@ number_of-digits base (suc count) n some = grind (arith, common_steps, number_of
 pub digits_value : (base count n : ℕ) → 0 < base → n < base ^ count → number_of base (digits base count n) ≡ n
 digits_value base count n some h = number_of-digits base count n some ∙ mod-eq_of_lt h
 
--- the lowest `count` digits don't change if a multiple of `base ^ count` is added
+-- if the base isn't 0, then adding a multiple of `base ^ count` to a number doesn't change its lowest `count` digits
 pub digits-add : (base count a b : ℕ) → 0 < base → digits base count (a + base ^ count * b) ≡ digits base count a
 unfolding digits
 digits-add base zero a b some = refl
 digits-add base (suc count) a b some =
     grind (arith, common_steps, digits-add base count a (base * b) some, pow-suc, mul_assoc, add-mul-div_left, one-le-pow, add-mul-mod_self_left)
 
--- digits `xs` are the lowest digits of the number that they write
+-- if the base isn't 0, then digits `xs` are the lowest digits of the number that they write
 pub digits_are : (base : ℕ) (xs : List ℕ) → 0 < base → AreDigits base xs → xs ≡ digits base (length xs) (number_of base xs)
 unfolding digits
 digits_are base [] some h = refl

@@ -8,7 +8,7 @@ use Rattle.snmp_wire.proofs.WritingLaws.{writes_same, writes_then}
 
 -- ---- headers
 
--- a length below 128 has one octet
+-- a length below 128 is written as one octet, itself
 pub canon_length_short : (n : ℕ) → n < 128 → canon_length n ≡ n ∷ []
 unfolding canon_length
 canon_length_short n h = rw (lt-ltb n 128 h) refl
@@ -17,7 +17,7 @@ canon_length_short n h = rw (lt-ltb n 128 h) refl
 pub header_short : (n : ℕ) → n < 128 → 1 + length (canon_length n) ≡ 2
 header_short n h = ap (λ octets. 1 + length octets) (canon_length_short n h)
 
--- a header is as long as its tag, which is one octet, and its length field together
+-- a header has one octet for its tag, and the octets of its length field
 pub length-canon_header : (tag size : ℕ)
     → length (canon_header tag size) ≡ 1 + length (canon_length size)
 unfolding canon_header
@@ -25,7 +25,7 @@ length-canon_header tag size = grind (arith, common_steps)
 
 -- ---- elements
 
--- an element is as long as its tag, which is one octet, its length field and its content together
+-- an element has one octet for its tag, the octets of its length field, and those of its content
 pub length-canon_element : (tag : ℕ) (content : List ℕ)
     → length (canon_element tag content)
     ≡ 1 + length (canon_length (length content)) + length content
@@ -38,12 +38,13 @@ pub element_size : (tag header size : ℕ) (content : List ℕ)
     → header + size ≡ length (canon_element tag content)
 element_size tag header size content s h = grind (arith, common_steps, length-canon_element)
 
--- a content has room if its element has
+-- if an element has at most `end` octets, so has its content
 pub content_fits : (tag end : ℕ) (content : List ℕ)
     → length (canon_element tag content) ≤ end → length content ≤ end
 content_fits tag end content room = omega (arith, length-canon_element tag content)
 
--- if an element has room, its header has room before its content
+-- if there is room for an element, and its content is written, then there is room for its header
+-- before the content
 pub header_fits : {old mid content : List ℕ} {middle end : ℕ} (tag : ℕ)
     → Writes old middle end content mid → length (canon_element tag content) ≤ end
     → length (canon_header tag (end - middle)) ≤ middle
@@ -78,13 +79,14 @@ pub sizes_value : (header size : ℕ) (value : Datum)
 unfolding canon_value
 sizes_value header size value s h = grind (arith, common_steps, element_size)
 
--- a content has room if its value has
+-- if the encoding of a value has at most `end` octets, so has its content
 pub value_content_fits : (end : ℕ) (value : Datum)
     → length (canon_value value) ≤ end → length (canon_content value) ≤ end
 unfolding canon_value
 value_content_fits end value room = content_fits (value_tag value) end (canon_content value) room
 
--- if a value has room, its header has room before its content
+-- if there is room for a value, and its content is written, then there is room for its header
+-- before the content
 pub value_header_fits : {old mid : List ℕ} {middle end : ℕ} (tag : ℕ) (value : Datum)
     → tag ≡ value_tag value → Writes old middle end (canon_content value) mid
     → length (canon_value value) ≤ end → length (canon_header tag (end - middle)) ≤ middle

@@ -11,7 +11,7 @@ pub writes_tag : {old mid new : List ℕ} {start middle end : ℕ} (tag size : �
 unfolding canon_header
 writes_tag tag size w v = writes_then w v
 
--- if an element has room, its header has room before its content
+-- if there is room for an element, and its content is written, then there is room for its header before the content
 pub sized_header_fits : {old mid content : List ℕ} {middle end : ℕ} (tag size : ℕ) → size ≡ length content → Writes old middle end content mid
     → length (canon_element tag content) ≤ end → length (canon_header tag size) ≤ middle
 sized_header_fits {old} {mid} {content} {middle} {end} tag size e w room =
@@ -24,7 +24,7 @@ writes_sized {old} {mid} {new} {content} {start} {middle} {end} tag size e w v =
     let same : size ≡ end - middle = omega (arith, e, w.begins) in
     writes_element tag w (writes_same v (ap (canon_header tag) same))
 
--- the content of a number has fewer than 128 octets
+-- the octets that are written of a number are fewer than 128
 pub number_short : {old new : List ℕ} {start end : ℕ} (z : ℤ) → Writes old start end (canon_number z) new → end - start < 128
 number_short {old} {new} {start} {end} z w = omega (arith, w.begins, length-number z)
 

@@ -98,7 +98,7 @@ message_with version community found id a b bindings =
     record { version = version; community = community; kind = found; id = id; a = a; b = b; bindings = bindings }
 
 module _ (octets : List ℕ) where
-  -- at a position inside the message that allows only `tag`, an element with this tag is decoded, or the fault is one of the message
+  -- at a position inside the message that allows only `tag`, an element with this tag is decoded, or `octets` have the fault that is returned
   inner_reads : (position : Position) (tag : ℕ) (here : List ℕ) → Expects octets position here → position ≢ at_message
       → ((found : ℕ) → AllowsTag position found → found ≡ tag) → Gives (λ x. BeginsWith tag x.0 here x.1) (λ e. IsFault e octets) (inner_at tag here)
   inner_reads position tag here expects inner only =
@@ -108,12 +108,12 @@ module _ (octets : List ℕ) where
         | inr t ↦ bad_tag octets position t.1 t.2 e (subst (Expects octets position) t.3 expects) (λ allowed. t.4 (only t.1 allowed)) t.0
       ]) (inner_gives tag here)
 
-  -- at a position after the start of the message, an element with any tag is decoded, or the fault is one of the message
+  -- at a position inside the message, an element with any tag is decoded, or `octets` have the fault that is returned
   element_reads : (position : Position) (here : List ℕ) → Expects octets position here → position ≢ at_message
       → Gives (λ x. BeginsWith x.0 x.1 here x.2) (λ e. IsFault e octets) (element_at here)
   element_reads position here expects inner = gives_so (λ x begins. begins) (λ e bad. bad_inner octets position here e expects inner bad) (element_gives here)
 
-  -- at the position of an INTEGER, an INTEGER is decoded, or the fault is one of the message
+  -- at the position of an INTEGER, an INTEGER is decoded, or `octets` have the fault that is returned
   integer_reads : (position : Position) (here : List ℕ) → Expects octets position here → position ≢ at_message → first_inside position ≡ None
       → ((found : ℕ) → AllowsTag position found → found ≡ 0x02) → AllowsTag position 0x02
       → Gives (λ x. (first : List ℕ) × (here ≡ first ++ x.1) × SpellsValue lenient (integer_value x.0) first) (λ e. IsFault e octets)
@@ -274,7 +274,7 @@ module _ (octets : List ℕ) where
 
 -- ---- the elements at a position
 
--- these elements may be all that is left of the element around them from the position on; at `None` there are none
+-- the elements may follow one another from the position on, to the end of the element around them; at `None` there must be none
 abbrev FitsAt : Option Position → Elements → Type 0
 FitsAt None no_elements = Unit {0}
 FitsAt None (value_then value more) = ⊥
@@ -357,7 +357,7 @@ one_prefix : {tag other : ℕ} {content contents here rest more : List ℕ} → 
 one_prefix {tag} {other} {content} {contents} {here} {rest} {more} b c =
     ok_is (tag, content, rest) (other, contents, more) (sym (reads tag content here rest b) ∙ reads other contents here more c)
 
--- if octets encode a message and an element is required at a position in them, then an element that is allowed there is at this position
+-- if `octets` encode a message, and an element of the position is required at the start of `here`, then `here` begins with one (`Parts`)
 
 expects : (octets : List ℕ) (position : Position) (here : List ℕ) → Row at_message octets → Expects octets position here → Parts position here
 expects octets position here all starts = parts_of at_message octets tt all

@@ -76,7 +76,7 @@ eight_word : (octets : List ℕ) (at : ℕ) → from_le_bytes w64 (eight_from oc
 unfolding word_of
 eight_word octets at = omega arith
 
--- the first `count` of the eight octets from `at` on are the same in both, and if `count` is below 8, the next one differs
+-- the first `count` of the eight octets from `at` on are the same in `octets` and `others`; if `count` is below 8, the next ones differ
 pub record AreAlike (octets others : List ℕ) (at count : ℕ) : Type 0 where
   pub most : count ≤ 8
   pub same : (k : ℕ) → k < count → get_or octets (at + k) 0 ≡ get_or others (at + k) 0

@@ -1,9 +1,9 @@
--- Four octets tested at once, as the octets of one word.
+-- Four octets tested at once: if their word has no bit in common with `high_bits`, then each of them is below 128.
 use Rattle.std.proofs.Common.{◌≡◌, ℕ, ◌+◌, ◌*◌, ◌/◌, ◌%◌, ◌<◌, [], ◌∷◌, refl, ap, ◌∙◌, arith}
 use Rattle.std.specs.{Int.w32, Int.bit_at, Int.from_le_bytes, Int.Bits.bit_and}
 use Rattle.std.proofs.lemmas.Nat.Bits.{bit_at_and, bit_at-zero, bit_at-lt}
 
--- the word with the high bit of each of its four octets set
+-- the word in which only the high bit of each of its four octets is set
 abbrev high_bits : ℕ
 high_bits = 2155905152
 

@@ -1,5 +1,5 @@
 -- Lengths and elements, for proofs about values and messages. What decoding returns is encoded by
--- the octets, and a fault that it returns is theirs (`length_gives`, `content_gives`, ..). Octets
+-- the octets, and a fault that it returns applies to them (`length_gives`, `content_gives`, ..). Octets
 -- that begin with an element are decoded as this element (`inner_again`, ..).
 use Rattle.std.proofs.lemmas.Grind.{common_steps}
 use Rattle.std.proofs.Common.{◌≡◌, ◌≢◌, ℕ, ◌+◌, ◌-◌, ◌<◌, ◌≤◌, false, eqb, ltb, ◌&&◌, List, [], ◌∷◌, ◌++◌, length, take, drop, replicate, Ok, refl}
@@ -205,7 +205,7 @@ pub element_again : (tag : ℕ) (content element rest : List ℕ)
 unfolding element_at
 element_again tag content element rest h = grind (arith, common_steps, regrouped, content_again)
 
--- what follows an element is shorter than the octets that begin with it
+-- if octets begin with an element, then what follows the element is shorter than the octets
 pub element_shrinks : {tag : ℕ} {octets content rest : List ℕ}
     → BeginsWith tag content octets rest → length rest < length octets
 element_shrinks {tag} {octets} {content} {rest} begins = grind (arith, common_steps, length-append)

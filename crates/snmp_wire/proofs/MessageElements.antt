@@ -331,7 +331,7 @@ pub only_shortest : (message : Message) (text other : List ℕ) → IsMessageInR
     → text ≡ other
 only_shortest message text other range is too = shortest_is_written message text range is ∙ sym (shortest_is_written message other range too)
 
--- if a message is in range, and what is written of it is at the start of `out`, then this is a shortest encoding of it
+-- if a message is in range, and what is written of it, `n` octets, is at the start of `out`, then the first `n` octets of `out` are a shortest encoding of it
 pub prefix_is_shortest : (law : OneShortestEncoding) (message : Message) (n : ℕ) (out rest : List ℕ) → n ≡ length (canon message)
     → out ≡ canon message ++ rest → IsMessageInRange message → IsShortestEncoding (take n out) message
 prefix_is_shortest law message n out rest size e range = grind (arith, common_steps, take-append_seam)
@@ -340,7 +340,7 @@ pub shortest_size : (law : OneShortestEncoding) (message : Message) (size : ℕ)
     → IsMessageInRange message → IsShortestEncoding octets message → size ≡ length octets
 shortest_size law message size e octets range is = e ∙ sym (ap length (law.one message octets (canon message) range is (law.written message range)))
 
--- if a message is in range, then its head followed by the encodings of its bindings is a shortest encoding of it
+-- if `message` with `bindings` instead of its own bindings is in range, then its head followed by the encodings of `bindings` is a shortest encoding of it
 pub sealed_is_shortest : (law : OneShortestEncoding) (message : Message) (bindings : List VarBind) (total : ℕ) (octets : List ℕ)
     → octets ≡ canon_head message total ++ canon_bindings bindings → total ≡ length (canon_bindings bindings)
     → IsMessageInRange (record message { bindings = bindings }) → IsShortestEncoding octets (record message { bindings = bindings })

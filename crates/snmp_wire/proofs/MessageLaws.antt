@@ -19,7 +19,7 @@ use Rattle.snmp_wire.specs.declared.kind.Kind.TheVariants as kind
 use Rattle.snmp_wire.specs.Spelling.{SpellsBinding, SpellsBindings, kind_tag, SpellsPdu, Spells}
 use Rattle.snmp_wire.proofs.{ReadIdentifiers.identifier_again, ReadIdentifiers.four_then, ValueLaws.integer_again, ValueLaws.value_again}
 
--- what follows a binding is shorter than the octets that begin with it
+-- if `fields_at` returns the fields of a binding, then what follows the binding is shorter than the octets
 fields_less : (octets : List ℕ) → Gives (λ x. length x.1 < length octets) (λ e. Unit {0}) (fields_at octets)
 unfolding fields_at
 fields_less octets =
@@ -102,7 +102,8 @@ pub record BeginsWithBinding (octets : List ℕ) (fields : Fields) (after : List
   pub others : IsOk (bindings_of after)
   pub all : (binding : VarBind) → binding_of fields ≡ Ok binding → bindings_in octets ≡ binding ∷ bindings_in after
 
--- one step of the iterator: if the whole list is decoded, so are its first binding and the others
+-- one step of the iterator: if `octets` are decoded as bindings, and `fields_at` returns `fields` and `after`, then `fields` are those of the first binding,
+-- and `after` is decoded as the others
 pub expects : (octets : List ℕ) (fields : Fields) (after : List ℕ) → IsOk (bindings_of octets) → 0 < length octets → fields_at octets ≡ Ok (fields, after)
     → BeginsWithBinding octets fields after
 unfolding binding_at
@@ -255,7 +256,7 @@ two_then [] long = absurd (omega arith)
 two_then (a ∷ []) long = absurd (omega arith)
 two_then (a ∷ b ∷ rest) long = refl
 
--- octets that `short_fields_at` splits in this way begin with a binding that has these fields
+-- if `octets` begin with a binding whose three lengths have one octet each and fit together, then `fields_at` returns its fields and `rest`
 pub short_fields : (octets elements name value suffix content rest : List ℕ) (size n v : ℕ) → elements ≡ drop 4 octets → name ≡ take n elements
     → value ≡ drop n elements → suffix ≡ drop 2 value → content ≡ take v suffix → rest ≡ drop v suffix
     → 4 ≤ length octets → get_or octets 0 0 ≡ 0x30 → get_or octets 2 0 ≡ 0x06 → size ≡ get_or octets 1 0 → n ≡ get_or octets 3 0

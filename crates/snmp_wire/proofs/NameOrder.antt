@@ -25,7 +25,7 @@ use Rattle.snmp_wire.proofs.ReadIdentifiers.{identifier_again, identifier_takes}
 
 -- ---- where a subidentifier ends
 
--- the number of octets with the high bit set at the start; in a content, as many octets follow the first one in its subidentifier
+-- how many octets at the start have the high bit set; a subidentifier at the start has one octet more
 abbrev pub reach : List ℕ → ℕ
 reach [] = 0
 reach (octet ∷ rest) = cond (ltb octet 128) 0 (suc (reach rest))
@@ -41,7 +41,7 @@ length_is text rest n is =
     let far = reach_prefix is.prefix is.last rest (recursion_from_All (λ octet. 128 ≤ octet) is.prefix is.goes_on) is.ends in
     rw is.parts (omega (arith, far, length_push is.prefix is.last))
 
--- if each octet of `prefix` has the high bit set, then `reach` counts these and the reach of the octets after them
+-- if each octet of `prefix` has the high bit set, then the reach of `prefix ++ rest` is the length of `prefix` plus the reach of `rest`
 reach_after : (prefix rest : List ℕ) → length prefix ≤ reach (prefix ++ rest) → reach (prefix ++ rest) ≡ length prefix + reach rest
 reach_after [] rest h = omega arith
 reach_after (octet ∷ prefix) rest h = elim (cases_lt octet 128) [
@@ -75,7 +75,7 @@ reach_to (suc count) content at end position e =
     let more = reach_to count content (at + 1) end (omega (arith, position)) here in
     rw (le-ltb (get_or content at 0) 128 high, drop_more content (at + 1) 0 (omega (arith, position, e.within))) (ap suc more)
 
--- if a subidentifier contains the octet at `at` and ends at `end`, then `end` is `at` plus the reach from there
+-- if a subidentifier contains the octet at `at` and ends at `end`, then `end` is `at` plus the reach of the octets from `at` on
 pub end_is : (content : List ℕ) (at end : ℕ) → EndsAt content at end → end ≡ at + reach (octets_from content at)
 end_is content at end e = omega (arith, e.suffix, reach_to (end - at) content at end (omega (arith, e.suffix)) e)
 
@@ -103,8 +103,8 @@ inside (x ∷ text) rest (y ∷ prefix) more e short =
 pub nothing_alike : (content other : List ℕ) → IsAlike content other 0
 nothing_alike content other = record { short = omega arith; other_short = omega arith; same = λ k low. absurd (omega (arith, low)) }
 
--- if the first `count` octets of both are the same, and so are the `more` octets from an index
--- `from` on that is at most `count`, then the first `from + more` octets are the same
+-- if the first `count` octets of both are the same, `from` is at most `count`, and the `more` octets
+-- from index `from` on are the same, then the first `from + more` octets are the same
 pub more_alike : {octets others : List ℕ} {count : ℕ} (from more end : ℕ) → IsAlike octets others count → from ≤ count → from + more ≡ end
     → end ≤ length octets → end ≤ length others → ((k : ℕ) → k < more → get_or octets (from + k) 0 ≡ get_or others (from + k) 0)
     → IsAlike octets others end
@@ -150,8 +150,7 @@ least_of_several (octet ∷ rest) n all is several =
     let positions : length (low_bits rest) ≡ length (octet ∷ rest) - 1 = omega (arith, length-low_bits rest) in
     omega (arith, power, ap (λ k. 128 ^ k) positions, is.value)
 
--- if the same number of octets follow two octets in their subidentifiers, then both or neither of them have the high bit, so the smaller octet has the smaller
--- digit
+-- if `x ∷ xs` and `y ∷ ys` have the same reach, then both or neither of `x` and `y` have the high bit set, so the smaller octet has the smaller digit
 digit_rises : (x y : ℕ) (xs ys : List ℕ) → reach (x ∷ xs) ≡ reach (y ∷ ys) → x < 256 → y < 256 → x < y → x % 128 < y % 128
 digit_rises x y xs ys e small other_small less = elim (cases_lt x 128) [
   | inl low ↦ elim (cases_lt y 128) [
@@ -215,7 +214,7 @@ canonical content name h is = grind (arith, common_steps, one_content_of, name_o
 
 -- ---- the order of identifiers
 
--- what the law `order` of `snmp_oid` ensures
+-- lists compare as `Less` if and only if the first precedes the second, as `Equal` if they are the same, and as `Greater` if the second precedes the first
 pub record OrderLaw : Type 0 where
   pub less : (o p : List ℕ) → (slice_cmp nat_cmp o p ≡ Less) ↔ Precedes o p
   pub equal : (o p : List ℕ) → (slice_cmp nat_cmp o p ≡ Equal) ↔ (o ≡ p)
@@ -298,7 +297,7 @@ more_octets content at ok within high =
 -- ---- the first octets that differ
 
 -- the subidentifier at the start of `octets` ends before the one at the start of `others`, or both
--- end together and the first of `octets` is smaller than the first of `others`
+-- end together and the first octet of `octets` is smaller than the first octet of `others`
 abbrev pub EndsFirst : List ℕ → List ℕ → Type 0
 EndsFirst octets others = (reach octets < reach others) ⊎ ((reach octets ≡ reach others) × (get_or octets 0 0 < get_or others 0 0))
 
@@ -389,7 +388,7 @@ below_from_names content root o p h k is are (rest, some, e) =
 pub below_from_contents : (content root o p : List ℕ) → IsObjectId content o → IsObjectId root p → IsBelow content root → IsBelow o p
 below_from_contents content root o p is are (rest, some, e) = grind (arith, common_steps, goes_on, followed)
 
--- the smaller of two subidentifiers comes first
+-- the smaller of two subidentifiers comes first (`ComesFirst`)
 smaller_is_first : OrderLaw → (text other : List ℕ) (n m : ℕ) → AreOctets text → AreOctets other → IsSubidentifier text n → IsSubidentifier other m
     → n < m → ComesFirst text other
 smaller_is_first law text other n m h k is are less =
@@ -463,7 +462,7 @@ decided law o p x y less same more = elim (cases_order x y) [
 
 -- ---- one of two contents ends
 
--- if all octets of `other` begin a longer content, then this content is below `other`
+-- if `content` begins with `other` and is longer, then `content` is below `other`
 goes_after : (content other : List ℕ) (at : ℕ) → IsAlike content other at → at ≡ length other → length other < length content → IsBelow content other
 goes_after content other at h e longer = (
   drop at content,
@@ -509,8 +508,8 @@ none_below {content} {root} {o} {p} b short below = grind (arith, common_steps, 
 
 -- ---- two octets differ
 
--- if `x` and `y` differ, and `EndsFirst` holds from `at` on of the content with the smaller number,
--- then the names compare as `x` and `y` do
+-- if `x` and `y` differ, and `EndsFirst` holds of the octets from `at` on, of `content` first if `x`
+-- is smaller and of `other` first if `y` is, then the names compare as `x` and `y` do
 differ_decide : OrderLaw → {content other o p : List ℕ} {at : ℕ} (x y : ℕ) → Beside content other o p at → at < length content → at < length other
     → (x ≡ y → ⊥) → (x < y → EndsFirst (octets_from content at) (octets_from other at))
     → (y < x → EndsFirst (octets_from other at) (octets_from content at)) → nat_cmp x y ≡ slice_cmp nat_cmp o p

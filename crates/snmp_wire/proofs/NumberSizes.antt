@@ -92,7 +92,7 @@ complement : (n low high : ℕ) → 2 * n < low → low * high ≡ 1844674407370
 complement n low zero fits e = omega arith
 complement n low (suc high) fits e = grind (arith, common_steps, mul-suc, sub-one)
 
--- the lowest octets of a negative number of 32 bits, extended to 64 bits, are its shortest encoding
+-- the octets that are written of a negative number of 32 bits are the lowest octets of the number extended to 64 bits
 pub octets_below_zero : (n : ℕ) → n < 2 ^ 31 → octets (number_size n) (18446744073709551615 - n) ≡ canon_number (negsuc n)
 unfolding canon_number
 octets_below_zero n h =
@@ -173,7 +173,7 @@ length-from_zero n = length-canon_number (pos n)
 
 -- ---- the octets of a number by its highest bit, and four octets at once
 
--- `128 * 256 ^ m`, the least number that takes `m + 2` octets, is 2 to the power `8 * m + 7`
+-- `128 * 256 ^ m`, the least number that takes `m + 2` octets in two's complement, is 2 to the power `8 * m + 7`
 octet_limit : (m : ℕ) → 2 ^ (8 * m + 7) ≡ 128 * 256 ^ m
 octet_limit zero = refl
 octet_limit (suc m) =

@@ -18,14 +18,14 @@ use Rattle.snmp_wire.proofs.ReadingLaws.{returned, gives_either, gives_so, gives
 use Rattle.snmp_wire.specs.ber.Identifier.{IsSubidentifier, AreSubidentifiers, IsObjectId}
 use Rattle.snmp_wire.proofs.WrittenIdentifiers.{subidentifier_some}
 
--- if two steps return a value, so does the first
+-- if `r` followed by `f` returns a value, so does `r`
 pub first_ok : {A B : Type 0} (r : Result A BerError) (f : A → Result B BerError) → IsOk (r >>= f) → IsOk r
 first_ok (Ok x) f h = refl
 first_ok (Err d) f h = absurd cc
 
 -- ---- subidentifiers
 
--- `octets` begin with a subidentifier, and this is what is decoded if it has at most three octets
+-- what is decoded from `octets`, which begin with a subidentifier, if the subidentifier has one, two or three octets
 pub record ReadsShort (octets : List ℕ) : Type 0 where
   pub some : 0 < length octets
   pub one : get_or octets 0 0 < 128 → subidentifier_at octets ≡ Ok (get_or octets 0 0, drop 1 octets)
@@ -66,7 +66,8 @@ number_is octets n rest h e = elim (cases_lt n (2 ^ 32)) [
 abbrev pub next_of : ℕ → List ℕ → ℕ → ℕ
 next_of n octets i = n * 128 + get_or octets i 0 % 128
 
--- what is decoded from the octet at `i` on, by this octet: an error if the number is too large, the number if the octet ends it, or what follows the octet
+-- what is decoded from the octet at `i` on: an error if the number is too large with this octet, otherwise the number if the octet ends it, otherwise what is
+-- decoded from the next octet on
 pub from_step : (n : ℕ) (octets : List ℕ) (i : ℕ) → i < length octets → subidentifier_from n (drop i octets)
     ≡ cond (ltb largest_subidentifier (next_of n octets i)) (Err error.Content)
     (cond (ltb (get_or octets i 0) 128) (Ok (next_of n octets i, drop (i + 1) octets)) (subidentifier_from (next_of n octets i) (drop (i + 1) octets)))
@@ -310,7 +311,7 @@ number_gives octets = gives_then _ (subidentifier_gives octets) (λ x t.
 pub number_fails : (octets : List ℕ) (e : BerError) → number_at octets ≡ Err e → error.Content ≡ e
 number_fails octets e h = failing e (number_gives octets) h
 
--- what follows a number is shorter than the octets that begin with it
+-- if octets begin with a number, then what follows the number is shorter than the octets
 pub number_shrinks : (octets : List ℕ) (x : ℕ × List ℕ) → number_at octets ≡ Ok x → 1 + length x.1 ≤ length octets
 number_shrinks octets x e =
     let t = (returned x (number_gives octets) e).0 in

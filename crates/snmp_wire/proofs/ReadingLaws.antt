@@ -34,7 +34,7 @@ ok_value (Err d) h = absurd cc
 pub is_ok_at : {A : Type 0} (r : Result A BerError) (x : A) → r ≡ Ok x → IsOk r
 is_ok_at r x h = ap is_ok h
 
--- if two steps returned a value, so did the first
+-- if `r` followed by `f` returned `y`, then `r` returned a value `x`, and `f x` returned `y`
 pub bind_ok : {A B : Type 0} (r : Result A BerError) (f : A → Result B BerError) (y : B)
     → (r >>= f) ≡ Ok y → (x : A) × (r ≡ Ok x) × (f x ≡ Ok y)
 bind_ok (Ok x) f y e = (x, refl, e)
@@ -133,7 +133,8 @@ pub gives_so : {A : Type 0} {is so : A → Type 0} {fails also : BerError → Ty
 gives_so value fault (a_value x h) = a_value x (value x h)
 gives_so value fault (a_fault e h) = a_fault e (fault e h)
 
--- if `Gives` holds of `r` when no octets are left, and `d` satisfies `fails` when some are, then `Gives` holds of the test for octets left over
+-- if `Gives` holds of `r` when `rest` is empty, and `d` satisfies `fails` when it isn't, then `Gives` holds of the choice: `r` if `rest` is empty, otherwise
+-- the fault `d`
 pub gives_end : {A : Type 0} {is : A → Type 0} {fails : BerError → Type 0} {r : Result A BerError}
     (d : BerError) (rest : List ℕ) → (rest ≡ [] → Gives is fails r) → (rest ≢ [] → fails d)
     → Gives is fails (cond (eqb (length rest) 0) r (Err d))
@@ -146,8 +147,8 @@ pub gives_all : {A : Type 0} {is : A → Type 0} {fails : BerError → Type 0} {
     → Gives (λ x. is x × (rest ≡ [])) fails (cond (eqb (length rest) 0) r (Err d))
 gives_all d rest h left = gives_end d rest (λ none. gives_so (λ x value. (value, none)) (λ e fault. fault) h) left
 
--- if the fault of a decoding satisfies `fails`, and its value implies that `d` does, so does
--- `fault_or`
+-- if a fault of `r` satisfies `fails`, and `d` satisfies it if `r` returned a value, then the fault of
+-- `r`, or `d` if `r` has none, satisfies it
 pub gives_fault : {A : Type 0} {is : A → Type 0} (fails : BerError → Type 0)
     {r : Result A BerError} (d : BerError) → Gives is fails r → ((x : A) → is x → fails d)
     → fails (fault_or r d)

@@ -1,4 +1,4 @@
--- What is written of numbers, lengths, elements and values encodes them strictly (`spells_value`).
+-- What is written of numbers, lengths, elements and values in range encodes them strictly (`spells_value`).
 -- No strict encoding of a value is shorter, and one of the same length is the same
 -- (`value_least`).
 use Rattle.std.proofs.{lemmas.Grind.common_steps, lemmas.Int.ints, lemmas.Bool.cases_lt, lemmas.Bool.Decides.nat_tests, lemmas.Nat.mul-add-lt}
@@ -209,8 +209,8 @@ both_texts {a} {b} {c} {d} this that = grind (arith, common_steps, length-append
 
 -- ---- numbers
 
--- octets in two's complement bound the number, and if they are as many as it takes, they are the
--- ones that are written
+-- if octets are the number `z` in two's complement, then `z` fits in that many octets; and if they
+-- are as many as `number_size` says, then they are the octets that are written of `z`
 number_is : (first : ℕ) (rest : List ℕ) (z : ℤ) → Octets (first ∷ rest) → twos_complement (first ∷ rest) ≡ z
     → (magnitude_of z < 128 * 256 ^ length rest) × (suc (length rest) ≡ number_size (magnitude_of z) → first ∷ rest ≡ canon_number z)
 number_is first rest z h e =

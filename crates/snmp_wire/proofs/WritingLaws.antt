@@ -55,7 +55,8 @@ writes_piece f xs i x d some h e w v =
     writes_same (writes_then w v) (sym (flat_map-drop f xs (i - 1) x d (omega arith) e
     ∙ ap (λ k. f x ++ flat_map f (drop k xs)) next))
 
--- if all pieces have room, the next piece to be written has
+-- if there is room for all pieces, and those from index `i` on are written, then there is room for
+-- the piece at `i - 1` before them
 pub piece_fits : {X : Type 0} {old mid : List ℕ} {middle end : ℕ}
     (f : X → List ℕ) (xs : List X) (i : ℕ) (x d : X)
     → 0 < i → i ≤ length xs → x ≡ get_or xs (i - 1) d

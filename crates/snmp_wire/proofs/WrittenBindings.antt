@@ -58,7 +58,7 @@ pub writes_binding : {old mid out new : List ℕ} {start name middle end : ℕ} 
 unfolding canon_binding
 writes_binding binding w v u = writes_element sequence_tag (writes_then w v) u
 
--- after `text` is written to the start of a slice, the slice is `text`, followed by the octets that it had there
+-- if `text`, of `size` octets, is written to the start of a slice, then the slice is `text`, followed by the old octets from index `size` on
 pub encoded : {old new text : List ℕ} {start size : ℕ} → Writes old start size text new → size ≡ length text → new ≡ text ++ drop size old
 encoded {old} {new} {text} {start} {size} w e = grind (arith, common_steps)
 

@@ -85,7 +85,7 @@ pub length-numbers_from : (numbers : List ℕ) (i number : ℕ) → i < length n
     → length (flat_map canon_subidentifier (drop i numbers)) ≡ subidentifier_size number + length (flat_map canon_subidentifier (drop (i + 1) numbers))
 length-numbers_from numbers i number h e = grind (arith, common_steps, length-flat_map_drop, length-canon_subidentifier)
 
--- if `numbers` are the numbers of `name`, and `first` joins the first two, then the content of `name` is `first` and the others as subidentifiers
+-- if `numbers` are the numbers of `name`, and `first` joins the first two, then the content is the subidentifier `first` and one for each other number
 pub content_is : (numbers name : List ℕ) (first : ℕ) → IsWire name → numbers ≡ name → first ≡ 40 * get_or numbers 0 0 + get_or numbers 1 0
     → canon_content (object_id name) ≡ canon_subidentifier first ++ flat_map canon_subidentifier (take (length numbers - 2) (drop 2 numbers))
 content_is numbers name first wire same e = rw (e, same) (content_parts name wire)
@@ -295,7 +295,7 @@ pub name_octets : (name : List ℕ) → Octets (canon_content (object_id name))
 unfolding canon_content
 name_octets name = all_octets (subidentifiers name)
 
--- subidentifiers have at most five octets each
+-- at most five octets are written of each subidentifier
 length-subidentifiers : (numbers : List ℕ) → length (flat_map canon_subidentifier numbers) ≤ 5 * length numbers
 length-subidentifiers [] = omega arith
 length-subidentifiers (n ∷ more) = grind (arith, common_steps, length-subidentifiers more, length-append, length-canon_subidentifier, subidentifier_most)

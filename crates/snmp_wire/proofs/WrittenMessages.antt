@@ -76,7 +76,7 @@ writes_head {old} {mid} {new} {start} {version} {end} message total w v =
     let size : end - version ≡ length (canon_prefix message total) = omega (arith, w.begins) in
     writes_same (writes_then w v) (ap (λ n. canon_header sequence_tag (n + total) ++ canon_prefix message total) size)
 
--- If the head of a message has room, then each of its parts has room before the parts that are already written.
+-- if there is room for the head of a message, then there is room for each part of the head before the parts that are already written
 
 pub list_fits : (message : Message) (total end : ℕ) → length (canon_head message total) ≤ end
     → length (canon_fields message) + length (canon_header sequence_tag total) ≤ end

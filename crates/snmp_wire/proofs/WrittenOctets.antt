@@ -51,7 +51,7 @@ pub writes_copy : (old text : List ℕ) (start end : ℕ) → start + length tex
     → Writes old start end text (take start old ++ (text ++ drop end old))
 writes_copy old text start end e h = grind (arith, common_steps, take_at, length-take-le, drop_at)
 
--- what is written before the end of a slice is what the slice contains from `start` on
+-- if `text` is written from `start` to the end of a slice, then the slice contains `text` from `start` on
 pub written_to_end : {old new text : List ℕ} {start end : ℕ} → Writes old start end text new → end ≡ length old
     → take (length new - start) (drop start new) ≡ text
 written_to_end {old} {new} {text} {start} {end} w last = grind (arith, common_steps, take_all, length-drop, drop_all, append-nil)

@@ -1,5 +1,5 @@
--- The shortest encoding of bindings and messages, composed of the encodings of values
--- (ber/Canon.antt): each length is in the shortest form (X.690, 8.1.3; RFC 3417, section 8).
+-- The encoding that is written of bindings and messages, composed of the encodings of values
+-- (ber/Canon.antt). No strict encoding is shorter (X.690, 8.1.3; RFC 3417, section 8).
 use Rattle.std.specs.Prelude.{ℕ, ◌+◌, List, ◌++◌, length}
 use Rattle.std.specs.List.{flat_map}
 use Rattle.snmp_oid.specs.Identifier.{IsWire}
@@ -33,7 +33,7 @@ canon_fields message =
     canon_value (integer_value message.id) ++ canon_value (integer_value message.a)
     ++ canon_value (integer_value message.b)
 
--- the encoding that is written of a message: its shortest one, if the message is in range
+-- the encoding that is written of a message: its shortest strict one, if the message is in range
 -- (Range.antt)
 unfoldable pub canon : Message → List ℕ
 canon message =
@@ -50,7 +50,7 @@ canon_prefix message total =
     (length (canon_fields message) + length (canon_header sequence_tag total) + total)
     ++ (canon_fields message ++ canon_header sequence_tag total))
 
--- the shortest encoding of a message up to its first binding, if the bindings take `total` octets
+-- the encoding of a message before its first binding, if the bindings take `total` octets
 -- together
 unfoldable pub canon_head : Message → ℕ → List ℕ
 canon_head message total =

@@ -75,8 +75,8 @@ bindings_in octets = result_unwrap_or (bindings_of octets) []
 
 -- ---- for private functions
 
--- the fault of a binding with octets left over after its value: the fault of the value, or
--- `Content` if it has none
+-- the fault of a binding if octets follow its value, which has this tag and content: the fault of
+-- the value, or `Content` if the value has none
 abbrev pub left_over_after : ℕ → List ℕ → BerError
 left_over_after tag content = fault_or (typed_value tag content) error.Content
 

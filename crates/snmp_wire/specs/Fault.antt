@@ -43,8 +43,8 @@ pub data Position : Type 0 where
   at_name : Position
   at_value : Position
 
--- the position of the first element inside the element at this position, if that consists of
--- elements
+-- the position of the first element inside the element at this position, if the outer one consists
+-- of elements
 abbrev pub first_inside : Position → Option Position
 first_inside at_message = Some at_version
 first_inside at_pdu = Some at_id
@@ -77,14 +77,14 @@ AllowsTag at_binding tag = tag ≡ sequence_tag
 AllowsTag at_name tag = tag ≡ 0x06
 AllowsTag at_value tag = (value : Datum) × (tag ≡ value_tag value)
 
--- an element is required at the position, if `here` is what is left of the element around it: a
--- binding if `here` isn't empty, any other element always
+-- an element is required at the position: always, unless the position is `at_binding` and `here`,
+-- what is left of the varbind list, is empty
 abbrev pub Calls : Position → List ℕ → Type 0
 Calls at_binding here = here ≢ []
 Calls position here = Unit {0}
 
--- `octets` as a message must have an element of the position at the start of `here`, which is what
--- is left of the element around it, or all of `octets` for the message itself
+-- for `octets` to be a message, `here` must begin with an element that is allowed at the position.
+-- `here` is all of `octets` for the message itself, otherwise what is left of the outer element.
 pub data Expects (octets : List ℕ) : Position → List ℕ → Type 0 where
   starts : Expects octets at_message octets
   inside : (position next : Position) (here : List ℕ) (tag : ℕ) (content rest : List ℕ)

@@ -43,7 +43,7 @@ RequestsAreShort =
     → m.bindings ≡ asking name ∷ [] → length m.community ≤ 255 → length name ≤ 128
     → length (canon m) ≤ 1000
 
--- a message in range has exactly one shortest encoding: the one that is written
+-- a message in range has exactly one shortest strict encoding: the one that is written
 pub record OneShortestEncoding : Type 0 where
   pub written : (m : Message) → IsMessageInRange m → IsShortestEncoding (canon m) m
   pub one : (m : Message) (octets other : List ℕ)

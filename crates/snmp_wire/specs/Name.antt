@@ -20,8 +20,8 @@ pub record IsContentOctets (content : List ℕ) : Type 0 where
 abbrev pub asking : List ℕ → VarBind
 asking name = record { name = name; value = null_value }
 
--- The subidentifier `text` comes before `other`: it has fewer octets; or both have as many, and
--- `text` has the smaller octet at the first difference.
+-- The subidentifier `text` comes before `other`: it has fewer octets; or both have the same
+-- length, and `text` has the smaller octet at the first difference.
 abbrev pub ComesFirst : List ℕ → List ℕ → Type 0
 ComesFirst text other =
     (length text < length other) ⊎ ((length text ≡ length other) × Precedes text other)
@@ -33,10 +33,10 @@ pub record EncodedNames : Type 0 where
   -- an identifier has at most one content
   pub one_content : (content other o : List ℕ) → AreOctets content → AreOctets other
       → IsObjectId content o → IsObjectId other o → content ≡ other
-  -- a name is below a root if and only if its content begins with the root's and is longer
+  -- `o` is below `p` if and only if the content of `o` begins with that of `p` and is longer
   pub below : (content root o p : List ℕ) → AreOctets content → AreOctets root
       → IsObjectId content o → IsObjectId root p → IsBelow o p ↔ IsBelow content root
-  -- names are ordered by their subidentifiers
+  -- a name precedes another if and only if its list of subidentifiers precedes the other's
   pub names_order : (o p : List ℕ) → IsWire o → IsWire p
       → Precedes o p ↔ Precedes (subidentifiers o) (subidentifiers p)
   -- subidentifiers are ordered by their lengths, and then by their octets
@@ -52,7 +52,7 @@ pub record EndsAt (content : List ℕ) (at end : ℕ) : Type 0 where
   pub goes_on : (k : ℕ) → at ≤ k → k < end → 128 ≤ get_or content k 0
   pub ends : get_or content end 0 < 128
 
--- the first `count` octets of both are the same
+-- `octets` and `others` have at least `count` octets each, and the first `count` are the same
 pub record IsAlike (octets others : List ℕ) (count : ℕ) : Type 0 where
   pub short : count ≤ length octets
   pub other_short : count ≤ length others

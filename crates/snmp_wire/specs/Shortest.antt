@@ -1,4 +1,4 @@
--- The shortest encoding of a message (RFC 3417, section 8, requires definite lengths).
+-- The shortest strict encoding of a message (RFC 3417, section 8, requires definite lengths).
 use Rattle.std.specs.Prelude.{ℕ, ◌≤◌, List, length}
 use Rattle.snmp_wire.specs.{Message.Message, Spelling.Strict}
 

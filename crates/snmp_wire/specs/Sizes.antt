@@ -29,7 +29,7 @@ pub record MessageSizes : Type 0 where
       → length (canon_prefix m total)
       ≡ length (canon_opening m) + length (canon_header (kind_tag m.kind) (pdu_size m total))
       + length (canon_fields m) + length (canon_header sequence_tag total)
-  -- the head, which ends before the first binding: a header, and the part above
+  -- the head, which ends before the first binding: a header, and the part after the first length
   pub head : (m : Message) (total : ℕ)
       → length (canon_head m total)
       ≡ length (canon_header sequence_tag (length (canon_prefix m total) + total))

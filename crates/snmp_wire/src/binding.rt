@@ -156,8 +156,8 @@ impl<'a> Iterator for Bindings<'a> {
     }
 }
 
-/// A variable binding in its datagram. Its name is compared as it is encoded, and its value is
-/// decoded only if it is wanted.
+/// A variable binding, borrowed from its encoding. Its name is compared as it is encoded, and only
+/// [`BindingRef::read_into`] decodes its value.
 #[derive(Drop)]
 pub struct BindingRef<'a> {
     fields: Fields<'a>,
@@ -201,7 +201,7 @@ impl<'a> BindingRef<'a> {
     }
 }
 
-/// The fields of an encoded binding, in its datagram.
+/// The fields of an encoded binding, borrowed from the encoding.
 #[derive(Clone, Copy)]
 struct Fields<'a> {
     /// The content of the name.
@@ -240,7 +240,7 @@ fn fields_at<'a>(octets: &'a [u8]) -> Result<(Fields<'a>, &'a [u8]), BerError>
 }
 
 /// Returns what [`fields_at`] returns if that succeeds and each of the three lengths has one
-/// octet, as most do. If this returns `None`, that says nothing of the octets.
+/// octet, as most do. Otherwise returns `None`.
 // `inline(always)`: called for each binding that is checked or read. Inlined, its result stays in
 // registers.
 #[inline(always)]
@@ -299,8 +299,8 @@ fn fields_of<'a>(content: &'a [u8]) -> Result<Fields<'a>, BerError>
     Ok(Fields { name, tag, content })
 }
 
-/// Returns the fault of a binding with octets left over after its value: the fault of the value,
-/// or [`BerError::Content`] if it has none.
+/// Returns the fault of a binding with octets left over after its value, which has this tag and
+/// content: the fault of the value, or [`BerError::Content`] if the value has none.
 #[cold]
 fn left_over(tag: u8, content: &[u8]) -> BerError
     ensures { result ≡ reading.left_over_after tag content.now }
@@ -388,7 +388,7 @@ pub fn binding_size(binding: &Binding<'_>) -> u64
     requires { IsEncodable (var_bind binding.now) }
     ensures value { result ≡ length (canon_binding (var_bind binding.now)) }
     ensures at_most_70000 { result ≤ 70000 }
-    // A binding that can be written is within the ranges of its types.
+    // The name and the value of a binding that can be written are within their ranges.
     ensures range { IsBindingInRange (var_bind binding.now) }
 {
     pair_size(&binding.name, &binding.value)

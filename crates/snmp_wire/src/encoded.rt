@@ -1,4 +1,4 @@
-//! Bindings stored as their encodings, as a table stores its rows.
+//! Bindings that own their memory, stored as their encodings.
 ghost use Rattle.std.specs.Prelude.{◌≡◌, length, IfOk, Ok};
 ghost use Rattle.snmp_wire.specs.Encoded.{IsKept, binding_in, octets_of};
 ghost use Rattle.snmp_wire.specs.ber.Decode as reading;

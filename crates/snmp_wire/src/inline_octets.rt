@@ -3,7 +3,7 @@
 use std::fmt;
 
 /// The longest encoding, in octets, that [`Octets`] stores inline; longer ones are on the heap.
-/// Most rows of a device fit, and an [`Octets`] takes 64 octets with it.
+/// Most bindings of a device fit, and with this limit an [`Octets`] takes 64 octets of memory.
 pub const MAX_INLINE: usize = 39;
 
 /// The [`Octets::size`] of an encoding on the heap; any number above [`MAX_INLINE`] would do.

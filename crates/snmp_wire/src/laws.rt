@@ -54,8 +54,8 @@ pub fn encoding_is_shortest()
     ensures { EncodingIsShortest }
 {}
 
-/// A message in range (`IsMessageInRange`) has exactly one shortest encoding: the one that is
-/// written.
+/// A message in range (`IsMessageInRange`) has exactly one shortest strict encoding: the one that
+/// is written.
 #[inline]
 pub fn one_shortest_encoding()
     ensures { OneShortestEncoding }
@@ -69,15 +69,15 @@ pub fn pieces()
     ensures { HasPieces }
 {}
 
-/// Says how many octets the shortest encodings of lengths, elements and whole numbers from zero on
-/// take, and that an INTEGER of 32 bits takes at most 6.
+/// Says how many octets are written of lengths, elements and whole numbers from zero on, and that
+/// an INTEGER of 32 bits takes at most 6.
 #[inline]
 #[tactic(auto, using(std::proofs::lemmas::Grind::common_steps, crate::proofs::NumberSizes::element_lengths))]
 pub fn element_sizes()
     ensures { ElementSizes }
 {}
 
-/// Says how many octets the parts of a message's shortest encoding take.
+/// Says how many octets each part of the encoding that is written of a message takes.
 #[inline]
 #[tactic(auto, using(std::proofs::lemmas::Grind::common_steps, crate::proofs::WrittenMessages::message_lengths))]
 pub fn message_sizes()

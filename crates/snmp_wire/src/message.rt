@@ -257,7 +257,7 @@ pub fn encode(parts: &Parts<'_>, out: &mut [u8]) -> Option<usize>
     // What is written is a shortest encoding of the message, which has only one.
     ensures shortest { IfSome result
         (λ n. IsShortestEncoding (take n out.new) (parts_message parts.now)) }
-    // So the octets written are decoded as that message.
+    // The octets that are written encode the message.
     ensures read { IfSome result (λ n. Spells (parts_message parts.now) (take n out.new)) }
     ensures variant { IsSome result ↔ (length (canon (parts_message parts.now)) ≤ length out.old) }
     ensures unchanged { IfNone result (out.new ≡ out.old) }
@@ -273,8 +273,8 @@ pub fn encode(parts: &Parts<'_>, out: &mut [u8]) -> Option<usize>
     Some(size)
 }
 
-/// Returns the length, in octets, of the head of a message: its shortest encoding up to the first
-/// binding. The bindings take `total` octets together; `parts.bindings` isn't read.
+/// Returns the length, in octets, of the head of a message: what precedes the first binding in its
+/// shortest encoding. The bindings take `total` octets together; `parts.bindings` isn't read.
 ///
 /// The community must have at most 65535 octets, and `total` must be at most 4,000,000,000.
 // `inline(always)`: called several times for one reply to a GetBulk, with different totals.
@@ -304,8 +304,8 @@ pub fn head_size(parts: &Parts<'_>, total: u64) -> u64
     message + prefix
 }
 
-/// Writes the head of a message to the start of `out`, and returns its length. The head is the
-/// shortest encoding up to the first binding. The bindings take `total` octets together;
+/// Writes the head of a message to the start of `out`, and returns its length. The head is what
+/// precedes the first binding in the shortest encoding. The bindings take `total` octets together;
 /// `parts.bindings` isn't read. It requires what [`head_size`] requires.
 ///
 /// Returns `None` if `out` is shorter than that; `out` is then unchanged.
@@ -340,8 +340,8 @@ pub fn encode_head(parts: &Parts<'_>, total: u64, out: &mut [u8]) -> Option<usiz
 
 /// Makes a message of encoded bindings that are already in `out`: they are the `len` octets from
 /// `at` on. Writes the head of the message to the start of `out`, moves the bindings so that they
-/// follow it, and returns the length of the message. The octets of `out` after the message are
-/// unspecified. The bindings of `parts` aren't read.
+/// follow the head, and returns the length of the message. The octets of `out` after the message
+/// are unspecified. The bindings of `parts` aren't read.
 ///
 /// The community must have at most 65535 octets, `len` must be at most 4,000,000,000, and the
 /// `len` octets must lie within `out`. Returns `None` if the message is longer than `out`, which

@@ -130,9 +130,9 @@ impl<'a> EncodedName<'a> {
     }
 }
 
-/// Compares the names of two contents if the shorter content has 8 to 24 octets. Returns `None`
-/// for others, and if both subidentifiers go on after the first octets that differ, unless both
-/// end with the next octet.
+/// Compares the names of two contents, or returns `None` if a slower comparison is needed: if the
+/// shorter content doesn't have 8 to 24 octets; or if both subidentifiers continue after the first
+/// octets that differ, and don't both end with the next octet.
 #[inline(always)]
 fn compare_ends(content: &[u8], other: &[u8]) -> Option<Ordering>
     requires this { IsOk (reading.identifier_of content.now) }
@@ -324,7 +324,7 @@ fn word_at(octets: &[u8], at: usize) -> u64
 
 /// An identifier has at most one content, and a content encodes at most one identifier. A name is
 /// below a root if and only if its content begins with the root's and is longer. Names are ordered
-/// by their subidentifiers, and these by their lengths and then their octets.
+/// by their subidentifiers, and subidentifiers by their lengths and then their octets.
 ///
 /// A law: the call does nothing; its caller's proof may use its clause.
 #[inline]

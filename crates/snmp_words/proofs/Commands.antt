@@ -24,7 +24,7 @@ subcommand_added command sub result a b adds is sub_is plain =
     adds.shape (plain_is_local _ _ _ _ (ap (λ (x : App). x.top.is_plain) sub_is ∙ plain))
     ∙ ap₂ with_subcommand is (ap (λ (x : App). x.top) sub_is)
 
--- if making a command succeeds, then the command has the shape of what was made
+-- if `m` is `Ok` with a command, and `IsMade` says that `m` has the shape `app`, then the command has this shape
 pub made : {E : Type 0} (m : Result Command E) (command : Command) (app : App) → m ≡ Ok command → IsMade m app → app_of command ≡ app
 made m command app e is = let P : Result Command _ → Type 0 = λ r. IsMade r app in subst P e is
 
@@ -37,12 +37,12 @@ is_some-map : {X Y : Type 0} (f : X → Y) (o : Option X) → is_some (option_ma
 is_some-map f None = refl
 is_some-map f (Some x) = refl
 
--- each of the commands asks for a job, whatever its rows are
+-- each command in the list asks for a job, whatever texts were given for its options (the parser's rows)
 abbrev AllState : List Shape → Type 0
 AllState [] = Unit {0}
 AllState (s ∷ more) = ((rows : List Row) → is_some (stated_by (s.name, rows)) ≡ true) × AllState more
 
--- if each command asks for a job, then so does the first one that passes the test, or none passes it
+-- if each of the commands `subs` asks for a job (`AllState`), then no command passes `test`, or the first one that passes asks for a job
 found_states : (test : Shape → Bool) (subs : List Shape) (words : List Text) → AllState subs
     → (option_map (λ s. rows_at s words) (find test subs) ≡ None)
     ⊎ (is_some (stated_in (option_map (λ s. rows_at s words) (find test subs))) ≡ true)
@@ -68,7 +68,7 @@ stated_or_none words =
     let all : AllState (built snmp_app).subs = (λ rows. refl, (λ rows. refl, (λ rows. refl, (λ rows. refl, (λ rows. refl, tt))))) in
     entered_states (built snmp_app) all (stop_after (built snmp_app).top.rules (names_of (built snmp_app)) (argument_words snmp_app words))
 
--- if the parser met a subcommand, then its matches ask for a job
+-- if the parser's result `m` has a subcommand, and this is the one that `words` name, with the same texts for its options, then `m` asks for a job
 pub states_job : (m : ArgMatches) (words : List Text) → has_subcommand m ≡ true → subcommand_rows_of m ≡ subcommand_of snmp_app words
     → IsSome (stated_in (subcommand_rows_of m))
 states_job m words met rows =

@@ -11,7 +11,7 @@ use Rattle.clap.specs.Walk.{Held, Names, Row, Text, finished, nothing_held, sett
 use Rattle.snmp_words.specs.{Command.faults_of, Command.is_taken, Command.snmp_app, Words.StateJob, Words.Stated, Words.stated_in}
 use Rattle.snmp_words.proofs.{Commands.stated_or_none, OptionValues.states}
 
--- if a subcommand is required and the check for one passes, then one was met
+-- if a subcommand is required, and the check that one was named passes, then one was named
 met_if_required : (required met : Bool) → required ≡ true → (not required || met) ≡ true → met ≡ true
 met_if_required true met is e = e
 met_if_required false met is e = absurd (true≢false (sym is))
@@ -20,7 +20,7 @@ met_if_none_wanted : (met required : Bool) → required ≡ true → (not met &&
 met_if_none_wanted true required is e = refl
 met_if_none_wanted false required is e = absurd (true≢false (sym is ∙ e))
 
--- if a command requires a subcommand and its rows are valid, then it has a subcommand
+-- if a command requires a subcommand, and the texts given for its options (the parser's rows) are valid, then a subcommand was named (`has`)
 met_by_valid : (s : Shape) (rows : List Row) (has : Bool) → s.subcommand_required ≡ true
     → is_valid s rows has ≡ true → has ≡ true
 met_by_valid s rows has required valid =
@@ -36,7 +36,7 @@ met_by_level s names h words has required passes =
     let defaults = (and_parts (settle_passes s.rules s.args_override_self end) _ settles).1 in
     met_by_valid s (finished s.rules end) has required (and_parts (list_all default_passes s.rules) _ defaults).1
 
--- if a command requires a subcommand and takes the arguments, then they name one
+-- if a command requires a subcommand and takes the arguments `words`, then `words` name one
 met_by_taken : (app : App) (words : List Text) → (built app).top.subcommand_required ≡ true → takes app words ≡ true
     → is_some (subcommand_of app words) ≡ true
 met_by_taken app words required taken =
@@ -73,7 +73,7 @@ met_by_faultless_level s names h words has below required faultless =
     let checked = none_after (defaults_fault (settled s.rules end).rows s.rules) _ settled_without in
     met_by_check s (finished s.rules end) has required checked
 
--- if a command requires a subcommand and the arguments have no fault, then they name one
+-- if a command requires a subcommand and the arguments `words` have no fault, then `words` name one
 met_by_faultless : (app : App) (words : List Text) → (built app).top.subcommand_required ≡ true → fault_of app words ≡ []
     → is_some (subcommand_of app words) ≡ true
 met_by_faultless app words required faultless =

@@ -1,4 +1,4 @@
--- The texts and numbers that a command's rows have, and the job that they ask for.
+-- The texts and numbers that were given for a command's options (the parser's rows: one for each id, with its texts), and the job that they ask for.
 use Rattle.std.proofs.Common.{◌≡◌, ◌∙◌, ◌++◌, ap, ap₂, refl, subst, sym, true, false, Bool, List, [], ◌∷◌, Option, Some, None, ℕ, ◌⊎◌, inl, inr}
 use Rattle.std.proofs.lemmas.Grind.{common_steps}
 use Rattle.std.proofs.Common.{arith, Bor, unwrap_or, option_map, option_and_then}
@@ -30,7 +30,7 @@ number_refused low high text not_in = go (is_unsigned_in low high text) (λ e. n
     go true never = absurd (never refl)
     go false never = refl
 
--- the numbers that `numbers_in` computes are the numbers of the options
+-- the numbers that `numbers_in` computes from the parser's rows are the numbers of the options, as `IsNumberOf` says
 are_numbers : (rows : List Row) → AreNumbersOf rows (numbers_in rows)
 are_numbers rows id default low high = by (first_of id rows)
   where
@@ -55,7 +55,7 @@ are_numbers rows id default low high = by (first_of id rows)
     by None = refl
     by (Some text) = at text (is_unsigned_in low high text) refl
 
--- an option has only one number
+-- an option has at most one number: if `n` and `m` are its numbers, they are equal
 one_number : (id : List ℕ) (default low high : ℕ) (rows : List Row) (n m : ℕ)
     → IsNumberOf id default low high rows n → IsNumberOf id default low high rows m → n ≡ m
 one_number id default low high rows n m = by (first_of id rows)
@@ -70,7 +70,7 @@ one_number id default low high rows n m = by (first_of id rows)
     by (Some text) (inr h) (inl k) = absurd (h.0 m k)
     by (Some text) (inr h) (inr k) = h.1 ∙ sym k.1
 
--- the job that is computed is one that the arguments ask for
+-- if `stated_in` computes `job` from the subcommand that `words` name, then `words` ask for `job`
 pub states : (words : List Text) (job : Stated) → stated_in (subcommand_of snmp_app words) ≡ Some job → StateJob words job
 states words job = at (subcommand_of snmp_app words) refl
   where
@@ -99,7 +99,8 @@ one_job words job other h k =
         ap₂ (λ (x : Numbers) (r : Text × List Row). stated_among (readings x) r) numbers is in
         let jobs : Some job ≡ Some other = sym e ∙ both ∙ f in cc
 
--- if a look-up `found` the texts `rows` (or nothing), and `all` is what it found (or empty), then `all` has the texts `rows` (or none)
+-- If `found` is a slice with the texts `rows`, and `all` is this slice, then `all` has the texts `rows`. If `found` and `rows` are None, and `all` is `none`,
+-- which is empty, then `all` has no texts.
 pub found_texts : (found : Option (Bor (List (Bor (List ℕ))))) (rows : Option (List (List ℕ))) (none all : Bor (List (Bor (List ℕ))))
     → option_map (λ s. texts s.now) found ≡ rows → none.now ≡ [] → all ≡ unwrap_or found none → texts all.now ≡ unwrap_or rows []
 found_texts None rows none all e empty is = grind (arith, common_steps)

@@ -14,11 +14,11 @@ use Rattle.clap.specs.declared.builder.value_parser.ValueParser.TheVariants.{Uns
 abbrev pub one_text : Text → Rule
 one_text id = record (new_rule id) { value_names = 1 }
 
--- the rule of an argument that may be given several times
+-- `rule` changed so that its argument may be given several times
 abbrev pub repeated : Rule → Rule
 repeated rule = record rule { action = Some Append }
 
--- the rule of an argument whose text is a decimal number of the range
+-- a rule changed so that the text of its argument is a decimal number from `low` to `high`
 abbrev pub numbered : (low high : ℕ) → Rule → Rule
 numbered low high rule = record rule { parser = Some (Unsigned low high) }
 
@@ -151,7 +151,7 @@ faults_of words = fault_of snmp_app words
 
 -- ---- for private functions
 
--- the argument has the rule, and is for its own command only
+-- the argument has the rule `rule`, and isn't passed on to subcommands (it isn't global)
 abbrev pub IsArg : Arg → Rule → Type 0
 IsArg arg rule = (rule_of arg ≡ rule) × (arg.global ≡ false)
 

@@ -38,8 +38,8 @@ pub record GetWords : Type 0 where
   pub asking : AskingWords
   pub names : List Text
 
--- the arguments of snmpwalk or snmpbulkwalk: its letters of -C, the name after which it continues,
--- and the name of its root
+-- the arguments of snmpwalk or snmpbulkwalk: the agent to ask, and how; its letters of -C; the name
+-- after which it continues; and the name of its root
 pub record WalkWords : Type 0 where
   pub asking : AskingWords
   pub letters : Text
@@ -64,22 +64,22 @@ pub data Stated : Type 0 where
   snmpbulkwalk : WalkWords → Stated
   snmpd : ServeWords → Stated
 
--- ---- what a command's rows say: a row of the parser has the texts that were given for one id
+-- ---- what the parser's rows say: each has the texts given for one option or argument
 
--- the texts given for an id
+-- the texts given for the option or argument `id`, from the parser's rows
 abbrev pub texts_of : Text → List Row → List Text
 texts_of id rows = unwrap_or (all_of id rows) []
 
--- the texts given for an id, joined in order
+-- the texts given for the option or argument `id`, joined in order
 abbrev pub joined_of : Text → List Row → Text
 joined_of id rows = flat_map (λ text. text) (texts_of id rows)
 
--- the first text given for an id, or `default` if there is none
+-- the first text given for the option or argument `id`, or `default` if none was given
 abbrev pub text_or : Text → Text → List Row → Text
 text_or id default rows = unwrap_or (first_of id rows) default
 
--- the text writes the number n, of 64 bits and in the range, in decimal digits with or without a
--- plus
+-- the text writes the number n in decimal digits, with or without a plus; n has at most 64 bits and
+-- is from `low` to `high`
 pub record StatesNumber (low high : ℕ) (text : Text) (n : ℕ) : Type 0 where
   pub digits : IsNumeral 10 (without_leading_plus text)
   pub value : n ≡ digits_value 10 (without_leading_plus text)
@@ -95,7 +95,7 @@ IsNumberOf id default low high rows n =
     MatchOption (first_of id rows) (n ≡ default) (λ text. StatesNumber low high text n
     ⊎ (((m : ℕ) → StatesNumber low high text m → ⊥) × (n ≡ default)))
 
--- the numbers of options, by their ids, defaults and ranges
+-- a function that returns the number of each option by its id, default and range
 abbrev pub Numbers : Type 0
 Numbers = Text → (default low high : ℕ) → ℕ
 
@@ -147,7 +147,7 @@ serve_of_rows numbers rows = record {
   turns = numbers (codes "turns") 18446744073709551615 0 18446744073709551615;
 }
 
--- each command, with how its rows are read
+-- the name of each command, with the function that makes its arguments from the parser's rows
 abbrev pub readings : Numbers → List (Text × (List Row → Stated))
 readings numbers = (codes "snmptranslate", λ rows. snmptranslate (translate_of_rows rows))
     ∷ (codes "snmpget", λ rows. snmpget (get_of_rows numbers rows))
@@ -160,7 +160,8 @@ stated_among [] p = None
 stated_among (reading ∷ more) p =
     if bytes_eq p.0 reading.0 then Some (reading.1 p.1) else stated_among more p
 
--- the arguments ask for the job: they name its command, and give it its texts and numbers
+-- the arguments `words` ask for `job`: they name its command, and its texts and numbers are what
+-- they give for the options and arguments of that command
 pub record StateJob (words : List Text) (job : Stated) : Type 0 where
   pub command : Text
   pub rows : List Row
@@ -234,7 +235,8 @@ asks_help kind.DisplayHelp = true
 asks_help kind.DisplayVersion = true
 asks_help _ = false
 
--- the error says that memory ran out, or reports one of the faults
+-- the error says that memory ran out; or its `help` is true and one of the faults is a request for
+-- help or the version; or its `help` is false and one of the faults is a mistake
 abbrev pub HasFaultOf : UsageError → Kinds → Type 0
 HasFaultOf Memory faults = ⊤
 HasFaultOf (Parse text help) faults = (k : ErrorKind) × IsAmong k faults × (help ≡ asks_help k)
@@ -261,8 +263,8 @@ abbrev pub walk_line : Text → Text → List Text
 walk_line path numbers = codes "snmp" ∷ codes "snmpwalk" ∷ codes "-On" ∷ (codes "table:" ++ path)
     ∷ (codes "." ++ numbers) ∷ []
 
--- what the arguments `walk_line path numbers` say: the agent, the name, the letter n, and the
--- defaults for all else
+-- what the arguments `walk_line path numbers` say: the agent, the name and the letter n; each other
+-- option has its default, or is absent
 abbrev pub words_of_walk : Text → Text → WalkWords
 words_of_walk path numbers = record {
   asking = record {
@@ -294,7 +296,8 @@ abbrev pub numbers_in : List Row → Numbers
 numbers_in rows id default low high =
     unwrap_or (option_and_then (number_in low high) (first_of id rows)) default
 
--- the job that a command's name and rows ask for, computed; None if there isn't such a command
+-- the job that `p` asks for, computed: `p` is the name of a command and the parser's rows for it;
+-- None if no command has that name
 abbrev pub stated_by : Text × List Row → Option Stated
 stated_by p = stated_among (readings (numbers_in p.1)) p
 

@@ -11,8 +11,8 @@ use std::alloc::{AllocError, Global};
 /// The version of the program.
 pub(crate) const VERSION: &str = "0.7.0";
 
-// What help says of the walks, and what follows the help of each subcommand: an example that needs
-// no file, the exit statuses, and what to read.
+// The descriptions of the two walks in their help, and the end of the help of each subcommand: an
+// example, the exit statuses, and the manual pages to read.
 const TRANSLATE_END: &str = "\
 Example:
   snmp snmptranslate -On iso.3.6.1.2.1.1.5.0
@@ -72,7 +72,7 @@ Exit status:
 
 man snmp explains each message, man snmp-table the format of tables";
 
-// A command, unless memory ran out.
+// A command, or an error if memory ran out.
 type Made<'a> = Result<Command<'a>, AllocError>;
 
 /// Returns the command `snmp` with its subcommands.
@@ -113,7 +113,8 @@ fn top_command<'a>(alloc: Global) -> Command<'a>
         .disable_help_subcommand(true)
 }
 
-/// Returns a command that has no arguments yet. Its help says `about` of it, and ends with `end`.
+/// Returns a command that has no arguments yet. Its help has the description `about`, and ends with
+/// `end`.
 fn new_command<'a>(alloc: Global, name: &'a str, about: &'a str, end: &'a str) -> Command<'a>
     ensures { app_of result ≡ new_app name.now }
 {

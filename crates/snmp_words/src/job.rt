@@ -23,7 +23,7 @@ pub struct TranslateJob<'a> {
     pub mibs: Vec<&'a str>,
     /// The letters of `-O`: how names are shown. The letters of several `-O` are joined in order.
     pub letters: String,
-    /// The letters of `-T`: what is shown instead of names.
+    /// The letters of `-T`: what is shown of each name beside the name itself.
     pub details: &'a str,
     /// The names, in order.
     pub names: Vec<&'a str>,
@@ -44,7 +44,8 @@ pub struct Asking<'a> {
     pub retries: u64,
     /// How many seconds to wait for a reply; 1 by default.
     pub seconds: u64,
-    /// The greatest size of a message of an agent in memory, in octets; 1472 by default.
+    /// The greatest size, in octets, of a message of an agent in memory (`table:FILE`); 1472 by
+    /// default.
     pub max_size: u64,
     /// The argument that names the agent.
     pub agent: &'a str,

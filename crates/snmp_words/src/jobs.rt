@@ -127,7 +127,8 @@ fn join_texts(alloc: Global, given: &ArgMatches<'_>, id: &str) -> Result<String,
     given.get_strs(id).unwrap_or(&[]).join(alloc, "")
 }
 
-/// Returns the number given for `id`, or `default` if no number of the range was given.
+/// Returns the number that the first text given for `id` writes, if it is from `low` to `high`,
+/// otherwise `default`.
 fn number(given: &ArgMatches<'_>, id: &str, default: u64, low: u64, high: u64) -> u64
     requires from { low ≤ default }
     requires to { default ≤ high }

@@ -36,7 +36,7 @@ use jobs::job_of;
 use std::alloc::{AllocError, Global};
 use thiserror::Error;
 
-/// Why the arguments ask for no job.
+/// Why [`read_words`] returns no job.
 #[derive(Debug, Drop, Error)]
 pub enum UsageError {
     /// The parser refused the arguments, or they ask for help or the version. `text` is for the
@@ -57,8 +57,9 @@ impl From<AllocError> for UsageError {
 }
 
 /// Returns the job that the arguments of a command line ask for. The first of `words` is the
-/// program's name. The letters of an option can follow it at once or in the next argument: `-On`
-/// or `-O n`. Arguments that fit the rules of their command are refused only if memory runs out.
+/// program's name. The letters of an option can be in the same argument or in the next one: `-On`
+/// or `-O n`. Arguments that fit the rules of their command, and don't ask for help or the version,
+/// are refused only if memory runs out.
 pub fn read_words<'a>(alloc: Global, words: &'a [&'a str]) -> Result<Job<'a>, UsageError>
     ensures job { IfOk result (λ job.
         StateJob (texts words.entry.now) (job_words job)) }

@@ -8,7 +8,8 @@ use crate::command::VERSION;
 use clap::error::ErrorKind;
 use std::alloc::{AllocError, Global};
 
-// Tips: what a mistake can name (a command, an option), each with what to do instead.
+// A list of tips. The first text of each is the command or the option that a mistake names, the
+// second is the advice that is printed.
 type Tips = &'static [(&'static str, &'static str)];
 
 const NOT_HERE: &str =
@@ -134,8 +135,8 @@ const VALUES_OF_BULK_WALK: Tips = &[(
     "LETTERS are some of i, p and rN, such as r25",
 )];
 
-/// Returns the text for the user if the parser refused `words`, or if they ask for help or the
-/// version.
+/// Returns the text for the user about `error`, which the parser returned for `words`: the help or
+/// the version if they ask for it, otherwise what is wrong with them.
 pub(crate) fn text_of(
     alloc: Global,
     error: &clap::Error,
@@ -166,8 +167,8 @@ fn with_newline(mut text: String) -> Result<String, AllocError>
     Ok(text)
 }
 
-/// Returns the command that the arguments begin with. Returns `None` if there is none, if the
-/// parser refused the first argument as a command, or if it is an option.
+/// Returns the argument after the program's name, which is the command. Returns `None` if there is
+/// no such argument, if it begins with a hyphen, or if the parser refused it as a command.
 fn command_of<'a>(kind: ErrorKind, words: &[&'a str]) -> Option<&'a str> {
     match words.get(1) {
         Some(word) if kind != ErrorKind::InvalidSubcommand && !word.starts_with('-') => Some(*word),
@@ -227,8 +228,9 @@ fn push_tips(
     Ok(())
 }
 
-/// Returns the tip on the version if the text after a `-v`, in the same argument or in the next
-/// one that isn't empty, isn't `2c`. So `-v=2c` has the tip too.
+/// Returns the tip on the version if an argument begins with `-v` and the text after the `-v` isn't
+/// `2c`. If that argument ends after `-v`, the text is the next argument that isn't empty, if any.
+/// For `-v=2c` the text is `=2c`, so the tip is returned too.
 fn tip_on_version(words: &[&str]) -> Option<&'static str> {
     let mut is_next = false;
     for word in words {
@@ -256,8 +258,8 @@ fn tips_before(text: &str) -> (&str, &str) {
     }
 }
 
-/// Returns the first of the parser's tips, unless it says how to pass an argument that begins with
-/// a hyphen as a value: no agent and no name begins with one.
+/// Returns the first of the parser's tips, without the label `tip: `. Returns `None` if there is no
+/// tip, or if the first one begins with `to pass '`.
 fn tip_among_parsers(tips: &str) -> Option<&str> {
     let (first, _) = tips.split_once('\n').unwrap_or((tips, ""));
     let tip = first.strip_prefix("  tip: ")?;
@@ -312,7 +314,8 @@ fn option_of(mistake: &str) -> Option<&str> {
     Some(rest.split_once("': ")?.0)
 }
 
-/// Returns what is between `before` and `after`, if `text` begins and ends with these.
+/// Returns what is between `before` and `after`, if `text` begins with `before` and what follows
+/// ends with `after`.
 fn between<'t>(before: &str, text: &'t str, after: &str) -> Option<&'t str> {
     text.strip_prefix(before)?.strip_suffix(after)
 }

@@ -26,8 +26,7 @@ U: no units
 x: strings without a display hint in hexadecimal
 a: strings without a display hint as text";
 
-/// The help on the letters of `-O` that act on names. The others are accepted too, and change
-/// nothing.
+/// The help on the letters of `-O` that act on names.
 pub(crate) const LETTERS_OF_NAMES: &str = "\
 How names are shown; may be repeated
 of n, f, s and S the last one counts

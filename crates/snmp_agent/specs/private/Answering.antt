@@ -1,5 +1,5 @@
--- How replies are computed: what private functions are proved to find and to write. Only contracts
--- of functions that the crate doesn't export cite these definitions.
+-- How replies are computed: what private functions are proved to find and to write. For contracts
+-- of functions that the crate doesn't export.
 use Rattle.std.specs.Prelude.{◌≡◌, ◌≢◌, ℕ, zero, suc, ℤ, pos, ◌+◌, ◌≤◌, ◌<◌, List, [], ◌∷◌, ◌++◌}
 use Rattle.std.specs.Prelude.{◌-◌, length, map, take, drop, cond, leb, Option, None, Some}
 use Rattle.std.specs.List.{list_all}
@@ -15,8 +15,8 @@ use Rattle.snmp_agent.specs.Reply.{joined, or_zero}
 use Rattle.snmp_agent.specs.private.Cursor.{bindings_in_round, is_over, next_at, cursor_of}
 use Rattle.snmp_agent.specs.private.Cursor.{cursors_of}
 
--- what the reply to a Get, a GetNext or a Set has for one binding of the request; `answers_to` is
--- for all bindings
+-- what the reply to a Get, a GetNext or a Set has for `asked`, one binding of the request;
+-- `answers_to` is the list of these for all bindings of the request
 abbrev pub answer_to : MibView → Kind → VarBind → VarBind
 answer_to view kind.GetRequest asked = got_at view asked.name
 answer_to view kind.GetNextRequest asked = next_at (cursor_of view 0 asked.name)
@@ -45,12 +45,12 @@ IsShortValue (octet_string text) = length text ≤ 65535
 IsShortValue (opaque_octets text) = length text ≤ 65535
 IsShortValue _ = Unit {0}
 
--- the length that the message `m` has if its bindings take `total` octets, whatever its own are
+-- the length in octets that the message `m` would have if its bindings took `total` octets
 abbrev pub whole_size : Message → ℕ → ℕ
 whole_size m total = length (canon_head m total) + total
 
--- the error-status of the Response to a request of this kind, unless the Response is replaced for
--- its length; `whole_index` is its error-index
+-- the error-status of the Response to a request of this kind, unless the Response is replaced
+-- because it is too long; `whole_index` is its error-index
 abbrev pub whole_status : Kind → ℤ
 whole_status kind.SetRequest = not_writable
 whole_status _ = no_error
@@ -66,13 +66,14 @@ IsWritten limit r None out = limit < length (canon r)
 IsWritten limit r (Some n) out =
     (length (canon r) ≤ limit) × (take n out ≡ canon r) × (n ≡ length (canon r))
 
--- the Response to the request `q` was written, or is longer than `limit`, as `IsWritten` says
+-- the Response to the request `q` was written to the start of `out`, and `result` has its length;
+-- or the Response is longer than `limit`, and `result` is `None`
 abbrev pub IsAnswered : MibView → ℕ → Message → Option ℕ → List ℕ → Type 0
 IsAnswered view limit q result out =
     (r : Message) × IsResponse view limit q r × IsWritten limit r result out
 
 -- `room` is the greatest number of octets that the bindings of the message can take if the message
--- has at most `limit`, or 0 if it has more even without bindings
+-- has at most `limit` octets, or 0 if the message is longer than `limit` even without bindings
 pub record IsRoom (m : Message) (limit room : ℕ) : Type 0 where
   pub fits : room ≢ 0 → whole_size m room ≤ limit
   pub most : limit < whole_size m (room + 1)
@@ -88,13 +89,14 @@ pub record Held : Type 0 where
 abbrev pub held : ReplyBindings → List ℕ → Held
 held reply out = record { octets = take reply.total out; left = reply.left }
 
--- the bindings `h` with `octets` appended if there is room for them, otherwise with no room left
+-- the bindings `h` with `octets` appended if there is room for them, otherwise `h` with no room
+-- left
 abbrev pub put : Held → List ℕ → Held
 put h octets = cond (leb (length octets) h.left)
     (record { octets = h.octets ++ octets; left = h.left - length octets })
     (record { octets = h.octets; left = 0 })
 
--- the bindings `h` with `p` appended if there is room for it, otherwise with no room left
+-- the bindings `h` with `p` appended if there is room for it, otherwise `h` with no room left
 unfoldable pub add : Held → VarBind → Held
 add h p = put h (canon_binding p)
 
@@ -105,13 +107,13 @@ fill h (p ∷ more) = fill (add h p) more
 
 -- ---- GetBulk
 
--- the second list has the results of the round after `round` others for the names in the first, as
--- the standard says; proofs compare this with `bindings_in_round`, which computes them
+-- the second list has, for each name in the first list, the result that the standard requires in a
+-- round of a GetBulk after `round` earlier rounds
 abbrev pub AreInRound : MibView → ℕ → List VarBind → List VarBind → Type 0
 AreInRound view round = AreAnswers (λ asked returned. IsNextAfter view round asked.name returned)
 
--- the rounds of the names after `round` others, at most `left` rounds; a round that began with no
--- variable left for any name is the last
+-- the rounds of a GetBulk for these names that follow the first `round` rounds: at most `left`
+-- more. If no variable was left for any name before a round, that round is the last.
 abbrev pub rounds_from : MibView → List VarBind → ℕ → ℕ → List (List VarBind)
 rounds_from view names round zero = []
 rounds_from view names round (suc left) = bindings_in_round view round names

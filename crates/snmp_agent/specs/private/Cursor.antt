@@ -1,6 +1,5 @@
 -- The positions of names among the variables of a view, after some rounds of a GetBulk, and what a
--- GetNext returns from them. Only contracts of functions that the crate doesn't export cite these
--- definitions.
+-- GetNext returns from them. For contracts of functions that the crate doesn't export.
 use Rattle.std.specs.Prelude.{ℕ, Bool, true, false, List, [], ◌∷◌, drop, map, take}
 use Rattle.std.specs.FinMap.{entries}
 use Rattle.snmp_wire.specs.Message.{Datum, VarBind}
@@ -9,8 +8,8 @@ use Rattle.snmp_agent.specs.{table.Pages.entries_after, declared.cursor.Previous
 use Rattle.snmp_agent.specs.table.Entries.{last_name, var_of}
 use Rattle.snmp_agent.specs.declared.cursor.Previous.TheVariants as previous
 
--- the name of the row that was returned last; before the first, the name in the request; 0.0 if no
--- name was requested
+-- the name of the row that was returned last; the name in the request if no row was returned yet;
+-- 0.0 if no name was requested
 abbrev pub name_of : Previous → List ℕ
 name_of previous.Nothing = 0 ∷ 0 ∷ []
 name_of (previous.Asked name) = name
@@ -21,7 +20,7 @@ pub record CursorView : Type 0 where
   pub name : List ℕ
   pub rows : List (List ℕ × Datum)
 
--- the position after a GetNext of `o`, if these are the variables after it
+-- the position after a GetNext of the name `o`; the list must have the variables after `o`
 abbrev pub cursor_past_first : List ℕ → List (List ℕ × Datum) → CursorView
 cursor_past_first o [] = record { name = o; rows = [] }
 cursor_past_first o (e ∷ es) = record { name = e.0; rows = es }
@@ -44,7 +43,8 @@ abbrev pub is_over : CursorView → Bool
 is_over cursor = has_none cursor.rows
 
 -- the position of the name `o` after `round` rounds. Each round passes a variable, if one is left.
--- The position has the name of the last variable passed, or `o`, and the variables after it.
+-- The position has the name of the last variable passed, or `o` if none was, and the variables
+-- left.
 unfoldable pub cursor_of : MibView → ℕ → List ℕ → CursorView
 cursor_of view round o =
     let back = entries_after o (entries view.rows) in
@@ -53,6 +53,6 @@ cursor_of view round o =
 abbrev pub cursors_of : MibView → ℕ → List VarBind → List CursorView
 cursors_of view round names = map (λ (asked : VarBind). cursor_of view round asked.name) names
 
--- what a GetBulk returns for these names in the round after `round` others
+-- what a GetBulk returns for these names in one round, after `round` earlier rounds
 abbrev pub bindings_in_round : MibView → ℕ → List VarBind → List VarBind
 bindings_in_round view round names = map next_at (cursors_of view round names)

@@ -1,4 +1,4 @@
--- What a search or a reading finds.
+-- Statements that a property holds of exactly one thing, and results of a search for that thing.
 use Rattle.std.specs.Prelude.{◌≡◌, Bool, true, false, Option, Some, None}
 
 -- `P` holds of exactly one thing

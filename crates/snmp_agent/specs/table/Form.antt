@@ -1,4 +1,4 @@
--- The forms of a line, and what is wrong with a line by itself.
+-- The forms of a line, and what can be wrong with one line, whatever the other lines are.
 use Rattle.std.specs.Prelude.{◌≡◌, ◌≢◌, ◌⊎◌, List, [], ◌∷◌, ◌++◌, ℕ, codes, All, Contains}
 use Rattle.snmp_wire.specs.Message.{Datum, VarBind}
 use Rattle.snmp_agent.specs.table.Table.{IsInstanceName}
@@ -11,8 +11,9 @@ abbrev pub IsTag : List ℕ → Type 0
 IsTag tag = Contains (codes "2" ∷ codes "4" ∷ codes "4x" ∷ codes "6" ∷ codes "64" ∷ codes "65" ∷
     codes "66" ∷ codes "67" ∷ codes "68x" ∷ codes "70" ∷ []) tag
 
--- `line` is `name`, the bar that ends it, the known tag `tag`, which has no bar, a bar and `text`.
--- It isn't blank, and doesn't begin with `object `.
+-- `line` has the form of a row's line: `name`, a bar, `tag`, a bar and `text`. `tag` is a known
+-- tag, and the first of these bars is the one that ends the name (`EndsAtBar`). The line isn't
+-- blank, and doesn't begin with `object `.
 pub record IsRowForm (format : Format) (line name tag text : List ℕ) : Type 0 where
   pub not_blank : IsBlank line → ⊥
   pub no_object : (object : List ℕ) → line ≢ codes "object " ++ object
@@ -21,7 +22,7 @@ pub record IsRowForm (format : Format) (line name tag text : List ℕ) : Type 0 
   pub tag_ends : All (λ octet. octet ≢ bar) tag
   pub known : IsTag tag
 
--- the text is the name of an object prefix, which has at least one number
+-- `text` is a name of `o`, and `o` can be an object prefix: `o` has at least one number
 abbrev pub IsObjectText : Format → (text o : List ℕ) → Type 0
 IsObjectText format text o = IsNameIn format text o × (o ≢ [])
 
@@ -30,14 +31,14 @@ IsInstanceText format text o = IsNameIn format text o × IsInstanceName o
 
 -- ---- faults of a line by itself
 
--- the line has none of the three forms
+-- the line isn't blank, doesn't begin with `object `, and doesn't have the form of a row's line
 pub record IsBadLine (format : Format) (line : List ℕ) : Type 0 where
   pub not_blank : IsBlank line → ⊥
   pub no_object : (object : List ℕ) → line ≢ codes "object " ++ object
   pub no_row : (name tag text : List ℕ) → IsRowForm format line name tag text → ⊥
 
--- the line has the form of an object prefix's line, but its text isn't the name of one; or it has
--- the form of a row's line, but its name isn't the name of an instance
+-- the line is `object ` and a text that isn't a name of an object prefix; or the line has the form
+-- of a row's line, but the name on it isn't a name of an instance
 abbrev pub IsBadName : Format → List ℕ → Type 0
 IsBadName format line =
     ((text : List ℕ) × (line ≡ codes "object " ++ text)
@@ -45,8 +46,8 @@ IsBadName format line =
     ⊎ ((name : List ℕ) × (tag : List ℕ) × (text : List ℕ) × IsRowForm format line name tag text
     × ((o : List ℕ) → IsInstanceText format name o → ⊥))
 
--- the line has the form of a row's line, with the name of an instance, but its text isn't a value
--- of the tag
+-- the line has the form of a row's line, and the name on it is a name of an instance, but the text
+-- after the tag doesn't represent a value of the tag
 abbrev pub IsBadValue : Format → List ℕ → Type 0
 IsBadValue format line =
     (name : List ℕ) × (tag : List ℕ) × (text : List ℕ) × IsRowForm format line name tag text

@@ -10,7 +10,7 @@ use Rattle.snmp_agent.specs.table.Exact.{IsOnly}
 abbrev pub bar : ℕ
 bar = 124
 
--- `text` is the numeric name of `o`, which has at most 128 numbers
+-- `text` is a numeric name of `o`, which has at most 128 numbers
 pub record IsName (text o : List ℕ) : Type 0 where
   pub named : IsNumericName text o
   pub short : length o ≤ 128
@@ -25,7 +25,8 @@ abbrev pub Means : Names → (text o : List ℕ) → Type 0
 Means numeric_names text o = IsName text o
 Means (names_by meaning) text o = (meaning text ≡ Some o) × IsIdentifier o
 
--- a format: the first has numeric names, the second has these names
+-- a format of a table's text: names are numeric in the first; in the second, its argument says
+-- which texts are names
 pub data Format : Type 0 where
   first_format : Format
   second_format : Names → Format
@@ -34,27 +35,27 @@ pub data Format : Type 0 where
 abbrev pub IsMarked : List (List ℕ) → Type 0
 IsMarked lines = (more : List (List ℕ)) × (lines ≡ codes "#snmptab 2" ∷ more)
 
--- `lines` that begin with the mark of the second format have the second format, with `names`, and
--- all others have the first
+-- `lines` have this format: the second, with `names`, if the first line is the mark of the second
+-- format, and otherwise the first
 abbrev pub IsFormat : Names → (lines : List (List ℕ)) → Format → Type 0
 IsFormat names lines first_format = IsMarked lines → ⊥
 IsFormat names lines (second_format returned) = IsMarked lines × (returned ≡ names)
 
--- `text` is a name of the identifier `o` in this format; in the second format it has no bar
--- outside quotes
+-- `text` is a name of the identifier `o` in this format; in the second format, `text` also has no
+-- bar outside quotes
 abbrev pub IsNameIn : Format → (text o : List ℕ) → Type 0
 IsNameIn first_format text o = IsName text o
 IsNameIn (second_format names) text o = HasNoneOutside bar text × Means names text o
 
--- `name` can precede the bar that ends a row's name: the first bar, or in the second format the
--- first bar outside quotes
+-- a bar directly after `name` would end a row's name: in the first format, `name` has no bar; in
+-- the second, `name` has no bar outside quotes, and each quote in it is closed
 abbrev pub EndsAtBar : Format → (name : List ℕ) → Type 0
 EndsAtBar first_format name = All (λ octet. octet ≢ bar) name
 EndsAtBar (second_format names) name = IsClosed name × HasNoneOutside bar name
 
--- `found` is what a reader of names finds at the start of `text`: the identifier that the prefix
--- before the first bar outside quotes names, and the length of this prefix; or `None` if this
--- isn't a name. Without such a bar, the prefix is all of `text`.
+-- `found` is what a reader of names returns for the prefix of `text` before the first bar outside
+-- quotes, or for all of `text` if it has no such bar: the identifier that this prefix names and the
+-- length of the prefix, or `None` if the prefix isn't a name
 pub record IsLeadingName (names : Names) (text : List ℕ) (found : Option (List ℕ
     × ℕ)) : Type 0 where
   pub prefix : List ℕ

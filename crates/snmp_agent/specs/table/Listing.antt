@@ -12,7 +12,7 @@ variables view = map (λ e. record { name = e.0; value = e.1 }) (entries view.ro
 
 -- ---- for private functions
 
--- the first binding, or the name with endOfMibView if there is none
+-- the first of the bindings, or the name `o` with endOfMibView if there are no bindings
 abbrev pub first_or_end : List ℕ → List VarBind → VarBind
 first_or_end o [] = record { name = o; value = end_of_mib_view }
 first_or_end o (p ∷ ps) = p

@@ -25,8 +25,8 @@ IsSorted es = T (is_sorted (slice_cmp nat_cmp) es)
 abbrev pub ArePages : List Page → Type 0
 ArePages pages = IsSorted (entries_in pages)
 
--- the entries of the map `rows`, by increasing names, in two parts: `prefix` has the names up to
--- `o`, and `back` those after it
+-- `prefix`, followed by `back`, are the entries of the map `rows`, by increasing names. The names
+-- in `prefix` aren't greater than `o`, and the names in `back` are.
 pub record IsSplitAt (rows : FinMap (slice_cmp nat_cmp) Datum) (o : List ℕ) (prefix back : List
     (List ℕ × Datum)) : Type 0 where
   pub found : (q : List ℕ) → get rows q ≡ find (slice_cmp nat_cmp) q (prefix ++ back)
@@ -53,7 +53,7 @@ abbrev pub begins_up_to : List ℕ → List VarBind → Bool
 begins_up_to o [] = true
 begins_up_to o (row ∷ rows) = is_up_to o row
 
--- the rows after the name `o` begin at index `index`: the names of those before it aren't greater
+-- the rows from index `index` on have names greater than `o`, and the rows before that index don't
 pub record IsIndexAfter (o : List ℕ) (rows : List VarBind) (index : ℕ) : Type 0 where
   pub bound : index ≤ length rows
   pub passed : IsBeforeNone o (entries_of (take index rows))
@@ -112,7 +112,7 @@ IsWithoutRow pages index row es = (page : Page) → slice_get pages index ≡ So
     → es ≡ entries_in (take index pages) ++ (entries_of (remove_at page.rows.items row)
     ++ entries_in (drop (suc index) pages))
 
--- the entries after the name `o`, of entries in the order of names
+-- the entries whose names are greater than `o`; the list must be sorted by increasing names
 abbrev pub entries_after : List ℕ → List (List ℕ × Datum) → List (List ℕ × Datum)
 entries_after o [] = []
 entries_after o (e ∷ es) = cond (is_le (slice_cmp nat_cmp e.0 o)) (entries_after o es) (e ∷ es)

@@ -17,8 +17,8 @@ pub record IsTableIn (format : Format) (lines : List (List ℕ)) (view : MibView
   pub objects : (object : List ℕ)
       → (contains view.objects object ≡ true) ↔ HasPrefix format lines object
 
--- `line` is the line with this number, counted from 1, and the lines before it, `prefix`, define a
--- table
+-- `line` is the one of `lines` with this number, counted from 1, and the lines before it, `prefix`,
+-- define a table
 pub record IsAfterGoodLines (format : Format) (lines : List (List ℕ)) (number : ℕ)
     (prefix : List (List ℕ)) (line : List ℕ) : Type 0 where
   pub back : List (List ℕ)
@@ -26,12 +26,12 @@ pub record IsAfterGoodLines (format : Format) (lines : List (List ℕ)) (number 
   pub line_number : number ≡ length prefix + 1
   pub good : AreTable format prefix
 
--- the line defines an instance whose name an earlier line has
+-- `line` contains a row, and one of the earlier lines, `prefix`, contains a row of the same name
 abbrev pub IsDouble : Format → List (List ℕ) → List ℕ → Type 0
 IsDouble format prefix line = (p : VarBind) × (q : VarBind) × IsRowLine format line p
     × HasRow format prefix q × (q.name ≡ p.name)
 
--- the error says what is wrong with `line`, which comes after the lines `prefix`
+-- the error says what is wrong with `line`, which comes after the lines `prefix`; it isn't `Memory`
 abbrev pub IsWrong : Format → (prefix : List (List ℕ)) → (line : List ℕ) → TableError → Type 0
 IsWrong format prefix line (error.BadLine number) = IsBadLine format line
 IsWrong format prefix line (error.BadName number) = IsBadName format line

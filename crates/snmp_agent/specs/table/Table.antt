@@ -66,9 +66,9 @@ abbrev pub HasObject : MibView → List ℕ → Type 0
 HasObject view o = (object : List ℕ) × (rest : List ℕ) × (contains view.objects object ≡ true)
     × (o ≡ object ++ rest)
 
--- a Get of the name `o` returns `p` (RFC 3416, section 4.2.1): the variable of that name. If there
--- is none, `p` is the name with noSuchInstance if an object prefix of the view equals or begins
--- it, and otherwise the name with noSuchObject
+-- a Get of the name `o` returns `p` (RFC 3416, section 4.2.1): the variable of that name. If the
+-- view has no such variable, `p` is `o` with noSuchInstance if an object prefix of the view equals
+-- or begins `o`, and otherwise `o` with noSuchObject.
 pub data IsGet (view : MibView) (o : List ℕ) (p : VarBind) : Type 0 where
   variable : p.name ≡ o → IsRow view p → IsGet view o p
   unknown_object : get view.rows o ≡ None → (HasObject view o → ⊥)
@@ -96,12 +96,13 @@ IsNextAfter view zero o p = IsNext view o p
 IsNextAfter view (suc rounds) o p = (q : VarBind) × IsNextAfter view rounds o q
     × IsNext view q.name p
 
--- the view with this instance, which replaces the one of its name if there is one; the rest is the
--- same
+-- the view in which the instance `o` has the value `v`, whether `view` has an instance `o` or not;
+-- the other instances and the object prefixes are those of `view`
 abbrev pub with_row : MibView → List ℕ → Datum → MibView
 with_row view o v = record { rows = insert view.rows o v; objects = view.objects }
 
--- the view without the instance of this name; the rest is the same
+-- the view without the instance `o`; the other instances and the object prefixes are those of
+-- `view`
 abbrev pub without_row : MibView → List ℕ → MibView
 without_row view o = record { rows = remove view.rows o; objects = view.objects }
 

@@ -21,20 +21,21 @@ pub record IsDecimal (text : List ℕ) (n : ℕ) : Type 0 where
   pub digits : all_ascii_digits text ≡ true
   pub value : decimal_value text ≡ n
 
--- the text is decimal digits of a number, perhaps after a minus sign
+-- `text` is the number `z` in decimal digits, perhaps with leading zeros, perhaps after a minus
+-- sign
 abbrev pub IsSignedDecimal : List ℕ → ℤ → Type 0
 IsSignedDecimal text z =
     ((n : ℕ) × IsDecimal text n × (z ≡ pos n)) ⊎ ((digits : List ℕ) × (n : ℕ)
     × (text ≡ codes "-" ++ digits) × IsDecimal digits n × (z ≡ neg_ℤ (pos n)))
 
--- `text` is four decimal numbers of at most 255, separated by dots
+-- `text` is four decimal numbers, separated by dots; `octets` are these numbers, at most 255 each
 pub record IsAddressText (text octets : List ℕ) : Type 0 where
   pub dotted : IsDotted text octets
   pub four : length octets ≡ 4
   pub small : All (λ octet. octet < 256) octets
 
--- `text` represents this value after the tag `tag`. The tags are the tags of the encoding, in
--- decimal; with an `x`, the octets are hexadecimal
+-- `text` represents this value on a row's line with the tag `tag`. A tag is the decimal number of
+-- the value's tag in BER; an `x` after the number says that `text` is hexadecimal digits.
 abbrev pub IsValueText : Format → (tag text : List ℕ) → Datum → Type 0
 IsValueText format tag text (integer_value z) = (tag ≡ codes "2") × IsSignedDecimal text z
     × FitsSigned w32 z
@@ -94,7 +95,7 @@ abbrev pub HasPrefix : Format → List (List ℕ) → List ℕ → Type 0
 HasPrefix format lines object =
     (line : List ℕ) × Contains lines line × IsPrefixLine format line object
 
--- if both lines are rows, these have different names
+-- if both lines contain rows, the rows have different names
 abbrev pub DifferInName : Format → (line later : List ℕ) → Type 0
 DifferInName format line later = (row other : VarBind) → IsRowLine format line row
     → IsRowLine format later other → row.name ≢ other.name

@@ -34,7 +34,7 @@ pub struct TableBuilder {
     pub objects: BTreeSet<Vec<u32>>,
     /// Whether each row is inserted at once.
     exact: bool,
-    /// Whether a row is collected unless it comes after all inserted ones.
+    /// Whether rows are collected, apart from those that come after all inserted ones.
     gathers: bool,
     /// While rows are collected, the hashes of the names of all rows but the last `unhashed`
     /// inserted ones.
@@ -43,7 +43,7 @@ pub struct TableBuilder {
     /// yet, or `usize::MAX` if no name is. A row after all others has a new name, which is hashed
     /// only when another row is collected.
     unhashed: usize,
-    /// Whether no more rows are collected, since the hash of a new name wasn't new or couldn't be
+    /// Whether no more rows are collected, since the hash of a name wasn't new or couldn't be
     /// stored.
     no_more: bool,
     ghost exactly: { exact ≡ true → gathers ≡ false },
@@ -57,8 +57,8 @@ pub enum Halt {
     Fault(TableError),
     /// Memory ran out in an exact reading.
     Memory,
-    /// Memory ran out in a reading that isn't exact. Collected rows may have taken it, so the
-    /// caller must read the text again, exactly.
+    /// In a reading that isn't exact, memory ran out, or collected rows couldn't all be inserted.
+    /// The caller must read the text again, exactly.
     Again,
 }
 

@@ -5,8 +5,8 @@ use thiserror::Error;
 /// Why no table is read from a text: what is wrong with its first faulty line, or memory ran out.
 #[derive(Clone, Copy, Debug, PartialEq, Eq, Error)]
 pub enum TableError {
-    /// The line is neither empty, a comment nor an object prefix, and has no known tag between its
-    /// first two bars. In the second format, bars within quotes don't count.
+    /// The line isn't empty, isn't a comment, doesn't begin with `object `, and has no known tag
+    /// between its first two bars. In the second format, bars within quotes don't count.
     #[error("line {line}: bad line")]
     BadLine {
         /// The number of the line, from 1.
@@ -25,7 +25,7 @@ pub enum TableError {
         /// The number of the line, from 1.
         line: usize,
     },
-    /// An earlier line has the same instance.
+    /// An earlier line has an instance of the same name.
     #[error("line {line}: double name")]
     Double {
         /// The number of the line, from 1.

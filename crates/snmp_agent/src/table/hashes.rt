@@ -3,7 +3,8 @@
 use snmp_wire::EncodedName;
 use std::alloc::{AllocError, Global};
 
-/// The number of hashes in a bucket. They are compared together, without a branch for each.
+/// The number of hashes that a bucket has room for. They are compared together, without a branch
+/// for each.
 const BUCKET: usize = 16;
 
 /// The least number of buckets, if there are any.
@@ -21,9 +22,10 @@ const FACTOR: u64 = 0x9E37_79B9_7F4A_7C15;
 /// They take little memory, since touching a page of memory takes as long as reading several rows.
 #[derive(Drop)]
 pub struct Hashes {
-    /// A power of two of buckets, or none. Each has the high halves of hashes, with 1 instead of 0,
-    /// and then zeros. The low bits of a hash select its bucket; if that is full, the hash is in
-    /// one of the next.
+    /// The buckets; their number is a power of two, or 0. A bucket begins with the high halves of
+    /// its hashes, where a high half of 0 is stored as 1. After them it has zeros. The low bits of
+    /// a hash select its bucket. If that is full when the hash is inserted, a later bucket stores
+    /// the hash, if one that is near enough has room.
     buckets: Vec<[u32; BUCKET]>,
     /// The number of hashes whose insertion was tried since the last `clear`.
     count: usize,
@@ -116,8 +118,8 @@ fn look_for(bucket: &[u32; BUCKET], high: u32) -> (bool, usize) {
     (is_there, used as usize)
 }
 
-/// Returns the hash of the content of a name. Reads eight octets at a time; the last eight may
-/// overlap those before them.
+/// Returns the hash of the content of a name. Reads eight octets at a time, if there are eight or
+/// more; the last eight may overlap those before them.
 #[inline]
 fn hash_of(content: &[u8]) -> u64 {
     let Some(last) = content.last_chunk::<8>() else {

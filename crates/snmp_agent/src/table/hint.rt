@@ -16,24 +16,24 @@ const _: () = prove!(PAGE_ROWS < 256);
 #[derive(Clone, Copy)]
 pub struct Hint {
     last: Last,
-    /// Where names are, by one number for each name. Its high 16 bits are the index of the page
-    /// plus one, or 0 if no name is stored or the index is too large. The next 8 bits are the
+    /// Where names are, as one number for each name stored. Its high 16 bits are the index of the
+    /// page plus one, or 0 if no name is stored or the index is too large. The next 8 bits are the
     /// number of rows of that page whose names aren't greater than the name. The low 8 bits are
-    /// the low 8 bits of the name's hash. The first number of a pair was stored after the second,
-    /// and their low 8 bits differ if both are for names.
+    /// the low 8 bits of the name's hash. The first number of a pair is the newer one, and the low
+    /// 8 bits of the two differ if both are for names.
     kept: [[u32; 2]; PAIRS],
 }
 
-/// The position of the row that was returned last.
+/// The position recorded last, mostly the position of the row that was returned last.
 #[derive(Clone, Copy)]
 pub(crate) struct Last {
-    /// The number of rows after it on its page.
+    /// The number of rows after the position on its page.
     rows: usize,
     /// The number of pages after that page.
     pages: usize,
 }
 
-// Shows the position of the row that was returned last, and no names.
+// Shows the position recorded last, and no names.
 impl fmt::Debug for Hint {
     fn fmt<W: fmt::Write>(&self, f: &mut fmt::Formatter<W>) -> fmt::Result {
         f.debug_struct("Hint")
@@ -61,7 +61,7 @@ impl Default for Last {
 
     ghost is_default = { λ _. ⊤ };
 
-    // Refers to no row, since no table has as many pages.
+    // Refers to no row, since no table has `usize::MAX` pages.
     fn default() -> Last {
         Last {
             rows: 0,
@@ -86,18 +86,18 @@ impl Hint {
 #[derive(Drop)]
 pub(crate) struct Guesses<'h> {
     last: &'h mut Last,
-    /// The names of the [`Hint`], or none if no other request follows.
+    /// The numbers that the [`Hint`] stores for names, or none if no other request follows.
     kept: &'h mut [[u32; 2]],
 }
 
 /// A guess of where a name is.
 #[derive(Clone, Copy, Debug)]
 pub(crate) struct Guess {
-    /// The hash of the name.
+    /// The hash of the name, or 0 if the hint stores no names.
     hash: u32,
-    /// The index of its page.
+    /// The guessed index of its page, or `usize::MAX` for no guess.
     pub(crate) page: usize,
-    /// The number of rows of the page whose names aren't greater than the name.
+    /// The guessed number of rows of the page whose names aren't greater than the name.
     pub(crate) row: usize,
 }
 
@@ -112,15 +112,15 @@ impl<'h> Guesses<'h> {
         }
     }
 
-    /// Returns the number of rows after the row that was returned last, on its page, and the
-    /// number of pages after that page.
+    /// Returns the position recorded last: the number of rows after it on its page, and the number
+    /// of pages after that page.
     #[inline]
     pub(crate) fn last(&self) -> (usize, usize) {
         (self.last.rows, self.last.pages)
     }
 
-    /// Records the position of the row that was returned last: `left` has the number of rows after
-    /// it on its page, and the number of pages after that page.
+    /// Records a position, mostly that of the row that was returned last: `left` has the number of
+    /// rows after it on its page, and the number of pages after that page.
     #[inline]
     pub(crate) fn keep_last(&mut self, left: (usize, usize)) {
         self.last.rows = left.0;
@@ -149,8 +149,8 @@ impl<'h> Guesses<'h> {
         Guess::of(hash, kept)
     }
 
-    /// Records where a name is, if the hint stores names: the index of its page, and the number of
-    /// rows of that page whose names aren't greater than the name.
+    /// Records where the name of `guess` is, if the hint stores names: the index of its page, and
+    /// the number of rows of that page whose names aren't greater than the name.
     #[inline]
     pub(crate) fn keep(&mut self, guess: Guess, page: usize, row: usize) {
         let Some(pair) = self.kept.get_mut(pair_index(guess.hash)) else {
@@ -166,7 +166,7 @@ impl<'h> Guesses<'h> {
     }
 
     /// Records the position of a row under its name, if the hint stores names. So walks whose
-    /// requests alternate each find their row, although another row was returned since.
+    /// requests alternate mostly find their rows without a search.
     /// `inline(never)`: a single walk mostly doesn't call this.
     #[inline(never)]
     pub(crate) fn keep_passed(&mut self, name: &EncodedName<'_>, page: usize, row: usize) {
@@ -177,7 +177,7 @@ impl<'h> Guesses<'h> {
 }
 
 impl Guess {
-    /// Returns the guess for a hash, from the number that is stored for it.
+    /// Returns the guess for a hash, from the number that is stored for it, or 0 if none is.
     #[inline]
     fn of(hash: u32, kept: u32) -> Guess {
         Guess {
@@ -227,7 +227,7 @@ fn middle_of(octets: &[u8]) -> u64 {
     }
 }
 
-/// Returns `number` with `other` mixed in, so that the high bits of the result depend on all bits
+/// Returns `number` with `other` mixed in, so that the high bits of the result depend on most bits
 /// of both.
 #[inline]
 fn mix(number: u64, other: u64) -> u64 {

@@ -74,9 +74,9 @@ impl Page {
     }
 
     /// Splits the page to make room for a row of `name`, and returns its second part. This is half
-    /// of the rows, with two exceptions: if all rows come before `name`, it is only the last row;
-    /// if no row comes before `name`, it is all rows but the first. So rows that arrive in
-    /// increasing or decreasing order nearly fill their pages.
+    /// of the rows, rounded up, with two exceptions: if all rows come before `name`, it is only the
+    /// last row; if no row comes before `name`, it is all rows but the first. So rows that arrive
+    /// in increasing or decreasing order nearly fill their pages.
     ///
     /// With `at_name`, a second part of less than half may begin where `name` belongs. So columns
     /// that are listed row by row mostly fill their pages too.

@@ -27,12 +27,12 @@ use std::mem;
 #[derive(Drop)]
 pub struct Pages {
     list: Vec<Page>,
-    /// What shows whether the rows that were inserted among others came in some order.
+    /// Counts that show whether the rows that were put among others came in some order.
     order: PutOrder,
 }
 
-/// The pages into which rows were inserted among others, by successive samples of 128 rows. Only
-/// speed depends on it.
+/// Counts of the pages on which rows were put among others, for successive samples of 128 rows.
+/// Only speed depends on these counts.
 #[derive(Drop)]
 struct PutOrder {
     /// The number of rows in the current sample.
@@ -58,10 +58,12 @@ const SAMPLE: u32 = 128;
 /// column.
 const MANY_PAGES: u32 = 68;
 
-/// The number of successive samples in no order after which all rows are taken to be in no order.
+/// The least number of successive samples in no order after which all rows may be taken to be in no
+/// order.
 const MANY_SAMPLES: usize = 3;
 
-/// With many pages, one sample in no order is needed for each group of this number of pages.
+/// All rows are taken to be in no order only if the number of successive samples in no order is at
+/// least the number of pages divided by this number.
 const PAGES_FOR_SAMPLE: usize = 32;
 
 impl Model for Pages {
@@ -105,9 +107,9 @@ impl Pages {
         }
     }
 
-    /// Returns the row of `name`, if there is one. If the hint is right, nothing is searched;
-    /// otherwise the position of the name is recorded in the hint, if that stores names and there
-    /// are rows.
+    /// Returns the row of `name`, if there is one. If the hint has the position of that row,
+    /// nothing is searched. Otherwise the position of the name is recorded in the hint, if the hint
+    /// stores names and there are rows.
     pub fn find_near(
         &self,
         name: &EncodedName<'_>,
@@ -130,9 +132,9 @@ impl Pages {
         row_at(rows, name, index)
     }
 
-    /// Returns the rows after `name`, for a walk, which mostly asks from the row that was returned
-    /// last. If the hint is right, nothing is searched; otherwise the position of the name is
-    /// recorded in the hint, if that stores names and there are rows.
+    /// Returns the rows after `name`. If the row at the position that the hint recorded last has
+    /// this name, as it mostly has in a walk, nothing is searched. Otherwise this does what
+    /// [`Pages::after_near`] does.
     // `inline(always)`: called for each request of a walk.
     #[inline(always)]
     pub fn after_last(&self, name: &EncodedName<'_>, hint: &mut Guesses<'_>) -> Successors<'_>
@@ -144,9 +146,9 @@ impl Pages {
         }
     }
 
-    /// Returns the rows after `name` if its row is the one that was returned last. If another row
-    /// was, its position is recorded under its name, if the hint stores names, since another walk
-    /// may continue from there.
+    /// Returns the rows after `name` if the row at the position that the hint recorded last has
+    /// this name. If that row has another name, its position is recorded under that name, if the
+    /// hint stores names, since another walk may continue from there.
     #[inline(always)]
     fn after_row(&self, name: &EncodedName<'_>, hint: &mut Guesses<'_>) -> Option<Successors<'_>>
         ensures { IfSome result (λ rows. (prefix : List (List ℕ × Datum))
@@ -169,9 +171,9 @@ impl Pages {
         }
     }
 
-    /// Returns the rows after `name`. If the hint's guess of its position is right, nothing is
-    /// searched; otherwise the position is recorded in the hint, if that stores names and there
-    /// are rows. `inline(never)`, so that the usual path of a walk stays short.
+    /// Returns the rows after `name`. If [`rows_guessed`] finds them by the hint's guess, nothing
+    /// is searched. Otherwise the position of the name is recorded in the hint, if the hint stores
+    /// names and there are rows. `inline(never)`, so that the usual path of a walk stays short.
     #[inline(never)]
     pub fn after_near(&self, name: &EncodedName<'_>, hint: &mut Guesses<'_>) -> Successors<'_>
         ensures { (prefix : List (List ℕ × Datum)) × IsSplitAt self.now name.now prefix result }
@@ -215,8 +217,9 @@ impl Pages {
     }
 
     /// Returns whether the last rows that were inserted among others came to many pages, as rows
-    /// in no order do: each step of the search for such a row waits for memory. With more pages,
-    /// more samples must show it, since collecting and sorting rows then looks at each row.
+    /// in no order do: each step of the search for such a row waits for memory. Enough samples of
+    /// rows, one after the other, must have come to many pages. The more pages there are, the more
+    /// samples are needed, since collecting rows for one sort passes over all rows.
     #[inline]
     pub fn are_scattered(&self) -> bool {
         let samples = self.order.scattered as usize;
@@ -294,8 +297,9 @@ impl Pages {
         }
     }
 
-    /// Inserts each of `rows` in the order of names, from the last one on, and returns whether
-    /// none has the name of another row. If one has, or memory runs out, some rows are lost.
+    /// Inserts each of `rows` in the order of names, from the last to the first, and returns
+    /// whether none has the name of another row. If one has, or memory runs out, some rows are
+    /// lost.
     #[tactic(auto, using(crate::proofs::GatheredRows::last_moves))]
     pub fn put_all(&mut self, alloc: Global, rows: &mut Vec<PendingRow>) -> Result<bool, AllocError>
         ensures { IfOk result (λ apart. IsTrue apart
@@ -432,9 +436,9 @@ fn row_guessed<'a>(
     Some(row)
 }
 
-/// Returns the rows after `name` if the guess of its position is right: the row before that
-/// position has the name, or the name is between that row and the next one on the page. Looks at
-/// no other row.
+/// Returns the rows after `name` if the row before the guessed position has the name, or the name
+/// is between that row and the next one on the page; otherwise returns `None`. Looks at no other
+/// row.
 #[inline]
 fn rows_guessed<'a>(
     pages: &'a [Page],

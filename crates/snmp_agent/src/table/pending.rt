@@ -141,8 +141,8 @@ fn tie_end(rows: &[PendingRow], at: usize) -> usize
 }
 
 /// Sorts rows with the same key: by new keys, if there are enough rows and they may get keys,
-/// otherwise by decreasing names. Returns whether the rows are sorted by name. They aren't if the
-/// new keys differ, since some of these may be the same again.
+/// otherwise by decreasing names. Returns whether the rows are sure to be sorted by name. They
+/// aren't if the new keys differ, since some of these may be the same again.
 #[tactic(auto, using(crate::proofs::GatheredRows::sorting))]
 fn sort_tie(rows: &mut [PendingRow], may_get_keys: bool) -> bool
     ensures sorted { IsPermutation rows.old rows.new }

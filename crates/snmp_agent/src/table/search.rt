@@ -33,8 +33,8 @@ impl Placed for EncodedBinding {
     }
 }
 
-/// Returns how many elements are up to `name`. Those before index `from` must be, and those from
-/// index `to` on must not.
+/// Returns how many elements are up to `name`. The elements before index `from` must be up to
+/// `name`, and the elements from index `to` on must not be.
 #[inline(always)]
 pub fn count_between<T: Placed>(
     items: &[T],
@@ -79,7 +79,7 @@ pub fn near<T: Placed>(items: &[T], name: &EncodedName<'_>, guess: usize) -> (us
     }
 }
 
-/// Narrows a search between two indices by a test of the element at `at`.
+/// Tests the element at index `at`, and returns the two indices between which the search continues.
 #[inline(always)]
 fn by_test<T: Placed>(
     items: &[T],
@@ -101,8 +101,8 @@ fn by_test<T: Placed>(
     }
 }
 
-/// Returns how many rows are up to `name`. `guess` is a guess of the result, or 0 for none;
-/// nothing is searched if it is right.
+/// Returns how many rows are up to `name`. `guess` is a guess of the result, or 0 for none. If a
+/// guess other than 0 is right, nothing is searched.
 #[tactic(auto, using(crate::proofs::Partition::partitioned))]
 pub fn index_near(rows: &[EncodedBinding], name: &EncodedName<'_>, guess: usize) -> usize
     requires { IsIncreasing rows.now }

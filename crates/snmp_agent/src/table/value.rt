@@ -301,7 +301,8 @@ fn object_id<F: LineFormat>(
     Ok(Some(Vec::from_slice(alloc, oid.as_slice())?))
 }
 
-/// Reads the octets that pairs of hexadecimal digits encode, up to `LONGEST_STRING`.
+/// Reads the octets that pairs of hexadecimal digits encode. Returns `None` if `text` isn't such
+/// pairs, or there are more than `LONGEST_STRING`.
 fn hexadecimal(alloc: Global, text: &[u8]) -> Result<Option<Vec<u8>>, AllocError>
     ensures { IfOk result (λ octets. IsOnly (λ s. (decode_of text.now ≡ Ok s)
         × IsTableString s) (option_map (λ v. v.items) octets)) }

@@ -1,5 +1,5 @@
--- The shortest encoding of values: each length is in the shortest form, and each whole number and
--- each subidentifier takes the fewest octets (X.690, 8.1.3, 8.3 and 8.19; RFC 3417, section 8).
+-- The encoding that is written of values. If a value is in range, no strict encoding of it is
+-- shorter (X.690, 8.1.3, 8.3 and 8.19; RFC 3417, section 8).
 use Rattle.std.specs.Prelude.{ℕ, ℤ, pos, negsuc, ◌+◌, ◌-◌, ◌*◌, ◌/◌, ◌%◌, ◌^◌, ◌<◌, ◌≤◌, suc, zero}
 use Rattle.std.specs.Prelude.{List, [], ◌∷◌, ◌++◌, length, get_or, map, nat_lt, if◌then◌else◌}
 use Rattle.std.specs.List.{flat_map}
@@ -24,8 +24,8 @@ digits base (suc count) n = (n / base ^ count % base) ∷ digits base count n
 abbrev pub octets : ℕ → ℕ → List ℕ
 octets count n = digits 256 count n
 
--- the number of octets that `n` takes in two's complement, whose first bit is the sign, or 9 if
--- that is less
+-- the number of octets that `n` takes in two's complement (the first bit is the sign), or 9 if `n`
+-- takes more
 unfoldable pub number_size : ℕ → ℕ
 number_size n = digit_count 256 128 8 n
 
@@ -34,8 +34,8 @@ unfoldable pub canon_number : ℤ → List ℕ
 canon_number (pos n) = octets (number_size n) n
 canon_number (negsuc n) = octets (number_size n) (256 ^ number_size n - (n + 1))
 
--- the number of octets that a length takes in the long form after the first octet, or 4 if that is
--- less
+-- the number of octets that the length `n` takes in the long form after the first octet, or 4 if
+-- `n` takes more
 unfoldable pub length_size : ℕ → ℕ
 length_size n = digit_count 256 256 3 n
 
@@ -43,7 +43,7 @@ length_size n = digit_count 256 256 3 n
 unfoldable pub canon_length : ℕ → List ℕ
 canon_length n = if nat_lt n 128 then n ∷ [] else (128 + length_size n) ∷ octets (length_size n) n
 
--- the number of octets that a subidentifier takes, of seven bits each, or 5 if that is less
+-- the number of octets that the subidentifier `n` takes, seven bits in each, or 5 if `n` takes more
 unfoldable pub subidentifier_size : ℕ → ℕ
 subidentifier_size n = digit_count 128 128 4 n
 

@@ -17,7 +17,7 @@ abbrev pub ◌>>=◌ : {A B : Type 0} → Result A BerError → (A → Result B 
 (Ok x) >>= f = f x
 (Err e) >>= f = Err e
 
--- the fault of a decoding, or `e` if it has none
+-- the fault of a decoding, or `e` if the decoding succeeded
 abbrev pub fault_or : {A : Type 0} → Result A BerError → BerError → BerError
 fault_or (Ok x) e = e
 fault_or (Err d) e = d
@@ -37,7 +37,7 @@ length_at cut [] = Err cut
 length_at cut (first ∷ rest) =
     if nat_lt first 128 then Ok (first, rest) else long_length_at cut first rest
 
--- the content of an element and the octets after it, from the octets that follow the tag
+-- the content of an element, and the octets after the element; the argument is what follows its tag
 unfoldable pub content_at : BerError → List ℕ → Result (List ℕ × List ℕ) BerError
 content_at cut octets = do
   n ← length_at cut octets
@@ -78,8 +78,8 @@ unsigned_of width content =
 abbrev pub largest_subidentifier : ℕ
 largest_subidentifier = 4294967375
 
--- the subidentifier whose digits so far make `n` and whose other digits begin the octets, and the
--- octets after it
+-- a subidentifier, and the octets after it: the digits already read make the number `n`, and the
+-- octets begin with the remaining digits
 unfoldable pub subidentifier_from : ℕ → List ℕ → Result (ℕ × List ℕ) BerError
 subidentifier_from n [] = Err error.Content
 subidentifier_from n (octet ∷ rest) =
@@ -146,13 +146,13 @@ typed_value tag content =
 
 -- ---- for private functions
 
--- a function's `result` agrees with what a definition computes, `read`: both are the same fault,
--- or the value of `read` is `view` of the value of `result`
+-- the result of a function agrees with `read`, the result of a definition: both are the same fault,
+-- or both succeed and the value of `read` is `view` of the function's value
 abbrev pub AgreesBy : {X Y : Type 0} → (X → Y) → Result X BerError → Result Y BerError → Type 0
 AgreesBy view (Ok x) read = read ≡ Ok (view x)
 AgreesBy view (Err e) read = read ≡ Err e
 
--- `read` without its value: that it succeeded, or its fault
+-- `read` without its value: `Ok tt`, or the fault of `read`
 abbrev pub checked : {A : Type 0} → Result A BerError → Result (Unit {0}) BerError
 checked read = read >>= λ _. Ok tt
 
@@ -167,7 +167,8 @@ integer_at octets = do
   z ← integer_of element.0
   Ok (z, element.1)
 
--- the octet that may precede `octet` in two's complement without changing the number
+-- if a number in two's complement begins with `octet`: the octet that can be added before it
+-- without changing the number
 abbrev pub sign_of : ℕ → ℕ
 sign_of octet = if nat_lt octet 128 then 0 else 255
 
@@ -175,7 +176,7 @@ sign_of octet = if nat_lt octet 128 then 0 else 255
 abbrev pub numbers_in : List ℕ → List ℕ
 numbers_in octets = result_unwrap_or (numbers_of 126 octets) []
 
--- `octets` begin with `count` numbers of one octet each, and `rest` follows them
+-- `octets` begin with `numbers`, which are `count` numbers of one octet each, and `rest` follows
 abbrev pub IsPlainPrefix : ℕ → List ℕ → List ℕ → List ℕ → Type 0
 IsPlainPrefix count numbers rest octets =
     (octets ≡ numbers ++ rest) × (length numbers ≡ count) × All (λ n. n < 128) numbers

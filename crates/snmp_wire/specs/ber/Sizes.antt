@@ -5,11 +5,11 @@ use Rattle.snmp_wire.specs.ber.Canon.{canon_element, canon_header, canon_length,
 use Rattle.snmp_wire.specs.ber.Canon.{canon_value, digit_count, length_size, number_size}
 use Rattle.snmp_wire.specs.ber.Value.{integer_value}
 
--- the lengths of the encodings of lengths, whole numbers and elements
+-- how many octets the encodings of lengths, whole numbers and elements take
 pub record ElementSizes : Type 0 where
   -- the short form of a length
   pub short_length : (n : ℕ) → n < 128 → length (canon_length n) ≡ 1
-  -- the long form: an octet, and the digits
+  -- the long form of a length: one octet, and then `length_size` octets
   pub long_length : (n : ℕ) → 128 ≤ n → length (canon_length n) ≡ 1 + length_size n
   -- there is at least one digit
   pub digits : (base limit more n : ℕ) → 1 ≤ digit_count base limit more n
@@ -17,9 +17,9 @@ pub record ElementSizes : Type 0 where
   pub number : (n : ℕ) → length (canon_number (pos n)) ≡ number_size n
   -- an INTEGER of 32 bits takes at most 6 octets, its header included
   pub integer : (z : ℤ) → FitsSigned w32 z → length (canon_value (integer_value z)) ≤ 6
-  -- a tag and a length
+  -- a header is a tag and a length
   pub header : (tag size : ℕ) → length (canon_header tag size) ≡ 1 + length (canon_length size)
-  -- a tag, a length and the content
+  -- an element is a tag, a length and the content
   pub element : (tag : ℕ) (content : List ℕ)
       → length (canon_element tag content)
       ≡ 1 + length (canon_length (length content)) + length content

@@ -386,7 +386,7 @@ fn first_size(first: u32, second: u32) -> u64
 
 /// Returns the number of octets that `numbers` take, each as a subidentifier.
 ///
-/// In most names eight short numbers, the column among them, precede the last number.
+/// In most names each of the eight numbers before the last takes one octet.
 // `inline(always)`: its single caller is `identifier_size`.
 #[inline(always)]
 #[tactic(auto, using(crate::proofs::WrittenIdentifiers::nine_counted, crate::proofs::WrittenIdentifiers::none_before))]

@@ -9,8 +9,8 @@ use crate::ber::number::{put_octets, unsigned};
 use crate::ber::writing::put_octet;
 
 /// Returns the length that is encoded at the start of `octets`, and the octets after it. Fails
-/// with [`BerError::Length`] if its form isn't accepted, otherwise with `cut` if the octets end
-/// before the length does.
+/// with [`BerError::Length`] if the form of the length isn't accepted, otherwise with `cut` if the
+/// octets end before the length does.
 #[tactic(auto, unfolding(crate::specs::ber::Decode::length_at))]
 // `inline(always)`: called for many elements of a message. Inlined, its result stays in registers.
 #[inline(always)]
@@ -118,7 +118,7 @@ fn digits_size(size: u64) -> usize
     }
 }
 
-/// Returns the length, in octets, of the header before a content of `size` octets.
+/// Returns the length, in octets, of the header before a content of `size` octets, fewer than 2^32.
 #[inline]
 #[tactic(auto, using(crate::proofs::NumberSizes::header_lengths))]
 pub fn header_size(size: u64) -> u64
@@ -132,7 +132,8 @@ pub fn header_size(size: u64) -> u64
     }
 }
 
-/// Writes the header for a content of `size` octets before `end`, and returns its offset.
+/// Writes the header for a content of `size` octets, fewer than 2^32, before `end`, and returns its
+/// offset.
 #[inline]
 pub fn put_header(out: &mut [u8], end: usize, tag: u8, size: u64) -> usize
     requires room { length (canon_header tag size) ≤ end }
@@ -156,7 +157,7 @@ pub fn put_short_header(out: &mut [u8], end: usize, tag: u8, size: u64) -> usize
     put_octet(out, start, tag)
 }
 
-/// Writes the shortest form of a length before `end`, and returns its offset.
+/// Writes the shortest form of a length below 2^32 before `end`, and returns its offset.
 #[inline]
 #[tactic(auto, using(crate::proofs::NumberSizes::length_forms))]
 fn put_length(out: &mut [u8], end: usize, size: u64) -> usize

@@ -27,7 +27,7 @@ pub(crate) fn unsigned(octets: &[u8]) -> u64
 /// Returns the INTEGER whose two's complement is `content`. Fails if `content` doesn't have one to
 /// four octets.
 #[tactic(auto, unfolding(crate::specs::ber::Decode::integer_of))]
-// `inline(always)`: called for each value of its type that is read.
+// `inline(always)`: called for each INTEGER that is read as the value of a binding.
 #[inline(always)]
 pub(crate) fn integer_of(content: &[u8]) -> Result<i32, BerError>
     ensures { AgreesBy (λ z. z) result (reading.integer_of content.now) }
@@ -48,7 +48,8 @@ pub(crate) fn integer_of(content: &[u8]) -> Result<i32, BerError>
     }
 }
 
-/// Returns the octet that may precede `octet` in two's complement without changing the number.
+/// Returns the octet that can be added before a number in two's complement that begins with `octet`
+/// without changing the number.
 #[inline]
 fn sign_of(octet: u8) -> u8
     ensures { result ≡ reading.sign_of octet }
@@ -58,8 +59,8 @@ fn sign_of(octet: u8) -> u8
 
 /// Returns the INTEGER at the start of `octets`, and the octets after it.
 #[tactic(auto, unfolding(crate::specs::ber::Decode::integer_at, crate::specs::ber::Decode::inner_at, crate::specs::ber::Decode::content_at, crate::specs::ber::Decode::length_at, crate::specs::ber::Decode::integer_of))]
-// `inline(always)`: called for four numbers of each message. Inlined, numbers of one octet take a
-// few tests.
+// `inline(always)`: called for four numbers of each message. Inlined, it takes a few tests for a
+// number from 0 to 127 in one octet.
 #[inline(always)]
 pub fn integer_at(octets: &[u8]) -> Result<(i32, &[u8]), BerError>
     ensures { AgreesBy (λ x. (x.0, x.1.now)) result (reading.integer_at octets.now) }
@@ -139,7 +140,7 @@ pub(crate) fn unsigned_size(number: u64) -> usize
     if number < 128 {
         1
     } else {
-        // After the first seven bits, one octet more for each eight bits or part of them.
+        // The number has `ilog2 + 1` bits, and a zero bit for the sign precedes them.
         (number.ilog2() as usize + 9) / 8
     }
 }

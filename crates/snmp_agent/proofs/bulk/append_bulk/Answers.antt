@@ -6,7 +6,7 @@ use Rattle.snmp_agent.specs.private.Answering.{Held, fill, held, rounds_from}
 use Rattle.snmp_agent.proofs.{ReplyBindings.fill_both, ReplyBindings.fill_full, bulk.append_bulk.Goals.After-append_singles-reply}
 use Rattle.snmp_agent.proofs.bulk.append_bulk.Goals as goal
 
--- if `handed` fits in a signed word of 32 bits, then that word represents `z`, which is the same number
+-- if `handed` equals `z` and fits in a signed word of 32 bits, then that word represents `z`
 number : {z : ℤ} (handed : ℤ) → SFits w32 handed → handed ≡ z → to_z w32 (of_z w32 handed) ≡ z
 number handed fits e = to_z-of_z w32 handed fits ∙ e
 

@@ -4,8 +4,8 @@ use Rattle.snmp_agent.specs.private.Answering.{fill, held}
 use Rattle.snmp_agent.specs.private.Cursor.{bindings_in_round, is_over, next_at, passed, cursors_of}
 use Rattle.snmp_agent.proofs.bulk.append_round.Given as goal
 
--- the positions so far have moved on, and appending the results from the other positions to the reply so far results in the same as appending the results
--- from all positions to the first reply
+-- the positions before this index have moved past one row each, if any was left, and appending the results from the other positions to the reply so far results
+-- in the same as appending the results from all positions to the first reply
 abbrev pub invariant-cursors : goal.invariant-cursors
 invariant-cursors l = record {
   moved : l.cursors ≡ map passed (take l.cursor-index l.fn.cursors) ++ drop l.cursor-index l.fn.cursors;

@@ -11,8 +11,8 @@ pub record IsHalvedTo {X : Type 0} (p : X → Bool) (xs : List X) (passed end : 
   pub prefix : AllWithin (λ x. p x ≡ true) xs 0 passed
   pub back : AllWithin (λ x. p x ≡ false) xs end (length xs)
 
--- `prefix` ends with the row of `o`, or with a row of a smaller name while `rows` begins with a
--- greater name
+-- `prefix` ends with the row of the name `o`; or it ends with a row of a smaller name, and `rows`
+-- begins with a row of a greater name
 pub record SplitsAt (o : List ℕ) (prefix rows : List VarBind) : Type 0 where
   pub init : List VarBind
   pub row : VarBind

@@ -24,8 +24,8 @@ IsForm format l (Some (form.Object text)) = l ≡ codes "object " ++ text.now
 IsForm format l (Some (form.Row name tag text)) =
     IsRowForm format l name.now (tag_text tag) text.now
 
--- the result is the object prefix that the text names, or says why it names none; `Memory` says
--- nothing of the text
+-- the result is the object prefix that `text` names, or the fault `Name` if `text` names none, or
+-- the fault `Memory`, which says nothing of `text`
 abbrev pub IsObjectRead : Format → List ℕ → Result Line LineFault → Type 0
 IsObjectRead format text (Ok (line.Object numbers)) = IsObjectText format text numbers.items
 IsObjectRead format text (Ok line.Nothing) = ⊥
@@ -35,8 +35,8 @@ IsObjectRead format text (Err fault.Name) = (o : List ℕ) → IsObjectText form
 IsObjectRead format text (Err fault.Value) = ⊥
 IsObjectRead format text (Err fault.Memory) = Unit {0}
 
--- the result is the instance that the parts of a line define, or says why they define none;
--- `Memory` says nothing of them
+-- the result is the instance that a line with this name, tag and text defines, or the fault `Name`
+-- or `Value`, which says what is wrong with the line. The fault `Memory` says nothing of the line.
 abbrev pub IsInstanceRead : Format → (name tag text : List ℕ) → Result Line LineFault → Type 0
 IsInstanceRead format name tag text (Ok (line.Instance row)) =
     IsInstanceText format name row.name × IsValueText format tag text row.value
@@ -50,7 +50,8 @@ IsInstanceRead format name tag text (Err fault.Value) =
     × ((v : Datum) → IsValueText format tag text v → ⊥)
 IsInstanceRead format name tag text (Err fault.Memory) = Unit {0}
 
--- the fault says what is wrong with the line by itself; `Memory` says nothing of it
+-- the fault says what is wrong with the line, whatever the other lines are; `Memory` says nothing
+-- of the line
 abbrev pub IsLineFault : Format → List ℕ → LineFault → Type 0
 IsLineFault format l fault.Line = IsBadLine format l
 IsLineFault format l fault.Name = IsBadName format l

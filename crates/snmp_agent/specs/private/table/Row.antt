@@ -12,7 +12,7 @@ datum_of (value.Octets octets) = octet_string octets.items
 datum_of (value.ObjectId numbers) = object_id numbers.items
 datum_of (value.Opaque octets) = opaque_octets octets.items
 
--- the number of numbers of an identifier, or 0 for other values
+-- how many numbers the value has if it is an identifier; 0 for other values
 abbrev pub name_length : RowText → ℕ
 name_length (value.ObjectId numbers) = length numbers.items
 name_length _ = 0
@@ -21,7 +21,7 @@ name_length _ = 0
 abbrev pub IsShort : RowText → Type 0
 IsShort v = name_length v ≤ 128
 
--- the text of a tag
+-- the text that represents the tag on a row's line
 abbrev pub tag_text : Tag → List ℕ
 tag_text tag.Integer = codes "2"
 tag_text tag.OctetString = codes "4"
@@ -34,7 +34,7 @@ tag_text tag.TimeTicks = codes "67"
 tag_text tag.HexOpaque = codes "68x"
 tag_text tag.Counter64 = codes "70"
 
--- reading a value of the tag can allocate memory, for clauses of private functions
+-- reading a value of this tag can allocate memory
 abbrev pub TakesMemory : Tag → Type 0
 TakesMemory tag.HexOctetString = Unit {0}
 TakesMemory tag.ObjectId = Unit {0}

@@ -24,7 +24,7 @@ returns-then-is_dot-clause-too_long c = (
 pub parts-init : goal.parts-init
 parts-init c = grind (arith, common_steps, parse_begins)
 
--- if the next part isn't a numeral, then it is the first bad part, and the text names nothing
+-- if the next part isn't a numeral, then it is the first bad part
 first_bad : (c : goal.In_default-number) → IsFirstBadPart c.args.text.now (length c.args.text.now - length c.in-Some.here.now)
 first_bad c = bad_part_here (rw c.in-Some.is at c.parts.invariant) (rw c.in_default-number.is at c.read_part-number.ensures)
 
@@ -70,7 +70,7 @@ parts-preserved c =
 pub parts-preserved-in-Some-read_three : goal.parts-preserved-in-Some-read_three
 parts-preserved-in-Some-read_three c = parse_digits (rw c.in-Some.is at c.parts.invariant) c.in-Some-read_three.ensures.three
 
--- after the loop, the whole text is read; `too_long` says whether it has more than 128 numbers
+-- if `too_long` is true after the loop, then the whole text is read, and has more than 128 numbers
 ended_long : (c : goal.Then-too_long) → IsParsedTo c.args.text.now None c.parts.oid true
 ended_long c = rw (c.in_default.is, c.if-too_long.true) at c.parts.invariant
 

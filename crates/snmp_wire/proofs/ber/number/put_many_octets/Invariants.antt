@@ -2,7 +2,7 @@ use Rattle.std.proofs.Common.{◌≡◌, ◌-◌, ◌/◌, ◌^◌, ◌≤◌}
 use Rattle.snmp_wire.specs.{ber.Canon.octets, ber.Writing.Writes}
 use Rattle.snmp_wire.proofs.ber.number.put_many_octets.Given as goal
 
--- the lowest digits are written, and `rest` consists of the others
+-- the lowest octets are written, and `rest` is the number that the other octets make
 abbrev pub invariant-octets : goal.invariant-octets
 invariant-octets l = record {
   above : l.start ≤ l.at;
