@@ -21,7 +21,7 @@ pub find_true : (t : Module → Bool) (ms : List Module) (m : Module) → find t
 find_true t [] m e = absurd (cc)
 find_true t (x ∷ ms) m e = grind (arith, common_steps, find_true t ms m)
 
--- `c` is the entry of the name `a` in the modules `ms`: it has the name, its module, and what decides its meaning there
+-- `c` is the entry of the name `a` in the modules `ms`: it has this name, the first module named `a.home`, and what decides the name's meaning there
 pub record IsDecidedBy (ms : List Module) (a : QualifiedName) (c : Content) : Type 0 where
   pub named : module_named ms a.home ≡ Some c.home
   pub by : decision c.home a.name ≡ Some c.decided
@@ -74,7 +74,7 @@ entry_at ms d dir a = by (index_in d.homes a.home) refl
         let s = get_within d.scopes.items i (omega (arith, found.1, dir.named.long)) in
         rw (s.1, found.4) (inner m s.0 (dir.named.each i m s.0 at s.1 a.name) (index_in s.0 a.name) refl)
 
--- if the name `a` has no entry, then its origin is `nowhere`
+-- if nothing decides the name `a` in the module `r`, or `r` is `None`, then the origin of `a` is `nowhere`
 pub undecided : (a : QualifiedName) (r : Option Module) → None ≡ option_and_then (λ m. decided_as m a.name (decision m a.name)) r → origin_in a r ≡ nowhere
 undecided a None e = refl
 undecided a (Some m) e = step (decision m a.name) e
@@ -83,7 +83,7 @@ undecided a (Some m) e = step (decision m a.name) e
     step v e = grind (arith, common_steps)
 
 module _ (ms : List Module) (d : Directory) (rs : List Resolution) (dir : IsDirectory ms d) (is : AreResolved (known_names ms d) rs) where
-  -- if the name `a` is at index `p`, then it resolves to what `rs` has at `p`; if `rs` has nothing there, the origin of `a` is `nowhere`
+  -- if `p` is the index of the entry of the name `a`, then `a` resolves to what `rs` has at `p`; if `rs` has nothing at `p`, the origin of `a` is `nowhere`
   resolved_at : (p : ℕ) (a : QualifiedName) (r : Option (Bor Resolution)) → slice_get (map content_of d.entries.items) p ≡ content_named ms a
       → slice_get rs p ≡ option_map (λ x. x.now) r → MatchOption r (origin ms a ≡ nowhere) (λ x. ComesTo (origin ms) a x.now)
   resolved_at p a None named e =
@@ -95,7 +95,7 @@ module _ (ms : List Module) (d : Directory) (rs : List Resolution) (dir : IsDire
       → slice_get rs (index_by d a) ≡ option_map (λ x. x.now) r → MatchOption r (origin ms a ≡ nowhere) (λ x. ComesTo (origin ms) a x.now)
   resolved a r = resolved_at (index_by d a) a r (slice_get-map content_of d.entries.items (index_by d a) ∙ entry_at ms d dir a)
 
-  -- if module `m`, at index `i`, is the first of its name, and the entry at `p` belongs to its name `x`, then `x` resolves to what `rs` has at `p`
+  -- if module `m`, at index `i`, is the first of its name, and the entry at `p` belongs to the name `x` in `m`, then `x` resolves to what `rs` has at `p`
   pub resolved_entry : (p i : ℕ) (m : Module) (x : List ℕ)
       (r : Option (Bor Resolution)) → slice_get ms i ≡ Some m → module_named ms m.name.octets ≡ Some m
       → is_entry_of (slice_get d.entries.items p) i x ≡ true → slice_get rs p ≡ option_map (λ y. y.now) r

@@ -39,7 +39,8 @@ get-push xs j y f = grind (arith, common_steps, cases_lt j (length xs), get-appe
 get-more : {X : Type 0} (xs : List X) (j : ℕ) (x y : X) → slice_get xs j ≡ Some x → slice_get (xs ++ y ∷ []) j ≡ Some x
 get-more xs j x y e = get-append xs (y ∷ []) j (slice_get_within xs j x e) ∙ e
 
--- if the sources of the entries `old` are indices into `ms`, and the entries `added` belong to `m`, then all sources are indices into `ms ++ m ∷ []`
+-- if the entries `old` have their sources in `ms` (`IsSourced`), and the entries `added` belong to `m`, whose index is `length ms`, then all these entries
+-- have their sources in `ms ++ m ∷ []`
 AreSourced-more : (ms : List Module) (old added : List Entry) (m : Module) (i : ℕ) → i ≡ length ms → All (IsSourced ms) old → All (IsEntryOf m i) added
     → All (IsSourced (ms ++ m ∷ [])) (old ++ added)
 AreSourced-more ms old added m i last sourced of =

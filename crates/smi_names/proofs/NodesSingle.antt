@@ -1,4 +1,4 @@
--- The modules `before` load as at most one list of nodes and one list of warnings, since a name resolves to at most one thing.
+-- Modules that are loaded in one order have at most one list of nodes and one list of warnings, since a name resolves to at most one thing.
 use Rattle.std.proofs.{lemmas.Grind.common_steps, lemmas.List.length_push}
 use Rattle.std.proofs.Common.{arith, length, ◌≡◌, List, Option, refl, ap}
 use Rattle.smi_names.specs.{chains.Resolution.ComesTo, meaning.Meaning.QualifiedName, meaning.Meaning.origin, declared.nodes.warning.Warning.Warning}

@@ -77,11 +77,12 @@ module _ (k : KnownNames) (refers_to : Def → Option (List ℕ)) where
                   let on = refers_to_entry a b to l (by_def ∙ rw e refl) in
                   after own e ((rw on.1 at led) b on.2) refl
 
--- if each parent stored is the index that its entry refers to, then the parent of an imported name is the index of this name in the module after FROM
+-- if `d.parents` has for each entry the index that the entry refers to by `parent_of`, then it has for an imported name the index of the same name in the
+-- module after FROM
 pub keeps_imports : (d : Directory) → d.parents.items ≡ map (next_index d parent_of) d.entries.items → KeepsImports d
 keeps_imports d is p e i to at by got = grind (arith, common_steps, slice_get-map)
 
--- ---- each entry refers to the index of the name that its own name refers to
+-- ---- an entry refers to the entry of the name that its own name refers to
 module _ (ms : List Module) (d : Directory) (dir : IsDirectory ms d) (refers_to : Def → Option (List ℕ)) where
   next_is : (p : ℕ) (a : QualifiedName) → slice_get (known_names ms d).names p ≡ content_named ms a
       → next_at (map (next_index d refers_to) d.entries.items) p ≡ option_map (index_by d) (next_name ms refers_to a)

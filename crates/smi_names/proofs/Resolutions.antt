@@ -1,4 +1,4 @@
--- The origin of a name decides what the name resolves to, together with what the name that it refers to resolves to.
+-- What a name resolves to follows from its origin, and from the resolution of the name that the origin refers to, if it refers to one.
 use Rattle.std.proofs.{lemmas.Grind.common_steps, lemmas.Option.slice_get_past}
 use Rattle.std.proofs.Common.{◌≡◌, ℕ, ◌≤◌, ◌⊎◌, inl, inr, nat_le, List, [], ◌++◌, length, Option, Some, None, refl, sym, ap, ◌∙◌, arith}
 use Rattle.std.proofs.Common.{length-append}
@@ -38,7 +38,7 @@ module _ {A : Type 0} (origin : A → Origin A) where
   step_comes a (after b ns) far e f = followed_comes a b ns far e (f b refl)
   step_comes a nowhere far e f = here e
 
--- the name that the origin of `a` refers to is the name that `a` refers to for its identifier, by an import or by `parent_of`
+-- the name that the origin of `a` refers to is the name that `a` refers to by an import or by `parent_of`
 parents : (ms : List Module) (a : QualifiedName) → next_of (origin ms a) ≡ next_name ms parent_of a
 parents ms a = of_module (module_named ms a.home)
   where
@@ -58,7 +58,7 @@ module _ (k : KnownNames) where
       rw (o.named, o.by) (ap (λ x. origin_by x (Some c.decided)) (sym same))
 
   module _ (next : List (Option ℕ)) (are : AreNext k parent_of next) where
-    -- if `p` is past the end, then the names without a meaning, which it represents, are `Unresolved`
+    -- if `p` is past the end, then the names without a meaning, which `p` represents, resolve to `Unresolved`
     pub beyond_comes : (p : ℕ) → length next ≤ p → ResolvesAt k p R.Unresolved
     beyond_comes p past = λ a named. here (origin_is None a (sym (slice_get_past k.names p (omega (arith, past, are.long))) ∙ named))
 

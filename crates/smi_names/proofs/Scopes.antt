@@ -37,11 +37,12 @@ or_else_none o = grind (arith, common_steps)
 pub had_index : (r : Option ℕ) (p index : ℕ) → p ≡ unwrap_or r index → p < index → r ≡ Some p
 had_index r p index e l = grind (arith, common_steps)
 
--- if `insert_if_absent` returns `p`, which isn't below the index `index` to be inserted, though an index that the name had would be, then the name had none
+-- if `insert_if_absent` returns `p`, which isn't below the index `index` to be inserted, and any index that the name had before is below `index`, then the
+-- name had none
 pub had_none : (r : Option ℕ) (p index : ℕ) → p ≡ unwrap_or r index → ((q : ℕ) → r ≡ Some q → q < index) → index ≤ p → r ≡ None
 had_none r p index e within l = grind (arith, common_steps)
 
--- if a name without an index is inserted, it has this index, and all other names have what they had
+-- if a name without an index is inserted with the index `index`, then it has this index, and all other names have what they had
 pub put_absent : (scope new : NameIndices) (name : List ℕ) (index : ℕ) → index_in scope name ≡ None
     → ((x : List ℕ) → index_in new x ≡ or_else (index_in scope x) (cond (same_text name x) (Some index) None)) → (x : List ℕ)
     → index_in new x ≡ cond (same_text name x) (Some index) (index_in scope x)
@@ -116,7 +117,8 @@ module _ (old : List Entry) (scope : NameIndices) (m : Module) (i : ℕ) (within
       inside x p true at = let is : length old ≡ p = cc in omega (arith, length_push old e)
       inside x p false at = omega (arith, within x p at, length_push old e)
 
--- if names are added to a scope as `f` decides, and then as `g` decides, then they are added as `h` does: as `f` decides or, if it doesn't, as `g` does
+-- if names are added to a scope as `f` decides, and then as `g` decides, and `h` decides as `f` does or, if `f` decides nothing, as `g` does, then together
+-- the names are added as `h` decides
 pub KnowsMore-then : (e0 e1 e2 : List Entry) (s0 s1 s2 : NameIndices) (m : Module) (i : ℕ) (f g h : List ℕ → Option Decision)
     → KnowsMore e0 s0 e1 s1 m i f → KnowsMore e1 s1 e2 s2 m i g → ((x : List ℕ) → or_else (f x) (g x) ≡ h x) → KnowsMore e0 s0 e2 s2 m i h
 KnowsMore-then e0 e1 e2 s0 s1 s2 m i f g h a b same = record {

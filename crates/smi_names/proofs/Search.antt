@@ -146,7 +146,7 @@ module _ (next : List (Option ℕ)) where
         ];
       }
 
-  -- if `p` refers to nothing, then the invariant still holds after `p` is appended to the order and marked as settled, without a path
+  -- if `p` refers to nothing and the path is empty, then the invariant still holds after `p` is appended to the order and marked as settled
   pub Keeps-alone : (marks : List Mark) (order : List ℕ) (p : ℕ) → Keeps next marks order [] → p < length next → next_at next p ≡ None
       → Keeps next (set marks p M.Settled) (order ++ p ∷ []) []
   Keeps-alone marks order p kept inside last =

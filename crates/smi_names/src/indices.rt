@@ -12,7 +12,8 @@ use std::hash::Hash;
 /// A map from names to indices.
 pub(crate) type NameIndices<'a> = IndexMap<NameRef<'a>, usize, NameHash>;
 
-/// Inserts `index` under `key` unless the key has an index. Returns the index that it has then.
+/// Inserts `index` under `key` unless `key` has an index already. Returns the index that `key`
+/// had, or `index` if it had none.
 pub fn insert_if_absent<K: Eq + Hash + Drop>(
     indices: &mut IndexMap<K, usize, NameHash>,
     key: K,

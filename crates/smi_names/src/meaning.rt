@@ -1,5 +1,6 @@
-//! What names mean in modules: a definition, an import or the list of roots decides each name, and
-//! the chain of names that it refers to is followed.
+//! What names mean in modules. A definition, an import or the list of roots decides what a name
+//! means. A name can refer to another, which can refer to a third, and so on: this chain is
+//! followed.
 //!
 //! Depends on parsed modules and on chains. The nodes are made from what is resolved here, and the
 //! tree of names follows names to types and to definitions.

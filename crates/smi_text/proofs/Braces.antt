@@ -1,4 +1,4 @@
--- Counting braces finds exactly the balanced tokens: those whose prefixes open at least as many braces as they close, and which open as many as they close.
+-- Tokens are balanced (`IsBalanced`) if and only if each prefix of them opens at least as many braces as it closes, and all of them open as many as they close.
 use Rattle.std.proofs.{lemmas.Grind.common_steps, lemmas.List.Folds.list_all-map, lemmas.List.Sums.sum_by-cons}
 use Rattle.std.proofs.Common.{◌≡◌, ℕ, zero, suc, ◌+◌, Bool, true, false, ◌&&◌, if◌then◌else◌, not, List, [], ◌∷◌, nat_le, refl, ◌∙◌, arith, zero-add}
 use Rattle.std.proofs.Common.{◌-◌, ◌++◌, sym, ap, add-one, append_assoc, append-nil}
@@ -11,16 +11,17 @@ use Rattle.smi_text.specs.trees.Braces.{opening_braces, closing_braces, prefixes
 use Rattle.smi_text.proofs.Marks.{same_kind-eq}
 use Rattle.smi_text.specs.trees.Braces.{IsBalanced, none, other, nested}
 
--- after `depth` open braces, the tokens close each brace that is open, and no other
+-- whether the tokens close all braces that are open (`depth` braces before them, and those that they open), and never close a brace that isn't open
 unfoldable pub is_balanced : ℕ → List TokenText → Bool
 is_balanced depth [] = depth == 0
 is_balanced depth (x ∷ xs) = not (is_outside x.kind depth) && is_balanced (depth_after x.kind depth) xs
 
--- a prefix closes at most the braces that it opens and `d` others, which are open before it
+-- whether `prefix` closes at most as many braces as can be open: the `d` braces before it, and those that it opens
 abbrev is_within : ℕ → List TokenText → Bool
 is_within d prefix = nat_le (closing_braces prefix) (d + opening_braces prefix)
 
--- with `d` braces open before the tokens, no prefix closes more than are open, and all tokens together close all that are
+-- `d` braces are open before the tokens `xs`. Whether no prefix of `xs` closes more braces than these and those that it opens, and all of `xs` close as many as
+-- these and those that `xs` open.
 abbrev is_whole : ℕ → List TokenText → Bool
 is_whole d xs = list_all (is_within d) (prefixes xs) && d + opening_braces xs == closing_braces xs
 
@@ -28,7 +29,7 @@ all-same : {A : Type 0} (p q : A → Bool) → ((x : A) → p x ≡ q x) → (xs
 all-same p q h [] = refl
 all-same p q h (x ∷ xs) = λ i. h x i && all-same p q h xs i
 
--- the number of braces that a token of this kind opens; `closes`: that it closes
+-- the number of braces that a token of this kind opens; `closes` is the number of braces that it closes
 abbrev opens : TokenKind → ℕ
 opens k = if same_kind k K.OpenBrace then 1 else 0
 
@@ -48,7 +49,7 @@ within-none d = grind arith
 shifted : (d n o c : ℕ) → d + o ≡ n + c → (a b : ℕ) → (nat_le (c + a) (d + (o + b)) ≡ nat_le a (n + b)) × ((d + (o + b) == c + a) ≡ (n + b == a))
 shifted d n o c e a b = (grind arith, grind arith)
 
--- if `n` braces are open after the token `x`, and `d` before it, then the tokens after `x` close all `n` and no more if and only if `x` and they close all `d`
+-- if `d` braces are open before the token `x`, and `n` after it, then `x` followed by `xs` passes `is_whole d` if and only if `xs` passes `is_whole n`
 step : (d n : ℕ) (x : TokenText) (xs : List TokenText) → d + opens x.kind ≡ n + closes x.kind → is_whole d (x ∷ xs) ≡ is_whole n xs
 step d n x xs e = grind (arith, common_steps, shifted, within-none, list_all-map, all-same, opening-cons, closing-cons)
 
@@ -105,7 +106,8 @@ closes-opening (suc d) x xs k (inner, last, rest, e, l, b, (more, end, after, f,
     let split : xs ≡ (inner ++ last ∷ more) ++ end ∷ after = e ∙ ap (λ ys. inner ++ last ∷ ys) f ∙ sym (append_assoc inner (last ∷ more) (end ∷ after)) in
     (x ∷ (inner ++ last ∷ more), end, after, ap (λ ys. x ∷ ys) split, g, nested x last inner more k l b h, c)
 
--- if `x` closes no brace that isn't open, and the tokens `xs` close the braces that are open after `x`, then `x` followed by `xs` closes those open before it
+-- `d` braces are open before `x`. If `x` closes no brace that isn't open, and `xs` close the braces that are open after `x`, then `x` followed by `xs` closes
+-- the `d` braces.
 closes-more : (k : TokenKind) (d : ℕ) (x : TokenText) (xs : List TokenText) → x.kind ≡ k → is_outside k d ≡ false → Closes (depth_after k d) xs
     → Closes d (x ∷ xs)
 closes-more K.OpenBrace d x xs e inside c = closes-opening d x xs e (rw add-one at c)

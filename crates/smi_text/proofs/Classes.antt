@@ -1,4 +1,4 @@
--- An octet is what its class, `class_of` of the octet, says.
+-- What the class of an octet says of the octet is true: for example, each octet of the class `Blank` is blank.
 use Rattle.std.proofs.Common.{arith, ◌≡◌, ℕ, true, List, [], ◌∷◌, subst}
 use Rattle.std.proofs.{lemmas.Grind.common_steps, lemmas.Bool.eqb-true}
 use Rattle.std.specs.Char.{is_ascii_lowercase, is_ascii_uppercase, is_ascii_digit}
@@ -6,7 +6,7 @@ use Rattle.smi_text.specs.{declared.lexer.class.Class.Class, declared.lexer.toke
 use Rattle.smi_text.specs.{lexer.LongestMatch.class_of, lexer.LongestMatch.symbol_among}
 use Rattle.smi_text.specs.declared.lexer.class.Class.TheVariants as C
 
--- octet `c` is as this class says
+-- what the class says of octet `c` is true: for example, `c` is blank if the class is `Blank`
 abbrev pub HasClass : Class → ℕ → Type 0
 HasClass C.Blank c = is_blank c ≡ true
 HasClass C.Lowercase c = is_ascii_lowercase c ≡ true

@@ -5,7 +5,7 @@ use Rattle.std.specs.Prelude.{Some, None}
 use Rattle.std.proofs.Math.Nat.{le-mul_of_pos_right, one-le-pow, mul_comm, mul_assoc, mul-one, pow-zero, pow-succ'}
 use Rattle.smi_text.specs.trees.Number.{digit_value, number_value, up_to}
 
--- the number that the digits cs write after digits that wrote n
+-- the number that digits write in base `base`, if the first of them write `n`, and `cs` are the others
 abbrev pub worth : ℕ → ℕ → List ℕ → ℕ
 worth base n cs = n * base ^ length cs + number_value base cs
 
@@ -20,12 +20,13 @@ worth-digit base n c cs = grind (arith, common_steps, pow-succ', mul_assoc, mul_
 pub worth-grows : (base n : ℕ) (cs : List ℕ) → 0 < base → n ≤ worth base n cs
 worth-grows base n cs h = grind (arith, common_steps, le-mul_of_pos_right, one-le-pow)
 
--- if digits that write `n` come before the digits of `cs` from index `i` on, then the digit at `i` can be counted among those before
+-- if the digits of `cs` from index `i` on follow digits that write `n`, then the number is the same with the digit at `i` counted among the digits before
 pub worth_step : (base n i : ℕ) (cs : List ℕ) → i < length cs
     → worth base n (drop i cs) ≡ worth base (base * n + digit_value (get_or cs i 0)) (drop (i + 1) cs)
 worth_step base n i cs h = rw (add-one, drop-cons cs i 0) (worth-digit base n (get_or cs i 0) (drop (suc i) cs))
 
--- if the digits up to index `i`, in a base above 0, write more than `most`, then all digits do, and `up_to most` of their number is None
+-- if the digits before index `i` write `n`, and together with the digit at `i` they write more than `most`, then `up_to most` of the number that all digits
+-- write is None
 pub worth_above : (base n i most : ℕ) (cs : List ℕ) → 0 < base → i < length cs → worth base n (drop i cs) ≡ number_value base cs
     → most < base * n + digit_value (get_or cs i 0) → None ≡ up_to most (number_value base cs)
 worth_above base n i most cs pos h e over = grind (arith, common_steps, worth-grows, worth_step, lt-leb)

@@ -1,4 +1,5 @@
--- If a module of a text defines a name a second time, then no modules without a double name are read from the text.
+-- If tokens contain a module that defines a name twice (`DefinesAgain`), then the grammar doesn't read all of these tokens as modules that each define no name
+-- twice (`file-twice`).
 use Rattle.std.proofs.Common.{arith, ◌≡◌, ℕ, true, false, List, [], ◌∷◌, ◌++◌, Some, None, refl, sym, ◌∙◌, ap}
 use Rattle.std.proofs.{lemmas.Grind.common_steps, lemmas.List.map-append, lemmas.List.Folds.list_any-append}
 use Rattle.std.proofs.lemmas.Bool.{and_parts, or_left, or_right, or_cases}
@@ -19,8 +20,8 @@ unfolding prepend
 prefixes-inv xs None ys rest h = absurd (cc)
 prefixes-inv {A} xs (Some p) ys rest h = grind (arith, common_steps, some-inj)
 
--- The format `f` is lawful, takes a token for each part, and a part may follow another. If tokens `ts` begin with the spelling of the parts `xs`, and with a
--- token after it that begins a part, and `many f` can be read from `ts`, then it reads `xs`, a part at that token, and perhaps others.
+-- The format `f` is lawful, always takes a token, and may read one value after another. If the items `ts` begin with the spelling of the values `xs`, the token
+-- after this spelling begins another value, and `many f` reads `ts`, then it reads `xs`, this value, and perhaps others.
 module _ {A : Type 0} {s : A → List Mark} {f : Format A} (law : Lawful s f) (solid : f.empty ≡ false) (far : apart f.stop f.first ≡ true) where
   begin-again : (xs : List A) (ts mid : List Item) → ItemsMatch (flat_map s xs) ts mid → begins f.first mid ≡ true → begins f.first ts ≡ true
   begin-again [] ts mid h b = ap (begins f.first) h ∙ b

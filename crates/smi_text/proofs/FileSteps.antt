@@ -145,7 +145,7 @@ definitions-fault names defs from now have x ahead label (E.DoubleName line) f =
 definitions-fault names defs from now have x ahead label E.Memory f = tt
 definitions-fault names defs from now have x ahead label _ f = has_read-stuck names defs from now have ahead f
 
--- if a step stops because memory ran out or no module can be read, then its error is as `ModuleFault` says
+-- if a step stops because memory ran out or no module can be read, then `ModuleFault` holds for its error
 pub module-stop : (stop : Stop) (ts : List Item) → (is_memory stop ≡ false → module_text.read ts ≡ None) → ModuleFault (error_of stop) ts
 module-stop stop ts h = grind (arith, common_steps)
 

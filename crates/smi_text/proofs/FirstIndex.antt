@@ -25,7 +25,7 @@ first_found octet text None none =
     (others octet text (length text) (omega arith) (λ k below. none k (omega arith) below))
 first_found octet text (Some i) found = grind (arith, common_steps, eqb-true, others)
 
--- if `later` has `m` offsets, then there are `m + 1` if `b` is true, which puts `i` before them, and `m` if it is false
+-- if `later` has `m` offsets, and `i` is put before them only if `b` is true, then the result has `m + 1` offsets if `b` is true, and `m` otherwise
 placed : (b : Bool) (i : ℕ) (later : List ℕ) (m : ℕ) → length later ≡ m
     → length (cond b (i ∷ later) later) ≡ cond b 1 0 + m
 placed b i later m h = grind (arith, common_steps)

@@ -43,7 +43,7 @@ skips_space : (text : List ℕ) (n lines : ℕ) → n < length text → is_space
     → Skips text n lines → Skips text (n + 1) lines
 skips_space text n lines here is skips = grind (arith, common_steps, skips_other, ends_no_line)
 
--- if the octets before offset `n` can be skipped, then a space at `n` and the spaces and tabs after it can be skipped too
+-- if the octets before offset `n` can be skipped, then a space at `n` and the spaces and tabs after it, up to offset `to`, can be skipped too
 pub skips_run : (text : List ℕ) (n to lines : ℕ) → n < length text → get_or text n 0 ≡ 32 → ArePassedBetween is_space_or_tab text (n + 1) to
     → Skips text n lines → Skips text to lines
 skips_run text n to lines here space run skips =

@@ -1,4 +1,5 @@
--- If the lanes of a load that are set are the octets that fail a test, then the lowest of them, if there is one, ends the run of octets that pass.
+-- A vector load has 16 lanes of one octet each. If the top bit of a lane is set if and only if its octet fails a test, then the run of octets that pass ends
+-- before the lowest such lane, if there is one.
 use Rattle.std.proofs.Common.{◌≡◌, ℕ, ◌+◌, ◌%◌, ◌^◌, ◌≤◌, Bool, true, not, List, map, length, get_or, Fits, w8, sym, ap, ◌∙◌, arith}
 use Rattle.std.proofs.{lemmas.Bool.agree_below, lemmas.Bool.agree_below_at, lemmas.Bool.not-true, lemmas.Bool.not-false, lemmas.List.length-map}
 use Rattle.std.proofs.lemmas.Simd.{map-map, mask_l-mod, length-chunk, first_set_mask_l, run_in_chunk_le, run_in_chunk_fails, run_in_chunk_stops}

@@ -19,11 +19,11 @@ pub use Rattle.smi_text.proofs.NameLaws.{some-inj}
 use Rattle.smi_text.proofs.Marks.{same_kind-eq, same_kind-same, same_text-eq, same_text-same, if-inv, ItemsMatch-append, ItemsMatch-split, map-inv}
 use Rattle.smi_text.proofs.Marks.{then-inv, begins-append, apart-false}
 
--- no tokens meet the marks `nothing`
+-- no tokens match the marks `nothing`
 pub never-matched : (ts rest : List Item) → ItemsMatch say.nothing ts rest → ⊥
 never-matched ts rest h = grind (arith, common_steps)
 
--- if tokens match the spelling of `x`, and the format reads at least one token, then these tokens begin as the format says
+-- if `f` always reads at least one token, then tokens that match the spelling of `x` begin with one that meets a condition of `f.first`
 pub starts-with : {A : Type 0} {s : A → List Mark} {f : Format A} → Lawful s f → f.empty ≡ false → (x : A) (ts rest : List Item) → ItemsMatch (s x) ts rest
     → begins f.first ts ≡ true
 starts-with law solid x ts rest h = grind (arith, common_steps)
@@ -39,8 +39,8 @@ neither cs ds ts h = or_parts (begins cs ts) (begins ds ts) (sym (begins-append 
 
 -- ---- one token
 
--- the format of one token is lawful if `pick` takes `x` from a token that passes the test if and only if the token matches the mark of `x`, and such a token
--- begins as `cs` says
+-- The format of one token is lawful under two premises. A token passes `test` and `pick` returns `x` for it if and only if it matches the mark of `x`. A token
+-- that passes `test` meets a condition of `cs`.
 module _ {A : Type 0} {cs : List Ahead} {mark : A → Mark} {test : Lexeme → Bool} {pick : Lexeme → Option A}
     (fits : (t : Lexeme) (x : A) → test t ≡ true → pick t ≡ Some x → MarksToken (mark x) t)
     (found : (t : Lexeme) (x : A) → MarksToken (mark x) t → (test t ≡ true) × (pick t ≡ Some x))
@@ -96,7 +96,7 @@ module _ {A B : Type 0} {s : A → List Mark} {t : B → List Mark} {f : Format 
   }
 
 module _ {A : Type 0} {s : A → List Mark} {f : Format A} (law : Lawful s f) (solid : f.empty ≡ false) where
-  -- `maybe f` is lawful: it reads a part if the token ahead begins one. The spelling of a part begins with such a token, and what may follow doesn't.
+  -- `maybe f` is lawful: it reads with `f` if the token ahead meets a condition of `f.first`. What `f` reads begins with such a token, and none may follow it.
   pub maybe-law : Lawful (say.of_option s) (maybe f)
   unfolding maybe
   maybe-law = grind (arith, common_steps, if-inv, map-inv, some-inj, neither, starts-with)
@@ -116,7 +116,7 @@ module _ {A B : Type 0} {s : A → List Mark} {t : B → List Mark} {f : Format 
   unfolding either
   sides-law = grind (arith, common_steps, and_parts, not-true, if-inv, map-inv, starts-with, neither, apart-false, begins-left, begins-right)
 
--- a format that is lawful for a spelling is lawful for an equal one
+-- a format that is lawful for the spelling `s` is lawful for each spelling `u` that has the same marks for each `x`
 pub spelled-as : {A : Type 0} {s u : A → List Mark} {f : Format A} → Lawful s f → ((x : A) → s x ≡ u x) → Lawful u f
 spelled-as {f = f} law same = subst (λ v. Lawful v f) (λ i x. same x i) law
 
@@ -124,8 +124,8 @@ pub either-law : {A B : Type 0} {u : A ⊎ B → List Mark} {f : Format A} {g : 
     → decides f g ≡ true → Lawful u (either f g)
 either-law f-law g-law decided = spelled-as (sides-law f-law g-law decided) (elim [ inl x ↦ refl | inr y ↦ refl ])
 
--- `▸` puts lawful formats in a row, and `∣` lets the token ahead decide between them; `last` ends both. The result is lawful if the test of each pair passes,
--- and one `refl` shows that all do.
+-- Laws are chained as `a ▸ b ▸ last c`, for formats one after the other, or as `a ∣ b ∣ last c`, for alternatives between which the token ahead decides.
+-- The tests of all neighbours in a chain are one Boolean, so a single `refl` at its end proves that all pass.
 infixr 20 ◌▸◌
 infixr 20 ◌∣◌
 pub ◌▸◌ : {A B : Type 0} {s : A → List Mark} {t : B → List Mark} {f : Format A} {g : Format B} {b : Bool} → Lawful s f → (b ≡ true → Lawful t g)
@@ -168,7 +168,8 @@ module _ {A : Type 0} {s : A → List Mark} {f : Format A} (law : Lawful s f) (s
   unfolding many
   many-law = grind (arith, common_steps, many-takes-from, many-again, neither, many-starts)
 
--- if the format of the pieces is lawful, and the pieces and the part that they make have the same spelling, then the format of the part is lawful
+-- `shaped to f` is lawful for the spelling `u` if `f` is lawful for the spelling `s`, tokens that match `s x` also match `u (to x)`, and tokens that match
+-- `u y` also match `s x` for some `x` with `to x ≡ y`
 module _ {A B : Type 0} {to : A → B} {u : B → List Mark} {s : A → List Mark} {f : Format A} (law : Lawful s f)
     (forth : (ts rest : List Item) (x : A) → ItemsMatch (s x) ts rest → ItemsMatch (u (to x)) ts rest)
     (back : (ts rest : List Item) (y : B) → ItemsMatch (u y) ts rest → (x : A) × (to x ≡ y) × ItemsMatch (s x) ts rest) where
@@ -176,7 +177,8 @@ module _ {A B : Type 0} {to : A → B} {u : B → List Mark} {s : A → List Mar
   unfolding shaped
   made-law = grind (arith, common_steps, map-inv)
 
--- `shaped to f` is lawful for the spelling `u` if `f` is lawful for the spelling of what `to` makes, and `u` has no tokens for a part that `to` can't make
+-- `shaped to f` is lawful for the spelling `u` if `f` is lawful for the spelling that has the marks `u (to x)` for `x`, and each `y` is `to x` for some `x`, or
+-- `u y` is `nothing`
 pub shaped-law : {A B : Type 0} {to : A → B} {u : B → List Mark} {f : Format A} → Lawful (λ x. u (to x)) f
     → ((y : B) → ((x : A) × (to x ≡ y)) ⊎ (u y ≡ say.nothing)) → Lawful u (shaped to f)
 unfolding shaped
@@ -227,7 +229,7 @@ module _ {A : Type 0} {s : A → List Mark} {f : Format A} (law : Lawful s f) (s
 
 -- ---- parts of productions
 
--- if a format is lawful, then so is the format of a word followed by it
+-- if `f` is lawful, then so is the format that reads the word `w` and then with `f`
 pub after-word : {A : Type 0} {w : List ℕ} {s : A → List Mark} {f : Format A} → Lawful s f → Lawful (λ x. say.word w ∷ s x) (preceded (word w) f)
 unfolding word
 after-word law = preceded-law word-law law refl

@@ -1,4 +1,4 @@
--- The longest prefix of a text that is a part, a lexeme or a gap, decides which items `items_at` computes for the text.
+-- The longest prefix of a text that is a part (a lexeme or a gap) decides which items `items_at` computes for the text.
 use Rattle.std.proofs.{lemmas.Grind.common_steps, lemmas.Bool.cases_lt, lemmas.List.drop-drop, lemmas.List.Sums.sum_by-append}
 use Rattle.std.proofs.Common.{◌≡◌, ℕ, zero, suc, ◌+◌, ◌<◌, ◌≤◌, cond, Option, Some, None, Ok, Err, List, [], ◌∷◌, length, take, drop, refl, sym, ap}
 use Rattle.std.proofs.Common.{◌∙◌, inl, inr, arith, zero-add, add-zero, length-take-le}

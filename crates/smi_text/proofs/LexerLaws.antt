@@ -1,4 +1,4 @@
--- The computed items of a text are those that `Lexes` says (`lexes`), and no others are (`sole_items`).
+-- By `Lexes`, a text has the items that `items_at` computes for it (`lexes`), and no other list of items (`sole_items`).
 use Rattle.std.proofs.{lemmas.Grind.common_steps, lemmas.Bool.cases_lt, Math.Seq.drop-append_seam, lemmas.List.Sums.sum_by-append}
 use Rattle.std.proofs.Common.{◌≡◌, ℕ, zero, suc, ◌+◌, ◌<◌, ◌≤◌, Option, Some, None, Ok, List, [], ◌∷◌, ◌++◌, length, take, drop, refl, sym, ap, ◌∙◌}
 use Rattle.std.proofs.Common.{⊎_elim, arith, length-append, length-take-le, length-drop, append_assoc, slice_range}
@@ -24,7 +24,7 @@ prefix-longest part n text longest = record {
   longest = λ m above within. none_unless (part_of (take m text)) (λ other h. longest.longest other m above within (part_is (take m text) other h));
 }
 
--- what the search finds is the longest prefix of at most n octets that is a part, or None if no such prefix is a part
+-- the result of a search is the part and the length of the longest prefix of at most `n` octets that is a part, or None if no such prefix is a part
 abbrev Finds : ℕ → List ℕ → Option (Part × ℕ) → Type 0
 Finds n text None = (m : ℕ) → m ≤ n → part_of (take m text) ≡ None
 Finds n text (Some prefix) = (prefix.1 ≤ n) × (part_of (take prefix.1 text) ≡ Some prefix.0) × ((m : ℕ) → prefix.1 < m → m ≤ n → part_of (take m text) ≡ None)

@@ -1,4 +1,4 @@
--- If the kind of a token is a sign, then its text is the only one of that kind. A step that stores the name ahead returns what the format of names reads.
+-- If a token has the kind of a sign, then its text is the only text of that kind. A step that stores the name ahead returns what the format of names reads.
 use Rattle.std.proofs.Common.{arith, ◌≡◌, ℕ, Bool, true, List, ◌∷◌, Some, Result, Ok, Err, sym, ◌∙◌, ap}
 use Rattle.std.proofs.{lemmas.Grind.common_steps, lemmas.Bool.and_from, lemmas.Bool.false≢true, Math.Bool.Bool-set, Math.Logic.∥∥₁_elim}
 use Rattle.std.specs.Prelude.{drop, IfOk, IfErr}
@@ -24,7 +24,7 @@ sign_read k t ts e s l = grind (arith, common_steps, sign_is, and_from, same_kin
 pub name_at : (x : List ℕ) (n : Name) → n.octets ≡ x → name_of x ≡ Some n
 name_at x n e = ap name_of (sym e) ∙ name_of-octets n
 
--- if the token ahead is of kind `k` and passes the test, then a step that stores its name returns what the format reads
+-- if the token ahead is of kind `k` and passes the test, then a step that stores its name returns what the format reads, unless memory runs out
 pub gives-name : (cs : List Ahead) (k : TokenKind) (ok : List ℕ → Bool) (t : Lexeme) (ts now rest : List Item) (r : Result Name Stop) → now ≡ Ok t ∷ ts
     → ts ≡ drop 1 now → t.kind ≡ k → ok t.text ≡ true
     → IfOk r (λ x. (name_of t.text ≡ Some x) × (rest ≡ drop 1 now)) → IfErr r (λ e. e ≡ Memory) → ReturnsReading r rest ((name_where cs k ok).read now)

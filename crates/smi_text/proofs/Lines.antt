@@ -14,7 +14,7 @@ use Rattle.smi_text.specs.declared.trees.tree.Syntax.TheVariants as T
 use Rattle.smi_text.specs.declared.trees.tree.Refinement.TheVariants as R
 use Rattle.smi_text.proofs.{Laws.some-inj, Tokens.tokens-read}
 
--- the mark with 0 as its line
+-- the mark with 0 as its line, if it has a line
 abbrev zeroed : Mark → Mark
 zeroed (spelled k x ok) = spelled k x ok
 zeroed (on_line n m) = on_line 0 (zeroed m)

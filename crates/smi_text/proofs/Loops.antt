@@ -1,4 +1,4 @@
--- A step of the loops that read the names of an INDEX, or tokens between braces: what was read, followed by what will be read, is the same before and after.
+-- Two loops read the names of an INDEX, and tokens between braces. A step of a loop doesn't change what was read so far followed by what will still be read.
 use Rattle.std.proofs.Common.{◌≡◌, ℕ, zero, suc, ◌+◌, ◌<◌, ◌≤◌, true, false, List, [], ◌∷◌, ◌++◌, length, Some, None, Ok, refl, sym, arith}
 use Rattle.std.proofs.Common.{append_assoc}
 use Rattle.std.proofs.lemmas.Grind.{common_steps}

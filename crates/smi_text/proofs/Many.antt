@@ -6,7 +6,7 @@ use Rattle.smi_text.specs.{lexer.Token.Item, trees.Mark.Mark}
 use Rattle.smi_text.specs.private.Format.{ItemsMatch, Format, Parsed, begins, read_many, many, prepend}
 use Rattle.smi_text.proofs.Lawful.{Lawful}
 
--- if items match the marks `ms`, then there is one for each mark before `rest`
+-- if items match the marks `ms`, then there is one item for each mark before the items `rest`
 pub ItemsMatch-length : (ms : List Mark) (ts rest : List Item) → ItemsMatch ms ts rest → length ts ≡ length ms + length rest
 ItemsMatch-length [] ts rest h = ap length h ∙ omega arith
 ItemsMatch-length (m ∷ ms) (Ok t ∷ ts) rest h = omega (arith, ItemsMatch-length ms ts rest h.1)
@@ -41,7 +41,7 @@ enough {A} {s} {f} law solid (suc n) (suc m) (t ∷ ts) h k =
           ap (λ (r : Parsed (List A)). option_map (λ (q : List A × List Item). (p.0 ∷ q.0, q.1)) r) (enough law solid n m p.1 (omega arith) (omega arith))
     ] refl)
 
--- if the token ahead begins a part, but the part can't be read, then `many` can't be read either
+-- if the token ahead meets a condition of `f.first`, but `f` fails, then `many f` fails too
 pub many-fails : {A : Type 0} (f : Format A) (ts : List Item) → begins f.first ts ≡ true → f.read ts ≡ None → (many f).read ts ≡ None
 unfolding many read_many
 many-fails f ts b e = rw (b, e) refl

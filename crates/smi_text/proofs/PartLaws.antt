@@ -1,4 +1,4 @@
--- Octets are a part, a lexeme or a gap, if and only if `part_of` reads them as this part.
+-- Octets are a part (a lexeme or a gap) if and only if `part_of` reads them as this part.
 use Rattle.std.proofs.{lemmas.Grind.common_steps, Math.Bool.and-false, lemmas.Bool.Decides.nat_tests, lemmas.List.Folds.list_all-append}
 use Rattle.std.proofs.Common.{◌≡◌, ◌≢◌, ℕ, ◌⊎◌, Bool, true, false, cond, not, ◌&&◌, ◌||◌, Some, List, [], ◌∷◌, ◌++◌, refl, sym, ap, ◌∙◌, inl}
 use Rattle.std.proofs.Common.{inr, arith, eqb, append_assoc, append-nil}
@@ -17,7 +17,7 @@ use Rattle.smi_text.proofs.Parts.{none_some, string_step, literal_reads, literal
 
 -- ---- what reads as a part is one
 
--- if a test was passed, and passing it shows that octets are a part, then they are the part that was read
+-- if `then_some b part` is `other`, and `b` is true only if the octets `s` are the part `part`, then they are the part `other`
 then_is : (b : Bool) (part other : Part) (s : List ℕ) → then_some b part ≡ Some other → (b ≡ true → IsPart part s) → IsPart other s
 then_is b part other s h is = grind (arith, common_steps)
 

@@ -76,7 +76,7 @@ pub literal_closed : (is_digit is_letter : ℕ → Bool) (digits s : List ℕ) �
 literal_closed is_digit is_letter [] s h = refl
 literal_closed is_digit is_letter (c ∷ cs) s h = grind (arith, common_steps, and_parts, other_not, and_assoc, literal_closed is_digit is_letter cs s)
 
--- the literal, by its kind, that has the digits `digits` and the octets `s` after its second quote, if these make one
+-- the literal with the digits `digits` and the octets `s` after its second quote, as a part; None if these make no literal
 abbrev pub literal_after : List ℕ → List ℕ → Option Part
 literal_after digits s =
     if list_all is_ascii_hexdigit digits && is_sole is_hex_letter s then Some (lexeme Hex)
@@ -94,8 +94,8 @@ literal_unended digits = rw (and-false (list_all is_ascii_hexdigit digits), and-
 literal_unclosed : (s : List ℕ) → list_all (is_other 39) s ≡ true → literal_part s ≡ None
 literal_unclosed s h = rw (literal_open is_ascii_hexdigit is_hex_letter s h, literal_open is_binary_digit is_binary_letter s h) refl
 
--- The text begins after the first quote. If the second quote is at index `i`, then a prefix that ends after it is read as the rest of a literal by the digits
--- before that quote and the octets after it.
+-- `text` begins after the first quote of a literal. If the second quote is at index `i`, then `literal_part` reads a prefix of more than `i` octets as the
+-- literal, if any, that the octets before this quote and those after it make.
 literal_long : (k i : ℕ) (text : List ℕ) → IsFirstIndex 39 text (Some i)
     → literal_part (take (i + suc k) text) ≡ literal_after (take i text) (take k (drop (i + 1) text))
 literal_long k i text h = grind (arith, common_steps, take-add, rest_at, literal_reads)
@@ -163,7 +163,8 @@ literal_prefix text i h next digits prefix found kind_is = by_kind found (rw pre
 
 -- ---- with the first octet
 
--- if `n` octets of `cs` are the longest prefix that reads as a part, then with the octet `c` before them they are the longest one of `c` and `cs`
+-- if `reading` reads `c` followed by any octets as `inner` reads these octets, and the first `n` octets of `cs` are the longest prefix that `inner` reads as a
+-- part, then `c` and these `n` octets are the longest prefix of `c` and `cs` that `reading` reads as a part
 pub prefix_cons : (reading inner : List ℕ → Option Part) (c : ℕ) (cs : List ℕ) (part : Part) (n : ℕ) → ((s : List ℕ) → reading (c ∷ s) ≡ inner s)
     → IsPartPrefix inner cs part n → IsPartPrefix reading (c ∷ cs) part (n + 1)
 prefix_cons reading inner c cs part n read prefix = rw (add-one n) (record {

@@ -1,5 +1,5 @@
--- The laws of productions: a lawful one reads what `Spelling.antt` writes for it, and nothing else. A law names the pieces of its production in order, with
--- the words of the grammar, and says which pieces each part is made of. A `refl` says that the token ahead tells the pieces apart.
+-- The laws of productions: each says that a production reads what `Spelling.antt` writes for it, and nothing else. A law is proved from the laws of the
+-- production's pieces, in order. A `refl` shows that the token ahead decides how to continue.
 use Rattle.std.proofs.Common.{arith, ◌≡◌, ℕ, true, if◌then◌else◌, List, [], ◌∷◌, Option, Some, None, Ok, refl, inl, inr, ◌⊎◌}
 use Rattle.std.proofs.{lemmas.Grind.common_steps, lemmas.Bool.and_parts, lemmas.Bool.or_right, lemmas.Bool.or_cases}
 use Rattle.std.specs.{Prelude.drop, Prelude.◌==◌, List.list_any}

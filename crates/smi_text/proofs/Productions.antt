@@ -11,7 +11,7 @@ use Rattle.smi_text.specs.private.Grammar.{object_identity, object_type, objects
 use Rattle.smi_text.specs.private.Grammar.{ranges, raw_definition, refinement, revision, simple_type, size, status, syntax_clause}
 use Rattle.smi_text.specs.private.Grammar.{syntax_type, tag, textual_convention, upper_definition, value, file, read_index, with_names}
 
--- what proofs about the formats of one token, or of none, unfold
+-- what both `formats` and `of_parser` unfold
 unfoldable pub tokens : ℕ
 unfolding begins maybe shaped pair preceded lower word token text text_where name
 tokens = 0

@@ -1,5 +1,5 @@
 -- The formats of tokens that are stored as they are, and of the names of an INDEX, are lawful. The format `up_to n`, of at most n names, is made of other
--- formats, and reads what `read_index n` does.
+-- formats, and reads what `read_index n` reads.
 use Rattle.std.proofs.lemmas.Grind.{common_steps}
 use Rattle.std.proofs.Common.{◌≡◌, ℕ, zero, suc, ◌≤◌, nat_le, Bool, true, false, List, [], ◌∷◌, length, Option, Some, None, if◌then◌else◌, refl, sym}
 use Rattle.std.proofs.Common.{◌∙◌, arith, inl, inr, ◌⊎◌, ◌&&◌, not, Ok}
@@ -19,7 +19,7 @@ use Rattle.smi_text.proofs.Laws.{kept-law}
 use Rattle.smi_text.specs.declared.trees.tree.IndexParts.{IndexParts}
 use Rattle.std.proofs.lemmas.Bool.{and_parts, and_from, or_parts, not-true, not-false}
 
--- the names of an INDEX, made of their pieces: the last name, after IMPLIED or without it, or a name with others after a comma
+-- the names of an INDEX, made of what was read: a last name after IMPLIED (`inl`), or a name without IMPLIED and the names after its comma, if any (`inr`)
 abbrev to_names : Name ⊎ (Name × Option IndexParts) → IndexParts
 to_names (inl x) = index_parts (x ∷ []) true
 to_names (inr (x, None)) = index_parts (x ∷ []) false

@@ -8,7 +8,7 @@ use Rattle.std.specs.List.{list_all}
 use Rattle.smi_text.specs.lexer.LongestMatch.{GoesOn, IsLongestPassing, IsRemarkEnd, is_comment_rest, IsRunBetween, is_remark_rest}
 use Rattle.smi_text.specs.lexer.Lexeme.{begins, is_hyphen, is_word_octet, is_word_rest}
 
--- what is left of a text at offset n is its octet there, and what follows
+-- if offset `n` is before the end of a text, then the text from `n` on is the octet at `n`, and then what follows it
 pub rest_at : (text : List ℕ) (n : ℕ) → n < length text → drop n text ≡ get_or text n 0 ∷ drop (n + 1) text
 rest_at text n here = drop-cons text n 0 here ∙ ap (λ m. get_or text n 0 ∷ drop m text) (sym (add-one n))
 
@@ -46,14 +46,15 @@ module _ (test : List ℕ → Bool) (text : List ℕ) where
         ap (λ j. test (take j text)) offset ∙ before.same (suc (m - (n + 1))) ∙ stop (m - (n + 1)) (omega arith);
   }
 
-  -- if the empty list passes, and no list that begins with the octet at `n` and goes on as the text does, then the scan stops before that octet
+  -- if the empty list passes the test, and no list passes that begins with the octet at `n` and continues as the text does, then the scan stops before this
+  -- octet
   pub scan_stop : (n : ℕ) → n < length text → test [] ≡ true → ((k : ℕ) → test (get_or text n 0 ∷ take k (drop (n + 1) text)) ≡ false)
       → GoesOn test text n → IsLongestPassing test text n
   scan_stop n here empty stop before =
       scan_end n empty (λ k h. ap (λ s. test (take (suc k) s)) (rest_at text n here) ∙ stop k) before
 
--- if `inner` is what `test` is after the first `n` octets, and `k` octets after these are the longest prefix that passes `inner`, then `n + k` octets are the
--- longest that passes `test`
+-- A prefix of `n` octets or more passes `test` if and only if its octets after the first `n` pass `inner`. If the longest prefix of the text after `n` octets
+-- that passes `inner` has `k` octets, then the longest prefix of the text that passes `test` has `n + k`.
 pub longest_after : (test inner : List ℕ → Bool) (text : List ℕ) (n k : ℕ) → n ≤ length text
     → ((j : ℕ) → test (take (n + j) text) ≡ inner (take j (drop n text)))
     → IsLongestPassing inner (drop n text) k → IsLongestPassing test text (n + k)
@@ -65,7 +66,7 @@ longest_after test inner text n k within same prefix = record {
       ap (λ j. test (take j text)) offset ∙ same (m - n) ∙ prefix.longest (m - n) (omega arith) (omega (arith, length-drop n text));
 }
 
--- if an octet that passes `p` makes no difference to `test` before any octets, then `n` of them at the start of a text make none
+-- if an octet that passes `p`, put before a list, never changes whether the list passes `test`, then neither do `n` such octets at the start of a text
 pub goes_on_past : (test : List ℕ → Bool) (p : ℕ → Bool) → ((c : ℕ) (s : List ℕ) → p c ≡ true → test (c ∷ s) ≡ test s)
     → (n : ℕ) (text : List ℕ) → n ≤ length text → list_all p (take n text) ≡ true
     → (k : ℕ) → test (take (n + k) text) ≡ test (take k (drop n text))
@@ -177,7 +178,7 @@ pub remark_begins : (k : ℕ) (s : List ℕ) → begins is_hyphen s ≡ false �
 remark_begins (suc k) (c ∷ cs) h = ap (λ b. cond b (is_comment_rest (take k cs)) (is_remark_rest (c ∷ take k cs))) h
 remark_begins _ _ h = refl
 
--- no hyphen follows the longest run
+-- no hyphen follows the longest run of hyphens at the start of a text
 pub run_closed : (text : List ℕ) (n : ℕ) → IsLongestPassing (list_all is_hyphen) text n → begins is_hyphen (drop n text) ≡ false
 run_closed text n prefix = grind (arith, common_steps, cases_lt, begins_at, false_from_ne_true, list_all_more, begins_past)
 

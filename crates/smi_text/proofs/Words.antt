@@ -16,7 +16,7 @@ is_one_of_drop x ws i d b h e = rw (add-one, drop-cons ws i d, e) refl
 pub is_one_of_none : (x : List ℕ) (ws : List (Bor (List ℕ))) (i : ℕ) → length ws ≤ i → is_one_of x (drop i ws) ≡ false
 is_one_of_none x ws i h = rw (drop_all i ws h) refl
 
--- if the second octets of all words pass a test that the text's own fails, then the text isn't one of the words
+-- if the second octet of each word passes a test, and the second octet of the text (0 if it has none) fails it, then the text isn't one of the words
 pub other_second : (test : ℕ → Bool) (words : List (List ℕ)) (x : List ℕ) → list_all (λ w. test (get_or w 1 0)) words ≡ true
     → test (get_or x 1 0) ≡ false → list_any (same_text x) words ≡ false
 other_second test [] x all other = refl

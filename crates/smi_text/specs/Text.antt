@@ -39,8 +39,8 @@ pub record HasSecond (line : ℕ) (tokens : List Lexeme) : Type 0 where
   pub defined : list_any (same_text second.label.octets) (labels before) ≡ true
   pub on_line : second.line ≡ line
 
--- the tokens begin with modules that don't define a name twice; the module after them defines a
--- name a second time, on line `line`
+-- The tokens begin with modules that each define no name twice. The next module has a definition on
+-- line `line` that is its first to define a name a second time.
 pub record DefinesAgain (line : ℕ) (tokens : List Lexeme) : Type 0 where
   pub modules : List Module
   pub once : HasNoDoubles modules
@@ -51,14 +51,14 @@ pub record DefinesAgain (line : ℕ) (tokens : List Lexeme) : Type 0 where
   pub matched : TokensMatch (spelling modules ++ of_head name heading imports) tokens body
   pub twice : HasSecond line body
 
--- a module of the text defines a name a second time, on line `line`, and none before it does
+-- in the text, the first definition to define a name a second time in its module is on line `line`
 pub record HasDouble (line : ℕ) (text : List ℕ) : Type 0 where
   pub items : List Item
   pub lexed : Lexes [] text items
   pub again : DefinesAgain line (tokens_of items)
 
--- The text has the fault that the error reports. For `Syntax`, whatever its line, the text isn't a
--- spelling of modules. If memory ran out, nothing is said of the text.
+-- The text has the fault that the error reports. For `Syntax` with any line, no list of modules
+-- spells the text. For `Memory`, nothing is said of the text.
 abbrev pub IsCause : ParseError → List ℕ → Type 0
 IsCause (E.Lex fault) text = BreaksOff fault text
 IsCause (E.Syntax line) text = (ms : List Module) → AreSpelledBy ms text → ⊥

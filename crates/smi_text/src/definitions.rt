@@ -51,7 +51,7 @@ impl<'a> Parser<'a> {
         })
     }
 
-    /// Reads OBJECT IDENTIFIER and its value.
+    /// Reads OBJECT IDENTIFIER, `::=` and the identifier value.
     fn object_identifier(&mut self) -> Result<Items<Part>, Stop>
         ensures { ReturnsReading result self.new (grammar.object_identifier.read self.old) }
     {
@@ -106,7 +106,7 @@ impl<'a> Parser<'a> {
         })
     }
 
-    /// Reads a group: `word`, and then its clauses, with its members after the word `members`.
+    /// Reads a group: `word`, the word `members`, the members in braces, and the other clauses.
     fn group(&mut self, word: &[u8], members: &[u8]) -> Result<Group, Stop>
         ensures { ReturnsReading result self.new
             ((grammar.group word.now members.now).read self.old) }
@@ -174,7 +174,7 @@ impl<'a> Parser<'a> {
         })
     }
 
-    /// Reads CHOICE and its tokens.
+    /// Reads CHOICE and the tokens in braces after it.
     fn choice(&mut self) -> Result<Items<TokenText>, Stop>
         ensures { ReturnsReading result self.new (grammar.choice.read self.old) }
     {
@@ -182,7 +182,7 @@ impl<'a> Parser<'a> {
         self.braced_tokens()
     }
 
-    /// Reads `[APPLICATION n] IMPLICIT`.
+    /// Reads `[APPLICATION n] IMPLICIT`, and returns `n`.
     fn tag(&mut self) -> Result<Text, Stop>
         ensures { ReturnsReading result self.new (grammar.tag.read self.old) }
     {
@@ -233,7 +233,7 @@ impl<'a> Parser<'a> {
         Ok(DefKind::TypeAssignment(TypeAssignment { tag: None, syntax }))
     }
 
-    /// Reads MACRO and its tokens.
+    /// Reads a macro after its name: MACRO, `::=`, BEGIN, other tokens and END.
     fn macro_definition(&mut self) -> Result<DefKind, Stop>
         ensures { ReturnsReading result self.new (grammar.macro_definition.read self.old) }
     {

@@ -6,11 +6,11 @@ use thiserror::Error;
 /// Why a text is refused as a whole. Lines count from 1.
 #[derive(Clone, Copy, Debug, PartialEq, Eq, Error)]
 pub enum ParseError {
-    /// The lexer can't read the text to its end, for the reason in its error.
+    /// The lexer can't read the text to its end, for the reason in this `LexError`.
     #[error(transparent)]
     Lex(LexError),
-    /// No module text can continue with the token on line `line`, or the text ends too early, on
-    /// that line.
+    /// No module text can continue with a token on line `line`, or the text ends too early, on that
+    /// line.
     #[error("line {line}: no module goes on like this")]
     Syntax { line: usize },
     /// The name of the definition on line `line` was defined before it in the same module.
@@ -24,7 +24,8 @@ pub enum ParseError {
 /// Why the reading of a text stops.
 #[derive(Clone, Copy, Debug)]
 pub(crate) enum Stop {
-    /// The text can't continue with the next token, or can't end here, on line `line`.
+    /// No module text can continue with the next token, which is on line `line`, or the text ends
+    /// too early, on that line.
     Syntax { line: usize },
     /// The lexer returned this fault, and not another token.
     Lex(LexError),

@@ -179,8 +179,8 @@ pub fn one_module_list_without_lines()
         map without_lines ms ≡ map without_lines ns }
 {}
 
-/// Counting braces finds exactly the balanced tokens: each brace that opens among them is followed
-/// by the one that closes it, and no other brace closes among them.
+/// Tokens pass the count of braces if and only if they are balanced: each opening brace is followed
+/// by the brace that closes it, and no other token is a closing brace.
 ///
 /// A law: the call does nothing, and its caller may use what it ensures.
 #[tactic(auto, using(crate::proofs::Braces::counted, crate::proofs::Braces::balanced_counted, crate::proofs::Braces::prefixes_counted))]

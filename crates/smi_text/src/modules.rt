@@ -15,7 +15,7 @@ use crate::parser::{AfterComma, Parser, Production};
 use crate::syntax::HeadingPart;
 use crate::trees::{Import, Items, Name, Part, TokenText, is_macro, is_reserved};
 
-/// A module up to its definitions.
+/// The start of a module, before its definitions.
 #[derive(Debug, Drop)]
 pub(crate) struct Head {
     /// The name of the module.
@@ -150,7 +150,7 @@ impl<'a> Parser<'a> {
         self.word(b"BEGIN")
     }
 
-    /// Reads a module up to its definitions.
+    /// Reads the start of a module, before its definitions.
     pub(crate) fn head(&mut self) -> Result<Head, Stop>
         ensures { ReturnsReading result self.new (grammar.head.read self.old) }
     {

@@ -6,12 +6,12 @@ ghost use Rattle.smi_text.specs.{trees.Mark.same_text, private.Names.has, privat
 use crate::error::Stop;
 use std::collections::BTreeSet;
 
-/// The last eight octets of a name as one number, 0 if it is shorter, and the name. Most names of
-/// a module begin alike and end differently, so the numbers tell most of them apart without a look
-/// at the other octets.
+/// The last eight octets of a name as one number, or 0 if the name is shorter, and then the name.
+/// Most names of a module begin alike and end differently, so the numbers tell most of them apart
+/// without a look at the other octets.
 pub(crate) type Key<'a> = (u64, &'a [u8]);
 
-/// Returns the last eight octets of `name` as one number, or 0 if it is shorter.
+/// Returns the last eight octets of `name` as one number, or 0 if `name` is shorter.
 #[tactic(auto, unfolding(crate::specs::private::Names::last_eight))]
 fn last_eight(name: &[u8]) -> u64
     ensures { result ≡ last_eight name.now }

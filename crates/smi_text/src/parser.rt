@@ -21,7 +21,8 @@ use std::alloc::Global;
 use std::collections::BTreeSet;
 use std::marker::Model;
 
-/// What is left of a text: a lexer, and what it returned last, which is the next to be read.
+/// What is left of a text: the item that the lexer returned last, which is the next to be read, and
+/// the lexer, which returns the items after it.
 #[derive(Drop)]
 pub(crate) struct Parser<'a> {
     /// The allocator of the trees.
@@ -47,7 +48,7 @@ impl<'a> Model for Parser<'a> {
 
 /// A production that can occur several times in a row.
 pub(crate) trait Production {
-    /// The part of the tree that the production yields.
+    /// The type of what the production reads.
     type Output;
 
     ghost format: { Format Self.Output };
@@ -62,7 +63,7 @@ pub(crate) trait Production {
         ensures shorter { OnOk result (length parser.new < length parser.old) };
 }
 
-/// A production after a comma.
+/// The production `P` after a comma.
 pub(crate) struct AfterComma<P>(P);
 
 impl<P: Production> Production for AfterComma<P> {
@@ -80,7 +81,7 @@ impl<P: Production> Production for AfterComma<P> {
     }
 }
 
-/// A production after a bar.
+/// The production `P` after a bar.
 pub(crate) struct AfterBar<P>(P);
 
 impl<P: Production> Production for AfterBar<P> {

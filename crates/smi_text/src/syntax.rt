@@ -51,7 +51,7 @@ impl Production for LaterPart {
     }
 }
 
-/// A name with a number in parentheses, which may be negative.
+/// A name, and then a number in parentheses. The number may be negative.
 pub(crate) struct OneNamedNumber;
 
 impl Production for OneNamedNumber {
@@ -201,7 +201,7 @@ impl<'a> Parser<'a> {
         }
     }
 
-    /// Reads a name with a number in parentheses, which may be negative.
+    /// Reads a name, and then a number in parentheses. The number may be negative.
     fn named_number(&mut self) -> Result<NamedNumber, Stop>
         ensures { ReturnsReading result self.new (grammar.named_number.read self.old) }
     {
@@ -286,7 +286,7 @@ impl<'a> Parser<'a> {
         Ok(numbers)
     }
 
-    /// Reads what narrows a type.
+    /// Reads what narrows a type: named numbers, ranges of values, or ranges of lengths.
     fn refinement(&mut self) -> Result<Refinement, Stop>
         ensures { ReturnsReading result self.new (grammar.refinement.read self.old) }
     {

@@ -21,7 +21,7 @@ no_object (d, o, e, k) = cc
 root-index : (k : ℕ) (n : Node) → slice_get roots k ≡ Some n → IsIndex [] roots n None
 root-index = grind (arith, common_steps, root-case, no_object)
 
--- if there are no modules, the tree is `bare`
+-- `bare` is a tree of no modules, without warnings
 pub is_bare : IsTree [] bare []
 is_bare = record {
   passed = refl;

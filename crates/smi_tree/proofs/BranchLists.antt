@@ -37,7 +37,7 @@ module _ (known oids : List (List ℕ)) (bs : List Branch) (are : AreBranches kn
   pub branch_inside : (o : List ℕ) (b : ℕ) → branch_of bs o ≡ Some b → b < length bs
   branch_inside o b e = walk_within (follower bs) (length bs) are.within o 0 b are.some e
 
-  -- if an index is stored at a branch, the numbers of this identifier reach the branch
+  -- if an index is stored at a branch, the numbers of the identifier at that index reach the branch
   pub id_way : (at id : ℕ) → id_at bs at ≡ Some id → branch_of bs (oid_at oids id) ≡ Some at
   id_way at id e =
       let r = are.reached at (id_inside bs at id e) in rw (index_found oids r.0 id (sym (are.node_id r.0 at r.1) ∙ e)).1 r.1
@@ -74,13 +74,13 @@ module _ (known oids : List (List ℕ)) (bs : List Branch) (are : AreBranches kn
 pub Branches-known : (known oids : List (List ℕ)) (p : List ℕ) (bs : List Branch) → AreBranches known oids bs → AreBranches (known ++ p ∷ []) oids bs
 Branches-known known oids p bs are = grind (arith, common_steps, length_push, get_or_append_left)
 
--- if `p` is appended to the identifiers `known`, then one of these begins with the first `j` numbers of `p`
+-- if `p` is appended to the identifiers `known`, then one identifier of the longer list begins with the first `j` numbers of `p`
 pub begins_push : (known : List (List ℕ)) (p : List ℕ) (j : ℕ) → IsBeginning (known ++ p ∷ []) (take j p)
 begins_push known p j =
     (length known, drop j p, omega (arith, length_push known p), get_or_push known p [] (length known) refl ∙ sym (take-append-drop j p))
 
--- if branches are right for a list, with the prefixes of one more identifier, whose numbers reach the branch `at`, then they are right for the list with it
--- appended, once its index is stored at `at`, unless an index is stored there already
+-- if the branches `bs` are right for the list `oids`, and they also have the prefixes of `p`, whose numbers reach the branch `at`, then `new` is right for
+-- `oids ++ p ∷ []`; in `new`, the index of `p` is stored at `at`, or the index that was stored there before
 module _ (oids : List (List ℕ)) (p : List ℕ) (bs : List Branch) (at : ℕ) (a : Branch) (s : Option ℕ) (are : AreBranches (oids ++ p ∷ []) oids bs)
     (here : branch_of bs p ≡ Some at) (read : a ≡ get_or bs at a) where
   abbrev new : List Branch
@@ -135,7 +135,7 @@ module _ (oids : List (List ℕ)) (p : List ℕ) (bs : List Branch) (at : ℕ) (
         reached = λ c l. let r = are.reached c (omega (arith, l, long)) in (r.0, stays r.0 c r.1);
       }
 
--- if no number follows a single branch, and no index is stored there, it is right for an empty list
+-- if no number follows the only branch in a list, and no index is stored at it, then this list of branches is right for no identifiers
 pub Branches-none : (b : Branch) → ((n : ℕ) → follower (b ∷ []) 0 n ≡ None) → b.node_id ≡ None → AreBranchesOf [] (b ∷ [])
 Branches-none b none is_at = record {
   some = omega arith;
@@ -151,7 +151,7 @@ Branches-none b none is_at = record {
     first [] c e = (refl, cc)
     first (n ∷ o) c e = grind (arith, common_steps, none n)
 
--- if the first `i` numbers reach a branch, one more reaches what the next number reaches from there
+-- if the first `i` numbers of `o` reach the branch `at`, then the first `i + 1` numbers reach what the last of them reaches from `at`
 pub branch_more : (bs : List Branch) (o : List ℕ) (i at : ℕ) → i < length o → branch_of bs (take i o) ≡ Some at
     → branch_of bs (take (i + 1) o) ≡ follower bs at (get_or o i 0)
 branch_more bs o i at l e = rw (take_more o i 0 l, walk_push (follower bs) 0 (take i o) (get_or o i 0), e) refl
@@ -164,14 +164,15 @@ pub SoFar-whole : (oids : List (List ℕ)) (o : List ℕ) (r : Option Deepest) �
     → MatchOption r (HasNoBeginning oids o) (λ d. IsDeepestAt oids o d.id d.depth)
 SoFar-whole oids o r f = grind (arith, common_steps)
 
--- if the number after the first `i` reaches no branch, no prefix of more than `i` numbers is in the list
+-- if the first `i` numbers of `o` reach the branch `at`, and the next number reaches no branch from `at`, then no prefix of more than `i` numbers is in the
+-- list
 pub none_beyond : (oids : List (List ℕ)) (bs : List Branch) → AreBranchesOf oids bs → (o : List ℕ) (i at : ℕ) → i < length o → branch_of bs (take i o) ≡ Some at
     → follower bs at (get_or o i 0) ≡ None → (j : ℕ) → i < j → first_index oids (take j o) ≡ None
 none_beyond oids bs are o i at l e f j m =
     let none = rw (← take-take (i + 1) j o (omega arith)) at (branch_more bs o i at l e ∙ f) in
     rw take-append-drop at (indices_off oids oids bs are (take (i + 1) (take j o)) (drop (i + 1) (take j o)) none)
 
--- if an identifier is below the one whose index is stored at a branch, a search for it can begin at that branch
+-- if `o` is below `known`, whose index is stored at the branch `at`, then a search for `o` can begin at that branch
 pub way_known : (oids : List (List ℕ)) (bs : List Branch) → AreBranchesOf oids bs → (o known : List ℕ) (at id : ℕ) → id_at bs at ≡ Some id
     → oid_at oids id ≡ known → IsBelow o known
     → IsUnderWay oids bs o (length known) at (Some (record { id = id; depth = length known; branch = at }))

@@ -54,7 +54,7 @@ child-below nodes o label n k e =
     let at = index_found (oids_of nodes) (o ++ n ∷ []) k (child-id nodes o label n k e) in
     omega (arith, up_to_highest (oids_of nodes) k at.0, ap last_number at.1, last_number-push o n)
 
--- `child_of`, which is computed, is the first child; by `child_is`, no other node is
+-- `child_of`, which is computed, is the first child of `o` with the label, or `None` if there is none; by `child_is`, no other result is
 pub child_first : (nodes : List Node) (o label : List ℕ) → IsFirstChild nodes o label (child_of nodes o label)
 child_first nodes o label = of_lowest-lowest (child_at nodes o label) (suc (highest (oids_of nodes))) (child-below nodes o label)
 
@@ -86,8 +86,8 @@ module _ (nodes : List Node) (o label : List ℕ) where
       let named : m.0.label ≡ label = sym (label-of (λ (m : Node). m.label) nodes k m.0 m.1) ∙ at in
       grind (arith, common_steps, e, m.1, named, same_itself label)
 
-  -- if `old` has the lowest number of the children from index `from` on, and the label is at no index after `p` and before `from`, then the lower one of
-  -- `old` and the child at index `p` has the lowest number from `p` on
+  -- if `old` has the lowest number of the children whose index is at least `from`, and the label is at no index after `p` and before `from`, then the lower
+  -- one of `old` and the child at index `p` has the lowest number of the children whose index is at least `p`
   lower : (from p : ℕ) (old new : Option (ℕ × ℕ)) → IfSome old (λ c. child_at nodes o label c.0 ≡ Some c.1)
       → ((n k : ℕ) → child_at nodes o label n ≡ Some k → from ≤ k → IsSomeAnd old (λ c. c.0 ≤ n)) → p < length nodes
       → label_at (labels_of nodes) p ≡ label → ((k : ℕ) → label_at (labels_of nodes) k ≡ label → k < length nodes → k < from → k ≤ p)
@@ -112,15 +112,15 @@ module _ (nodes : List Node) (o label : List ℕ) where
           → IsSomeAnd new (λ d. d.0 ≤ n)
       trans n old new a b = grind (arith, common_steps)
 
-  -- if `old` has the lowest number from index `id` on, and `p` is the previous index of the label, then the lower one of `old` and the child at index `p` has
-  -- the lowest number from `p` on
+  -- if `old` has the lowest number of the children from index `id` on, and `p` is the previous index of the label, then the lower one of `old` and the child
+  -- at index `p` has the lowest number of the children from `p` on
   pub search_moves : {id p : ℕ} {old new : Option (ℕ × ℕ)} → IsLowestFrom nodes o label id old → IsPrevious (labels_of nodes) (length nodes) id p
       → IsLowerChild (oids_of nodes) o old p new → IsLowestFrom nodes o label p new
   search_moves {id = id} {p = p} {old = old} {new = new} at next l =
       lower id p old new at.is at.least next.within (next.same ∙ at.labelled)
       (λ k is inside l. grind (arith, cases_lt p k, next.between k, l, is, at.labelled)) l
 
-  -- `first` is the first node with the label
+  -- `first` is the index of the first node with the label
   module _ (first : ℕ) (e : Some first ≡ index_anywhere nodes label) where
     is_first : IsFirstOf (labels_of nodes) label first
     is_first = first_of (λ (n : Node). n.label) nodes label first (sym e)
@@ -134,14 +134,14 @@ module _ (nodes : List Node) (o label : List ℕ) where
     pub within : first < length nodes
     within = omega (arith, is_first.within, all)
 
-    -- the child at the last index of the label has the lowest number from there on
+    -- the search begins: `p` is the last index of the label, so a child at `p` has the lowest number of the children from `p` on
     pub search_begins : {p : ℕ} {new : Option (ℕ × ℕ)} → IsPrevious (labels_of nodes) (length nodes) first p
         → IsLowerChild (oids_of nodes) o None p new → IsLowestFrom nodes o label p new
     search_begins {p = p} {new = new} at l = let named = at.same ∙ is_first.is in
         lower (length nodes) p None new tt (λ n k f le. omega (arith, (there n k f).0, le)) at.within named
         (λ k is inside _. (at.around (after p named at.within) k inside (is ∙ sym is_first.is)).1) l
 
-    -- the previous index of the label is lower, unless `id` is the first one
+    -- if `id` isn't the first index of the label, then the previous index `p` is below `id`
     pub search_falls : {id p : ℕ} {old : Option (ℕ × ℕ)} → IsLowestFrom nodes o label id old → id ≢ first
         → IsPrevious (labels_of nodes) (length nodes) id p → p < id
     search_falls {id = id} {p = p} at other next = elim (cases_lt p id) [
@@ -150,7 +150,7 @@ module _ (nodes : List Node) (o label : List ℕ) where
           absurd (other (omega (arith, a.0, after id at.labelled at.within))))
     ]
 
-    -- if `child` has the lowest number from the first index of the label on, it is the first child
+    -- the search ends: if `child` has the lowest number of the children from the first index of the label on, it is the first child
     pub search_ends : {id : ℕ} {child : Option (ℕ × ℕ)} {r : Option ℕ} → id ≡ first → IsLowestFrom nodes o label id child
         → r ≡ option_map (λ c. c.1) child → IsFirstChild nodes o label r
     search_ends {id = id} {child = child} end at is = rw is (by child at)

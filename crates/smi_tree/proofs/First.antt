@@ -62,7 +62,7 @@ module _ {A : Type 0} (t : A → Bool) where
   pub of_prefix : (xs : List A) (n k : ℕ) → position_from t 0 (take n xs) ≡ Some k → position_from t 0 xs ≡ Some k
   of_prefix xs n k e = rw take-append-drop at (append-from 0 (take n xs) (drop n xs)) ∙ rw e refl
 
--- if the first item that passes `t` also passes `g`, it is the first that passes both
+-- if no item passes `t`, then none passes both `g` and `t`; if the first item that passes `t` also passes `g`, it is the first that passes both
 module _ {A : Type 0} (g t : A → Bool) (xs : List A) where
   pub both_none : position_from t 0 xs ≡ None → position_from (λ y. g y && t y) 0 xs ≡ None
   both_none e = grind (arith, common_steps, first t xs, none_first, and-false)

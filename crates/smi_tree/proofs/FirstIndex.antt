@@ -1,4 +1,4 @@
--- If an identifier has a first index, then it is in the list there (`index_found`). The index stays if another one is appended (`index_push_other`).
+-- If an identifier has a first index, then it is in the list there (`index_found`). The index stays if another identifier is appended (`index_push_other`).
 use Rattle.std.proofs.{lemmas.Grind.common_steps, lemmas.Option.slice_get_within, lemmas.Option.get_or_from_slice_get}
 use Rattle.std.proofs.Common.{◌≡◌, ◌≢◌, ℕ, ◌<◌, cond, List, [], ◌∷◌, ◌++◌, length, Some, None, arith, nat_eq}
 use Rattle.std.specs.Cmp.Lexicographic.{pointwise, bytes_decides}

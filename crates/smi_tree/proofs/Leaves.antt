@@ -9,7 +9,7 @@ use Rattle.snmp_oid.specs.Identifier.{IsBelow}
 use Rattle.smi_tree.specs.declared.branches.branch.Branch.{Branch}
 use Rattle.smi_tree.proofs.{BranchLists.indices_off, BranchLists.id_way, FirstIndex.index_found, BranchWalks.walk_push}
 
--- if no number follows a branch, no identifier is below the one whose index is stored there
+-- if no number follows a branch, then no identifier is below the identifier whose index is stored at the branch
 pub none_below : (oids : List (List ℕ)) (bs : List Branch) → AreBranchesOf oids bs → (at id : ℕ) → id_at bs at ≡ Some id
     → ((n : ℕ) → follower bs at n ≡ None) → HasNoneBelow oids (oid_at oids id)
 none_below oids bs are at id is_at ends p ([], some, is) = absurd (some refl)
@@ -35,7 +35,7 @@ deepest_below oids o p root id depth at read last (rest, some, is) =
       );
     }
 
--- if no identifier is below the one at an index, and that was read, then none is below what was read
+-- if `r` is `None` or has the value of the identifier at index `id`, and no identifier of the list is below that one, then none is below the value of `r`
 pub last_if_some : {X : Type 0} (value : X → List ℕ) (r : Option X) (oids : List (List ℕ)) (id : ℕ) → IfSome r (λ o. value o ≡ oid_at oids id)
     → HasNoneBelow oids (oid_at oids id) → IfSome r (λ o. HasNoneBelow oids (value o))
 last_if_some value r oids id at last = grind (arith, common_steps)

@@ -40,7 +40,7 @@ up_to oids o (suc j) within above = by (first_index oids (take (suc j) o)) refl 
     by None e rest = rest (λ k more l. elim (cases_eq k (suc j)) [ inl same ↦ rw same e | inr other ↦ above k (omega arith) l ])
     by (Some id) e rest = record { within = within; here = e; none_longer = above }
 
--- if a search finds the longest prefix, or that there is none, it finds what is computed
+-- if the result `r` of a search is the longest prefix of `o` in the list, or `None` if no prefix is in it, then `r` is what `longest_up_to` computes
 pub longest_found : {D : Type 0} (of : D → Longest) (oids : List (List ℕ)) (o : List ℕ) (r : Option D)
     → MatchOption r (HasNoBeginning oids o) (λ d. IsDeepestAt oids o (of d).id (of d).depth) → option_map of r ≡ longest_up_to oids o (length o)
 longest_found of oids o r h = grind (arith, common_steps, longest-none, longest-some)

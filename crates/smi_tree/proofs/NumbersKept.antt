@@ -41,7 +41,7 @@ kept_right ms all are (Some s) f names e h = index_right ms all are s.names name
 same_key : (i k : ℕ) → is_at (nat_cmp i) k ≡ true → i ≡ k
 same_key i k e = grind (arith, common_steps)
 
--- if the index of one more definition is inserted, each index still belongs to the definition that its key refers to
+-- if the index of the named numbers or bits of one more definition is inserted, each index still belongs to the definition that its key refers to
 pub inserted : (defs : List Def) (old new : BTreeMap ℕ NumberIndex) (i : ℕ) (def : Def) (index : NumberIndex) → AreNumbersOf defs old
     → slice_get defs i ≡ Some def → IsIndexIn def index → Updates nat_cmp old new i (Some index) → AreNumbersOf defs new
 inserted defs old new i def index are at right updates k d e = rw (updates.0 k) (by (is_at (nat_cmp i) k) refl)

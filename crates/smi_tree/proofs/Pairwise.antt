@@ -5,7 +5,7 @@ use Rattle.std.specs.List.{slice_get}
 use Rattle.smi_tree.specs.Pairwise.{ArePairwise}
 use Rattle.smi_tree.proofs.Lists.{get_within, get_push}
 
--- `xs` has `i` items, and each is in relation `R` with the item of `ts` at the same index
+-- `xs` has `i` items, and each is in relation `R` with the item of `ts` at the same index, if there is one
 pub record AreFirst {A X : Type 0} (R : ℕ → A → X → Type 0) (ts : List A) (i : ℕ) (xs : List X) : Type 0 where
   pub long : length xs ≡ i
   pub each : (p : ℕ) (t : A) (x : X) → slice_get ts p ≡ Some t → slice_get xs p ≡ Some x → R p t x

@@ -1,4 +1,4 @@
--- For each label, the last index before with the same label.
+-- The previous index of a label (`IsPrevious`): the last index before it with the same label, or, for the first index, the last one with the label.
 use Rattle.std.proofs.Common.{◌≡◌, ℕ, ◌+◌, ◌<◌, ◌≤◌, List, [], ◌∷◌, ◌++◌, length, map, get_or, Some, slice_index_or, inl, inr, refl, sym, ◌∙◌, arith}
 use Rattle.std.proofs.lemmas.{Grind.elements, List.length-map, Bool.cases_eq, Bool.cases_lt}
 use Rattle.std.proofs.lemmas.Option.{slice_get-map, slice_get-get_or, slice_get_within, get_or_from_slice_get}
@@ -18,7 +18,7 @@ pub record IsFirstOf (labels : List (List ℕ)) (x : List ℕ) (f : ℕ) : Type 
 pub label-of : {A : Type 0} (name : A → List ℕ) (xs : List A) (j : ℕ) (y : A) → slice_get xs j ≡ Some y → label_at (map name xs) j ≡ name y
 label-of name xs j y e = get_or_from_slice_get (map name xs) j (name y) [] (slice_get-map name xs j ∙ rw e refl)
 
--- the first index of a name is its first index in the list of names
+-- if `f` is the index of the first item named `x`, then `f` is the first index of `x` in the list of the items' names
 pub first_of : {A : Type 0} (name : A → List ℕ) (xs : List A) (x : List ℕ) (f : ℕ) → position_from (λ y. same_text (name y) x) 0 xs ≡ Some f
     → IsFirstOf (map name xs) x f
 first_of name xs x f e =
@@ -38,7 +38,8 @@ pub first_at : (ms : List Module) (ss : List Source) (k f : ℕ) (d : Source) �
 first_at ms ss k f d inside e =
     rw (label-of (label_from ms) ss k (get_or ss k d) (slice_get-get_or ss k d inside)) (first_of (label_from ms) ss (label_from ms (get_or ss k d)) f e)
 
--- if `f` is the first index of the label at index `n`, and `n` is appended and exchanged with the item at index `f`, the list is right for one label more
+-- if `old` is right for `n` labels, and `f` is the first index of the label at index `n`, then `old` is right for `n + 1` labels after `n` is appended and
+-- exchanged with the item at index `f`
 pub previous-more : (labels : List (List ℕ)) (n f : ℕ) (old new : List ℕ) → n < length labels → IsFirstOf labels (label_at labels n) f
     → ArePrevious labels n old → length new ≡ n + 1 → SwappedAt (old ++ n ∷ []) new f n → ArePrevious labels (n + 1) new
 previous-more labels n f old new inside g are long swapped = record { long = long; each = each }

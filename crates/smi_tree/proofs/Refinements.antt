@@ -88,7 +88,7 @@ module _ (ms : List Module) (at : ℕ × ℕ) (d : Def) (there : def_at ms at.0 
 pub by_facts : (N : Type 0) (P : Facts → Type 0) (r : Option TypeSyntax) → MatchOption (option_map facts_of r) N P → MatchOption r N (λ s. P (facts_of s))
 by_facts N P r h = grind (arith, common_steps)
 
--- if the stored syntaxes of the definitions of each module are right, so is the one at any two indices
+-- if the stored syntaxes of each module are right (`AreKeptOfAll`), then so is the syntax that is stored for definition `j` of module `i`
 pub are_types : (ms : List Module) (os : List (Vec (Option KeptSyntax) Global)) → AreKeptOfAll ms os → (i j : ℕ)
     → IsKept ms (object_origin ms i j) (option_and_then (λ v. option_at v.items j) (slice_get os i))
 are_types ms os are i j = by (slice_get ms i) (slice_get os i) refl refl

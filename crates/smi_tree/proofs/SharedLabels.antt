@@ -26,15 +26,15 @@ indices_decide name xs a b j k e f =
     let g = named name xs a j e in let h = named name xs b k f in
     grind (arith, common_steps, same a b, same_itself b, g.1, g.2, h.1, h.2)
 
--- whether there is a key and it is `other`
+-- whether there is a key and this is `other`
 abbrev pub fits : Option (ℕ × ℕ) → ℕ × ℕ → Bool
 fits None other = false
 fits (Some key) other = same_key key other
 
 module _ (ms : List Module) (homes : NameIndices) (ss : List Source) (old new : Others) (k f : ℕ) (d : Source)
     (placed : (x : List ℕ) → index_in homes x ≡ module_index ms x) (inside : k < length ss) where
-  -- if `old` is right for the first `k` sources, and `new` is `old` with `k` at the key of the source at index `k`, if this has a key and `old` has nothing at
-  -- it, then `new` is right for `k + 1` sources
+  -- if `old` is right for the first `k` sources, and `new` is `old` with `k` inserted under the key of the source at index `k`, unless this source has no key
+  -- or `old` has its key already, then `new` is right for the first `k + 1` sources
   pub others-more : position_from (has_label ms (label_from ms (get_or ss k d))) 0 ss ≡ Some f
       → ((y : ℕ × ℕ) → get same_key new y ≡ or_else (get same_key old y) (cond (fits (key_of ms homes (get_or ss k d) f k) y) (Some k) None))
       → AreOthers ms ss old (take k ss) → AreOthers ms ss new (take (k + 1) ss)
@@ -64,14 +64,15 @@ module _ (ms : List Module) (homes : NameIndices) (ss : List Source) (old new : 
       key : fits (key_of ms homes s f k) (p, g) ≡ is_of ms home x s
       key = rw (← indices_decide (label_from ms) ss (label_from ms s) x f g labelled begins) (by (f == k) refl (home_from ms s) refl)
 
--- if `f` is the index of the label after the source at index `k` is entered, it is the index of the first source with that label
+-- if `labels` is right for the first `k` sources, and `f` is the index that it has for the label of the source at index `k`, or `k` if it has none, then `f`
+-- is the index of the first source with that label
 pub first_is : (ms : List Module) (labels : NameIndices) (ss : List Source) (k f : ℕ) (d : Source) → k < length ss
     → ((x : List ℕ) → index_in labels x ≡ position_from (has_label ms x) 0 (take k ss))
     → f ≡ unwrap_or (index_in labels (label_from ms (get_or ss k d))) k → position_from (has_label ms (label_from ms (get_or ss k d))) 0 ss ≡ Some f
 first_is ms labels ss k f d inside are is = let x = label_from ms (get_or ss k d) in
     grind (arith, common_steps, of_prefix (has_label ms x) ss (k + 1) f, more (has_label ms x) ss k d inside, same_itself x, are x)
 
--- if no module has this name, no source is in it
+-- if no module is named `home`, then no source is in a module of this name
 pub no_module : (ms : List Module) (ss : List Source) (home x : List ℕ) → module_index ms home ≡ None → position_from (is_of ms home x) 0 ss ≡ None
 no_module ms ss home x e = none_first (is_of ms home x) ss (λ i s l at. rw (none s) refl)
   where

@@ -74,7 +74,7 @@ root-word = root-case (λ n. is_word n.label ≡ true) refl refl refl
 root-home : (k : ℕ) (n : Node) → slice_get roots k ≡ Some n → n.home ≡ None
 root-home = root-case (λ n. n.home ≡ None) refl refl refl
 
--- if a root has this label, its identifier is found at its index
+-- if a root has the label `x`, then its index `k` is the index of the same identifier in the list of all nodes, which begins with the roots
 pub roots_first : (ns : List Node) (x : List ℕ) (k : ℕ) → Some k ≡ index_anywhere roots x
     → oid_of (roots ++ ns) (Some k) ≡ oid_of roots (index_anywhere roots x)
 roots_first ns x (suc (suc (suc k))) e = grind (arith, common_steps, first)

@@ -36,7 +36,7 @@ gathered ms m _ _ _ k n first there (more ds d ns more_nodes ws more_warnings g 
   | inr f ↦ returned ms m d (length ds) (identifier_value_of d.kind) more_nodes more_warnings f.0 n first (there (length ds) d (get_at_push ds d)) gives f.1
 ]
 
--- if a module is the first of its name, it stays the first when another is appended; if the appended one has a new name, it is the first of that name
+-- if `f` is the first of the modules `ms` that is named `x`, it stays the first when the module `m` is appended
 named-more : (ms : List Module) (m : Module) (x : List ℕ) (f : Module) → module_named ms x ≡ Some f → module_named (ms ++ m ∷ []) x ≡ Some f
 named-more [] m x f e = cc
 named-more (y ∷ ms) m x f e = grind (arith, common_steps, named-more ms m x f)

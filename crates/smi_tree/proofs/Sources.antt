@@ -34,7 +34,7 @@ module _ (ms : List Module) where
   node-at [] os l k s e = grind (arith, common_steps)
   node-at (x ∷ ss) os l k s e = grind (arith, common_steps, node-at ss)
 
-  -- if a test of nodes is a test of their sources, it finds the same index in both lists
+  -- if a node passes the test `t` if and only if its source passes `u`, then `t` finds the same index in the list of nodes as `u` in the list of sources
   position-nodes : (t : Node → Bool) (u : Source → Bool) → ((s : Source) (o : List ℕ) → t (node_from ms s o) ≡ u s)
       → (ss : List Source) (os : List (List ℕ)) (b : ℕ) → length ss ≡ length os → position_from t b (nodes_of ms ss os) ≡ position_from u b ss
   position-nodes t u e [] os b l = refl

@@ -1,4 +1,5 @@
--- Look-ups of sources by name, and maps from names to indices.
+-- Look-ups of sources by name, and maps from names to indices. A source is what a node comes from:
+-- a root or a definition.
 use Rattle.std.specs.Prelude.{◌≡◌, ◌≢◌, ℕ, ◌<◌, ◌≤◌, ◌==◌, ◌&&◌, Bool, false, List, [], length}
 use Rattle.std.specs.Prelude.{if◌then◌else◌, Option, Some, None, option_map, slice_index_or}
 use Rattle.std.specs.{Option.option_and_then, List.slice_get, List.position_from}
@@ -33,7 +34,7 @@ abbrev pub is_of : List Module → List ℕ → List ℕ → Source → Bool
 is_of ms home x s = is_named home (home_from ms s) && has_label ms x s
 
 -- a map to the index of a label's first source in a module; the key is the index of the module,
--- and the index of the label's first source in any module
+-- and the index of the label's first source in the whole list
 abbrev pub Others : Type 0
 Others = IndexMap (ℕ × ℕ) ℕ NameHash
 

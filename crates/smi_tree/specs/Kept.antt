@@ -23,11 +23,11 @@ contents ms ss os types indexes = record {
   indexes = indexes;
 }
 
--- what a `Tree` stores is the tree of its modules, `ms`; `of_homes` has the index of the first
--- module of each name, `of_labels` the index of the first source with each label, and `of_others`
--- the index of the first one in each other module, if there is one; `of_previous` has, for each
--- source, the last one before it with the same label; for a label's first source, the last one
--- with this label; the indexes of named numbers or bits in `types` belong to the lists in `ms`
+-- What a `Tree` stores is the tree of its modules, `ms`. `of_homes` has the index of the first
+-- module of each name, and `of_labels` the index of the first source with each label. `of_others`
+-- has the index of a label's first source in any other module. `of_previous` has for each source
+-- the last one before it with the same label; for a label's first source, the last one with this
+-- label. The indexes of named numbers or bits in `types` belong to the lists in `ms`.
 pub record IsTreeKept (ms : List Module) (ss : List Source) (os : List (List ℕ)) (types : Types)
     (indexes : List (Option (List IndexPart))) (of_homes of_labels : NameIndices)
     (of_others : Others) (of_previous : List ℕ) : Type 0 where
@@ -48,7 +48,7 @@ load_kept ms r = record {
   key = r.key;
 }
 
--- what a load stores is what a tree stores, and each of its maps has the key `r.key`
+-- what a load stores satisfies `IsTreeKept`, and each of its maps has the key `r.key`
 pub record IsLoadKept (ms : List Module) (r : Resolved) (of_homes : NameIndices)
     (indices : LabelIndices) : Type 0 where
   pub kept : IsTreeKept ms r.sources.items r.identifiers r.types r.indexes of_homes indices.labels

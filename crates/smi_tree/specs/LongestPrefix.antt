@@ -1,4 +1,4 @@
--- The node of the longest prefix of an identifier that has one.
+-- The longest prefix of an identifier that is in a list of identifiers, or that has a node.
 use Rattle.std.specs.Prelude.{ℕ, zero, suc, List, [], length, take, Option, Some, None}
 use Rattle.smi_tree.specs.{branches.FirstIndex.first_index, Nodes.oids_of}
 use Rattle.smi_tree.specs.declared.branches.identifiers.Deepest.{Deepest}
@@ -20,8 +20,9 @@ longest_up_to oids o zero = at_depth 0 (first_index oids [])
 longest_up_to oids o (suc j) =
     or_else (at_depth (suc j) (first_index oids (take (suc j) o))) (longest_up_to oids o j)
 
--- the node of the longest prefix of `o` that has one, or `None` if no prefix has one; it is
--- computed, and the law `look_ups` describes it by `IsDeepestAt`
+-- the longest prefix of `o` that has a node: the index of the node, and the length of the prefix;
+-- `None` if no prefix of `o` has a node; the law `look_ups` says that what is computed here is this
+-- prefix, by `IsDeepestAt`
 abbrev pub longest : List Node → List ℕ → Option Longest
 longest nodes o = longest_up_to (oids_of nodes) o (length o)
 

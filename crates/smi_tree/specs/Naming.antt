@@ -57,7 +57,7 @@ is_module_loaded tree home = is_some (module_named tree.modules home)
 unfoldable pub oid_in_module : Contents → List ℕ → List ℕ → Option (List ℕ)
 oid_in_module tree home label = oid_of tree.nodes (index_in_module tree.nodes home label)
 
--- the identifier of the first node with this label, the roots before all others
+-- the identifier of the first node with this label
 unfoldable pub oid_anywhere : Contents → List ℕ → Option (List ℕ)
 oid_anywhere tree label = oid_of tree.nodes (index_anywhere tree.nodes label)
 
@@ -69,18 +69,18 @@ oid_of_root label = oid_of roots (index_anywhere roots label)
 unfoldable pub oid_of_child : Contents → List ℕ → List ℕ → Option (List ℕ)
 oid_of_child tree o label = oid_of tree.nodes (child_of tree.nodes o label)
 
--- the node of the longest prefix of `o` that has one
+-- the node of the longest prefix of `o` that has a node
 unfoldable pub nearest_node : Contents → List ℕ → Option NodeView
 nearest_node tree o = option_and_then (view_of_longest tree) (longest tree.nodes o)
 
--- the definition of the node of the longest prefix of `o` that has one; `None` for a root, or if
--- no prefix has a node
+-- the definition of the node of the longest prefix of `o` that has a node; `None` if that node is a
+-- root, or if no prefix has a node
 unfoldable pub nearest_definition : Contents → List ℕ → Option Def
 nearest_definition tree o =
     option_and_then (λ l. option_and_then (λ n. n.definition) (slice_get tree.nodes l.id))
     (longest tree.nodes o)
 
--- the syntax, for showing values, of the node of the longest prefix of `o` that has one
+-- the syntax, for showing values, of the node of the longest prefix of `o` that has a node
 unfoldable pub nearest_syntax : Contents → List ℕ → Option ObjectSyntax
 nearest_syntax tree o =
     option_and_then (λ l. shown_at tree.nodes tree.syntaxes l.id) (longest tree.nodes o)

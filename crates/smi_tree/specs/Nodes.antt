@@ -38,14 +38,14 @@ abbrev pub if_labelled : List Node → List ℕ → Option ℕ → Option ℕ
 if_labelled nodes label None = None
 if_labelled nodes label (Some k) = if is_labelled nodes label k then Some k else None
 
--- the result is `Some k` if `f` returns this for the lowest number for which it isn't `None`, or
--- `None` if there is no such number
+-- the result is what `f` returns for the lowest number for which `f` isn't `None`, or `None` if
+-- `f` is `None` for all numbers
 pub data IsOfLowest (f : ℕ → Option ℕ) : Option ℕ → Type 0 where
   nothing : ((n : ℕ) → f n ≡ None) → IsOfLowest f None
   lowest : (n k : ℕ) → f n ≡ Some k → ((m : ℕ) → m < n → f m ≡ None) → IsOfLowest f (Some k)
 
--- the result of `f` for the lowest number for which `f` isn't `None`, if that is below a bound;
--- otherwise `None`
+-- the result of `f` for the lowest number for which `f` isn't `None`, if that number is below the
+-- bound, the second argument; otherwise `None`
 unfoldable pub of_lowest : (ℕ → Option ℕ) → ℕ → Option ℕ
 of_lowest f zero = None
 of_lowest f (suc n) = or_else (of_lowest f n) (f n)

@@ -17,8 +17,9 @@ pub record Contents : Type 0 where
   pub indexes : List (Option (List IndexPart))
 
 -- `tree` has `modules`, the roots, and then the nodes of `modules`; `warnings` are the warnings
--- about `modules`; each node that is an object has the syntax that its chain of types defines, and
--- each column the index by the INDEX or AUGMENTS clause of its row, if there are such
+-- about `modules`; each node that is an object has the syntax that its chain of types defines, if
+-- it defines one; each column has the index that the INDEX or AUGMENTS clause of its row defines,
+-- if it defines one
 pub record IsTree (modules : List Module) (tree : Contents) (warnings : List Warning)
     : Type 0 where
   pub passed : tree.modules ≡ modules

@@ -18,10 +18,10 @@ use std::alloc::{AllocError, Global};
 /// A map from names to indices.
 pub(crate) type Indices = IndexMap<NameBuf, usize, NameHash>;
 
-/// A map to the index of a label's first source in a module, for a label whose first source of all
-/// isn't in that module. The key is the index of the module and the index of the label's first
-/// source of all. (A source is where a node comes from, a root or a definition. It has the same
-/// index as the node.)
+/// A map to the index of a label's first source in a module. It is read only for a label whose
+/// first source of all isn't in that module. The key is the index of the module and the index of
+/// the label's first source of all. (A source is what a node comes from, a root or a definition.
+/// It has the same index as the node.)
 pub(crate) type Others = IndexMap<(usize, usize), usize, NameHash>;
 
 /// For each label, the indices of the sources with it.
@@ -62,8 +62,8 @@ pub(crate) fn homes(
 }
 
 /// Returns the key in [`Others`] of the source at index `index`, whose label has its first source
-/// at index `first`. Returns `None` for that first source, for a root, and if `homes` doesn't have
-/// the name of the source's module.
+/// at index `first`. Returns `None` for that first source, for a root, and if `modules` doesn't
+/// have the source's module or `homes` doesn't have its name.
 fn key_of(
     modules: &[Module],
     homes: &Indices,

@@ -1,4 +1,4 @@
-//! What a tree finds for an identifier: the node of the longest prefix that has one.
+//! What a tree finds for an identifier: the node of the longest prefix that has a node.
 ghost use Rattle.std.specs.{Prelude.◌≡◌, Option.option_copied};
 ghost use Rattle.smi_names.specs.nodes.Nodes.{roots};
 ghost use Rattle.smi_tree.specs.{Naming.home_name, Nodes.index_anywhere};
@@ -26,7 +26,7 @@ impl Near {
 /// What a tree finds for an identifier.
 #[derive(Drop)]
 pub struct Found<'a> {
-    /// The node of the longest prefix of the identifier that has one.
+    /// The node of the longest prefix of the identifier that has a node, if any prefix has one.
     pub node: Option<NearestNode<'a>>,
     /// The syntax of that node, if it is an object that has one.
     pub syntax: Option<ValueSyntax<'a>>,
@@ -35,16 +35,17 @@ pub struct Found<'a> {
     pub below: Option<&'a StoredOid>,
 }
 
-/// A node that is found for an identifier: the node of its longest prefix that has one.
+/// A node that is found for an identifier: the node of the longest prefix of the identifier that
+/// has a node.
 #[derive(Clone, Copy, Debug)]
 pub struct NearestNode<'a> {
-    /// The name of its module; `None` for a built-in root.
+    /// The name of the node's module; `None` for a built-in root.
     pub home: Option<&'a [u8]>,
-    /// Its label.
+    /// The node's label.
     pub label: &'a [u8],
-    /// The number of numbers in its identifier.
+    /// The number of numbers in the node's identifier.
     pub depth: usize,
-    /// The parts of its index; `None` if it isn't a column or its index can't be read.
+    /// The parts of the node's index; `None` if the node isn't a column or its index can't be read.
     pub index: Option<&'a [IndexPart]>,
 }
 

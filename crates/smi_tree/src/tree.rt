@@ -35,7 +35,8 @@ use snmp_oid::{Oid, StoredOid};
 use std::alloc::{AllocError, Global};
 use std::marker::Model;
 
-/// The index of a node in order of loading, the roots first. It is below the tree's `len()`.
+/// The index of a node in order of loading, the roots first. Each index that a tree returns is
+/// below its `len()`.
 pub type NodeId = usize;
 
 /// A tree of names: the nodes of the roots `ccitt`, `iso` and `joint-iso-ccitt`, followed by the
@@ -45,7 +46,7 @@ pub type NodeId = usize;
 /// the calls that load a tree allocate.
 pub struct Tree {
     modules: Vec<Module>,
-    /// Where each node comes from.
+    /// What each node comes from: a root or a definition.
     sources: Vec<Source>,
     /// The identifier of each node.
     identifiers: Identifiers,
@@ -183,8 +184,8 @@ impl Tree {
         find(&self.labels, label)
     }
 
-    /// Returns the node of the longest prefix of `oid` that has one, and the numbers of `oid`
-    /// after that prefix: all of them if there is no such node. `oid` itself counts as a prefix.
+    /// Returns the node of the longest prefix of `oid` that has a node, and the numbers of `oid`
+    /// after that prefix: all of them if no prefix has a node. `oid` itself counts as a prefix.
     pub fn deepest<'o>(&self, oid: &'o Oid) -> (Option<NodeId>, &'o [u32])
         ensures deepest { let oids = oids_of self.now.nodes in MatchOption result.0
             (HasNoBeginning oids oid.now × (result.1.now ≡ oid.now))
@@ -282,7 +283,7 @@ impl Tree {
         self.oid_of(self.child(oid, label))
     }
 
-    /// Returns the node of the longest prefix of `oid` that has one.
+    /// Returns the node of the longest prefix of `oid` that has a node, if any prefix has one.
     pub fn nearest(&self, oid: &Oid) -> Option<NearestNode<'_>>
         ensures { option_map view_of result ≡ nearest_node self.now oid.now }
     {
@@ -365,7 +366,7 @@ impl Tree {
 }
 
 impl Tree {
-    /// Returns the node `id`, if there is one. `inline(always)`, so that parts that a caller
+    /// Returns the node `id`, if there is one. It is `inline(always)`, so that parts that a caller
     /// doesn't read aren't looked up.
     #[inline(always)]
     fn node_at(&self, id: NodeId) -> Option<Node<'_>>
@@ -386,7 +387,8 @@ impl Tree {
         &self.identifiers
     }
 
-    /// Returns the identifier of the node `id`, if one was found.
+    /// Returns the identifier of the node `id`. Returns `None` if `id` is `None` or no node has
+    /// this index.
     fn oid_of(&self, id: Option<NodeId>) -> Option<&StoredOid>
         ensures { option_copied result ≡ oid_of self.now.nodes id }
     {
@@ -427,8 +429,8 @@ impl Tree {
         source_syntax(&self.types, &self.modules, source, self.units(id))
     }
 
-    /// Returns the node of the longest prefix of `oid` that has one, with the length of that
-    /// prefix. The search begins at the node that was found last, if `oid` is below it.
+    /// Returns the node of the longest prefix of `oid` that has a node, with the length of that
+    /// prefix. The search begins at the node that was found last, if `oid` is below that node.
     #[tactic(auto, using(crate::proofs::Sources::oids_nodes, crate::proofs::LongestPrefix::longest_found))]
     fn deepest_near(&self, oid: &Oid, near: &mut Near) -> Option<Deepest>
         ensures deepest { MatchOption result (HasNoBeginning (oids_of self.now.nodes) oid.now)

@@ -1,5 +1,5 @@
 //! The syntax of objects: what their chains of types define, through textual conventions, assigned
-//! types and imports. Each type is visited once.
+//! types and imports. Each type is visited at most once.
 //!
 //! Depends on module trees and on what decides their names. The tree of names stores the types of
 //! its modules, and uses them to show values and to read indexes.
@@ -28,10 +28,10 @@ use std::alloc::{AllocError, Global};
 
 /// A syntax as it is stored, with the definitions that have its hint, its named numbers or bits,
 /// and its SIZE. Each definition is stored as the index of its module and its index in the module.
-/// The name of a type resolves to such a syntax too.
+/// The meaning of a type's name is a `KeptSyntax` too.
 #[derive(Clone, Copy)]
 pub(crate) struct KeptSyntax {
-    /// The base type at the end of the chain.
+    /// The base type at the end of the chain of types.
     base: TypeBase,
     /// The first definition on the chain that has a display hint, if there is one.
     hint: Option<(usize, usize)>,
@@ -135,8 +135,8 @@ impl Types {
         })
     }
 
-    /// Returns the index that is stored of the names in the syntax of an OBJECT-TYPE, if they are
-    /// many.
+    /// Returns the stored index of the named numbers or bits in the syntax of an OBJECT-TYPE, if
+    /// one is stored. Only long lists have one.
     pub(crate) fn stored_index(&self, module_index: usize, def_index: usize) -> Option<&NumberIndex>
         ensures { option_copied result ≡ kept_index self.now module_index def_index }
     {
@@ -202,7 +202,7 @@ fn nearer(states: bool, at: (usize, usize), far: Option<(usize, usize)>) -> Opti
 }
 
 /// Returns the syntax of the type that `simple` refines by name in the module named `home`.
-/// Returns `None` if that has no syntax, or `simple` refines a base type.
+/// Returns `None` if that type has no syntax, or if `simple` refines a base type.
 fn parent_syntax<'a>(
     entries: &Entries<'_, 'a>,
     types: &[Option<KeptSyntax>],

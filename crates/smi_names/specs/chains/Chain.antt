@@ -1,7 +1,7 @@
 -- Chains: the identifier of a thing is its own numbers, or the identifier of another thing
--- followed by its own numbers, or the thing has none. In a module text the things are names: a
--- defined name can refer to its parent, and an imported name refers to the same name in the module
--- after FROM (RFC 2578, sections 3.2 and 7.10).
+-- followed by its own numbers; or the thing has no identifier. In a module text the things are
+-- names: a defined name can refer to its parent, and an imported name refers to the same name in
+-- the module after FROM (RFC 2578, sections 3.2 and 7.10).
 use Rattle.std.specs.Prelude.{◌≡◌, ℕ, List, ◌++◌, Option, Some, None}
 
 -- the origin of a thing's identifier. `numbers ns`: the identifier is `ns`. `after b ns`: it is
@@ -17,7 +17,7 @@ next_of (numbers ns) = None
 next_of (after b ns) = Some b
 next_of nowhere = None
 
--- the chain of `a` has an end: `a` refers to nothing, or to a thing whose chain has an end
+-- the chain of `a` has an end: `next a` is `None`, or a thing whose chain has an end
 pub data HasEnd {A : Type 0} (next : A → Option A) : A → Type 0 where
   ends : {a : A} → next a ≡ None → HasEnd next a
   refers_on : {a b : A} → next a ≡ Some b → HasEnd next b → HasEnd next a

@@ -6,9 +6,9 @@ use Rattle.smi_names.specs.chains.Chain.{HasIdentifier, EndsNowhere}
 use Rattle.smi_names.specs.declared.chains.shared.Resolution.{Resolution}
 use Rattle.smi_names.specs.declared.chains.shared.Resolution.TheVariants as R
 
--- `ComesTo origin a r`: `a` resolves to `r`. That is its identifier, of at most 128 numbers (RFC
--- 2578, section 3.5), or the reason why it has no such identifier: its chain has no end, its chain
--- ends at a thing without an identifier, or its identifier is longer.
+-- `ComesTo origin a r`: `a` resolves to `r`. `r` is the identifier of `a`, of at most 128 numbers
+-- (RFC 2578, section 3.5), or the reason why `a` has no such identifier: its chain has no end, its
+-- chain ends at a thing without an identifier, or its identifier is longer.
 abbrev pub ComesTo : {A : Type 0} → (A → Origin A) → A → Resolution → Type 0
 ComesTo origin a (R.Numbers o) = HasIdentifier origin a o × (length o ≤ 128)
 ComesTo origin a R.Cycle = HasEnd (λ b. next_of (origin b)) a → ⊥
@@ -54,7 +54,8 @@ abbrev pub HasReasons : List Resolution → Type 0
 HasReasons list =
     (more : List Resolution) × (list ≡ (R.Unresolved ∷ R.Cycle ∷ R.TooLong ∷ []) ++ more)
 
--- the list `new` is `old` with more after it, and has the resolution `r` at the index `at`
+-- `new` is `old` with more resolutions appended, perhaps none, and has the resolution `r` at index
+-- `at`
 pub record GrowsTo (old new : List Resolution) (at : ℕ) (r : Resolution) : Type 0 where
   pub added : List Resolution
   pub grown : new ≡ old ++ added

@@ -10,8 +10,8 @@ use Rattle.smi_names.specs.meaning.Meaning.{QualifiedName, Decision, defined, im
 use Rattle.smi_names.specs.meaning.Meaning.{decision, module_named}
 use Rattle.smi_names.specs.meaning.Scopes.{KnownNames, content_named}
 
--- the name that the name `a` refers to, if any, by what decides its meaning; a definition refers
--- to the name in its own module that `refers_to` returns
+-- the name that the name `a` refers to, if any, by what decides the meaning of `a`; a definition
+-- refers to the name in its own module that `refers_to` returns
 abbrev pub next_by : (Def → Option (List ℕ)) → QualifiedName → Option Decision
     → Option QualifiedName
 next_by refers_to a None = None
@@ -67,16 +67,16 @@ abbrev pub IsMeant : {X : Type 0} → List Module → (Def → Option (List ℕ)
 IsMeant ms refers_to means a x =
     Comes ms refers_to means a x ⊎ ((HasEnd (next_name ms refers_to) a → ⊥) × (x ≡ None))
 
--- for each module that is the first of its name, `found` has at the index of each of its names
--- what that name means
+-- `found` has at the index of each name what the name means, if the name's module is the first of
+-- the modules with the same module name
 abbrev pub AreMeant : {X : Type 0} → KnownNames → (Def → Option (List ℕ))
     → (ℕ × ℕ → Def → Option X → Option X) → List (Option X) → Type 0
 AreMeant k refers_to means found =
     (p : ℕ) (a : QualifiedName) → slice_get k.names p ≡ content_named k.modules a
     → IsMeant k.modules refers_to means a (option_at found p)
 
--- no definition refers to a name: the references for `source_as_meaning`, which returns the
--- indices of a definition's module and of the definition in it
+-- no definition refers to a name; this belongs to `source_as_meaning`, by which a definition means
+-- two indices: the index of its module, and its own index in the module
 abbrev pub refers_to_nothing : Def → Option (List ℕ)
 refers_to_nothing d = None
 
@@ -94,8 +94,8 @@ IsNext k refers_to p to =
     (λ q. (b : QualifiedName) × (next_name k.modules refers_to a ≡ Some b)
     × (slice_get k.names q ≡ content_named k.modules b))
 
--- `next` has for each name the index of the name that it refers to, if it refers to one; that
--- index is past the end if the name there has no meaning
+-- `next` has for each name the index of the name that it refers to, if it refers to one; the index
+-- is past the end if the other name has no meaning
 pub record AreNext (k : KnownNames) (refers_to : Def → Option (List ℕ))
     (next : List (Option ℕ)) : Type 0 where
   pub long : length next ≡ length k.names

@@ -1,4 +1,4 @@
--- The indices of names, and the index that each name refers to.
+-- The index of a name's entry, and the index of the entry that an entry refers to.
 use Rattle.std.specs.Prelude.{◌≡◌, ℕ, ◌==◌, ◌&&◌, Bool, false, List, length, ⊤, Option, Some, None}
 use Rattle.std.specs.Prelude.{option_map, unwrap_or, All}
 use Rattle.indexmap.specs.IndexMap.{hasher_of}
@@ -22,8 +22,9 @@ index_at d at x =
 abbrev pub index_by : Directory → QualifiedName → ℕ
 index_by d p = index_at d (index_in d.homes p.home) p.name
 
--- the index of the entry that entry `e` refers to, if its name refers to a name; the number of
--- entries if that name has no meaning
+-- the index of the entry that entry `e` refers to; `None` if `e` refers to no name, and the number
+-- of entries if it refers to a name without a meaning; a definition refers to what `refers_to`
+-- returns
 abbrev pub next_index : Directory → (Def → Option (List ℕ)) → Entry → Option ℕ
 next_index d refers_to e = option_map (index_by d)
     (next_by refers_to (qualified (content_of e)) (Some (content_of e).decided))
@@ -34,20 +35,23 @@ HaveOneKey d = All (λ scope. hasher_of scope ≡ hasher_of d.homes) d.scopes.it
 
 -- ---- for private functions
 
--- a stored parent of an imported name is the index of the same name in the module after FROM
+-- each item that `d.parents` has for an imported name is the index of the entry of the same name in
+-- the module after FROM
 abbrev pub KeepsImports : Directory → Type 0
 KeepsImports d =
     (p : ℕ) (e : Entry) (i : Import) (to : Option ℕ) → slice_get d.entries.items p ≡ Some e
     → decision_of e.decider ≡ imported i → slice_get d.parents.items p ≡ Some to
     → to ≡ Some (index_by d (record { home = i.source.octets; name = e.name.now }))
 
--- nothing was looked up, or `f` holds a name with the indices of its module and its entry
+-- nothing was looked up, or `f.at` is the index of the module named `f.home`, if there is one, and
+-- `f.index` is the index of the entry of `f.name` in that module, or the number of entries if there
+-- is no such entry
 abbrev pub IsFound : Directory → Option Found → Type 0
 IsFound d None = ⊤
 IsFound d (Some f) = (f.at ≡ index_in d.homes f.home.now)
     × (f.index ≡ index_by d (record { home = f.home.now; name = f.name.now }))
 
--- the entry exists, and belongs to the name `x` in the module at index `i`
+-- whether there is an entry, and it belongs to the name `x` in the module at index `i`
 abbrev pub is_entry_of : Option Entry → ℕ → List ℕ → Bool
 is_entry_of None i x = false
 is_entry_of (Some e) i x = (e.source.0 == i) && same_text e.name.now x

@@ -15,12 +15,13 @@ pub record QualifiedName : Type 0 where
   pub home : List ℕ
   pub name : List ℕ
 
--- the names of the roots, which have no definition, by their numbers 0 to 2 (RFC 2578, section 3.5)
+-- the name of the root with a number from 0 to 2; any greater number counts as 2 (RFC 2578, section
+-- 3.5)
 abbrev pub root_label : ℕ → List ℕ
 root_label n = if n == 0 then codes "ccitt" else
     (if n == 1 then codes "iso" else codes "joint-iso-ccitt")
 
--- the number of the root of this name, if it is the name of one
+-- the number of the root named `x`, if a root has this name
 abbrev pub root_arc : List ℕ → Option ℕ
 root_arc x =
     if same_text (root_label 0) x then Some 0 else
@@ -49,7 +50,7 @@ abbrev pub both : Option ℕ → Option (List ℕ) → Option (List ℕ)
 both (Some n) (Some ns) = Some (n ∷ ns)
 both _ _ = None
 
--- the numbers of the parts of an identifier value; `None` if a part has none
+-- the numbers of the parts of an identifier value; `None` if a part has no number
 abbrev pub arcs : List Part → Option (List ℕ)
 arcs [] = Some []
 arcs (p ∷ ps) = both (part_number p) (arcs ps)
@@ -100,6 +101,6 @@ origin_in a (Some m) = origin_by a (decision m a.name)
 abbrev pub origin : List Module → QualifiedName → Origin QualifiedName
 origin ms a = origin_in a (module_named ms a.home)
 
--- the name `a` has the identifier `o`
+-- the name `a` has the identifier `o`, if `ms` are the loaded modules
 abbrev pub Means : List Module → QualifiedName → List ℕ → Type 0
 Means ms a o = chain.HasIdentifier (origin ms) a o

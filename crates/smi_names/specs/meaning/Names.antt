@@ -1,4 +1,4 @@
--- Entries: each name that has a meaning in a module has one, with what decides the meaning.
+-- Entries: an entry has a name that has a meaning in a module, and what decides the meaning.
 use Rattle.std.specs.Prelude.{◌≡◌, ℕ, List, length, Option, Some, All}
 use Rattle.std.specs.{List.slice_get, List.position_from}
 use Rattle.smi_text.specs.{trees.Mark.same_text, declared.trees.tree.Module.Module}
@@ -7,7 +7,7 @@ use Rattle.smi_names.specs.meaning.Scopes.{NameIndices, known, decided_as, IsWit
 use Rattle.smi_names.specs.meaning.Scopes.{IsDefinedAt, IsDecided}
 use Rattle.smi_names.specs.{declared.hash.NameHash.NameHash, declared.meaning.entry.Entry.Entry}
 
--- the names of these modules, found by maps that hash names with `key`
+-- the names of `modules`, found by maps that hash names with `key`
 pub record KeyedNames : Type 0 where
   pub modules : List Module
   pub key : NameHash
@@ -21,8 +21,8 @@ module_index ms x = position_from (λ m. same_text m.name.octets x) 0 ms
 abbrev pub IsSourced : List Module → Entry → Type 0
 IsSourced ms e = (slice_get ms e.source.0 ≡ Some e.«module».now) × IsDefinedAt e
 
--- each name with a meaning in a module has an entry, found by the module's map in `scopes`, and no
--- other name has one
+-- `entries` has an entry for each name with a meaning in a module of `ms`, and for no other name;
+-- the module's map in `scopes` has the index of the entry
 pub record AreEach (ms : List Module) (scopes : List NameIndices) (entries : List Entry)
     : Type 0 where
   pub long : length scopes ≡ length ms

@@ -14,8 +14,8 @@ use Rattle.smi_names.specs.meaning.Scopes.{Content, qualified, KnownNames, conte
 abbrev pub parent_of : Def → Option (List ℕ)
 parent_of d = option_map (λ a. a.name) (next_of (origin_of_value [] (identifier_value_of d.kind)))
 
--- for each module that is the first of its name, `rs` has at the index of each of its names what
--- that name resolves to
+-- `rs` has at the index of each name what the name resolves to, if the name's module is the first
+-- of the modules with the same module name
 pub record AreResolved (k : KnownNames) (rs : List Resolution) : Type 0 where
   pub long : length rs ≡ length k.names
   pub each : (p : ℕ) (a : QualifiedName) → slice_get k.names p ≡ content_named k.modules a

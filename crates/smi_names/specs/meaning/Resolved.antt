@@ -7,9 +7,9 @@ use Rattle.smi_names.specs.{meaning.Scopes.KnownNames, meaning.Parents.parent_of
 use Rattle.smi_names.specs.meaning.Directory.{next_index}
 use Rattle.smi_names.specs.declared.meaning.directory.Directory.{Directory}
 
--- `d` is the directory of the modules `ms`: it has the index of the first module of each name, an
--- entry for each name that has a meaning in a module, and for each entry whose name refers to a
--- name for its identifier the index of that name's entry, or the number of entries if it has none
+-- `d` is the directory of the modules `ms`: `d.homes` has the index of the first module of each
+-- name, `d.entries` an entry for each name with a meaning in a module, `d.scopes` the index of each
+-- entry, and `d.parents` for each entry what `next_index` returns with `parent_of`
 pub record IsDirectory (ms : List Module) (d : Directory) : Type 0 where
   pub placed : (x : List ℕ) → index_in d.homes x ≡ module_index ms x
   pub named : AreEach ms d.scopes.items d.entries.items

@@ -1,4 +1,5 @@
--- Scopes: the map of a module from the names that have a meaning in it to their entries' indices.
+-- A scope is the map of one module, from each name that has a meaning in it to the index of the
+-- name's entry.
 use Rattle.std.specs.Prelude.{◌≡◌, ℕ, ◌<◌, List, ◌++◌, length, Option, Some, option_map, All}
 use Rattle.std.specs.{List.slice_get, Option.option_and_then, Str.bytes_eq}
 use Rattle.indexmap.specs.IndexMap.{IndexMap, get, hasher_of}
@@ -48,12 +49,13 @@ decided_as m x d = option_map (λ v. record { home = m; name = x; decided = v })
 abbrev pub IsWithin : List Entry → NameIndices → Type 0
 IsWithin entries scope = (x : List ℕ) (p : ℕ) → index_in scope x ≡ Some p → p < length entries
 
--- if a definition decides the name of entry `e`, then it is at index `e.source.1` of its module
+-- if a definition decides the name of entry `e`, then that definition is at index `e.source.1` of
+-- the definitions of the entry's module
 abbrev pub IsDefinedAt : Entry → Type 0
 IsDefinedAt e = (d : Def) → decision_of e.decider ≡ defined d
     → slice_get e.«module».now.defs e.source.1 ≡ Some d
 
--- entry `e` has what decides the meaning of its name in its module
+-- the decider of entry `e` is what decides the meaning of the entry's name in the entry's module
 abbrev pub IsDecided : Entry → Type 0
 IsDecided e = decision e.«module».now e.name.now ≡ Some (decision_of e.decider)
 
@@ -74,9 +76,9 @@ content_named ms a =
 abbrev pub IsEntryOf : Module → ℕ → Entry → Type 0
 IsEntryOf m i e = (e.«module».now ≡ m) × (e.source.0 ≡ i) × IsDefinedAt e
 
--- `scope` has for each name the entry that `before` has or, if that has none, the entry of what
--- `more` decides, if anything; the entries added belong to module `m`, which has the index `i`,
--- and `scope` has each of them for its name; the names are hashed as before
+-- a name `x` has in `scope` the entry that it has in `before` or, if it has none there, an entry
+-- that `more x` decides, if that isn't `None`; `new` is `old` with entries of module `m`, at index
+-- `i`, appended, and `scope` has each of them for its name; `scope` hashes names as `before` does
 pub record KnowsMore (old : List Entry) (before : NameIndices) (new : List Entry)
     (scope : NameIndices) (m : Module) (i : ℕ) (more : List ℕ
     → Option Decision) : Type 0 where

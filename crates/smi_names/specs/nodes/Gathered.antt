@@ -25,8 +25,8 @@ node_from ms (S.Definition i k) o =
     let d = def_of_module (slice_get ms i) k in
     record { home = slice_get ms i; label = label_of d; oid = o; definition = d }
 
--- the nodes whose sources are in one list, and whose identifiers are at the same indices in the
--- other
+-- the nodes made from a list of sources and a list of identifiers, paired by index up to the end of
+-- the shorter list
 abbrev pub nodes_of : List Module → List Source → List (List ℕ) → List Node
 nodes_of ms [] os = []
 nodes_of ms (s ∷ ss) [] = []
@@ -51,7 +51,7 @@ oids_by (R.Numbers o) = o ∷ []
 oids_by _ = []
 
 -- `new` is `old` with one node or one warning appended: if `r` is an identifier, the node of
--- definition `d`, with source `s`; otherwise the warning that `d` has none, for the reason `r`
+-- definition `d`, with source `s`; otherwise the warning that `d` has no identifier, and why
 pub record GrowsByDefinition (old new : Gathered) (s : Source) (m : Module) (d : Def)
     (r : Resolution) : Type 0 where
   pub sources : new.sources.items ≡ old.sources.items ++ sources_by s r

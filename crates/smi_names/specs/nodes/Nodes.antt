@@ -28,21 +28,23 @@ roots = node_of_root 0 ∷ node_of_root 1 ∷ node_of_root 2 ∷ []
 abbrev pub node_of : Module → Def → List ℕ → Node
 node_of m d o = record { home = Some m; label = d.label.octets; oid = o; definition = Some d }
 
--- the nodes of definition `d` of module `m`: one if its name resolves to an identifier, or none
+-- the nodes of definition `d` of module `m`: one if the name of `d` resolves to an identifier,
+-- otherwise none
 abbrev pub nodes_by : Module → Def → Resolution → List Node
 nodes_by m d (R.Numbers o) = node_of m d o ∷ []
 nodes_by m d _ = []
 
 -- the warnings about definition `d` of module `m`: none if its name resolves to an identifier,
--- otherwise the reason why it doesn't
+-- otherwise one, which says why it doesn't
 abbrev pub warnings_by : Module → Def → Resolution → List Warning
 warnings_by m d (R.Numbers o) = []
 warnings_by m d R.Cycle = W.Cycle m.name.octets d.label.octets ∷ []
 warnings_by m d R.Unresolved = W.Unresolved m.name.octets d.label.octets ∷ []
 warnings_by m d R.TooLong = W.TooLong m.name.octets d.label.octets ∷ []
 
--- definition `d` of module `m` has the nodes `ns` and the warnings `ws`: none if it has no
--- identifier value, as a type or a macro; otherwise by what its name resolves to
+-- definition `d` of module `m`, with this identifier value, has the nodes `ns` and the warnings
+-- `ws`: none if the value is `None`, as for a type or a macro; otherwise what `nodes_by` and
+-- `warnings_by` return for the resolution of its name
 abbrev pub GivesNodesBy : List Module → Module → Def → Option (List Part) → List Node → List Warning
     → Type 0
 GivesNodesBy ms m d None ns ws = (ns ≡ []) × (ws ≡ [])
@@ -62,7 +64,7 @@ pub data Gathers (ms : List Module) (m : Module) : List Def → List Node → Li
       → Gathers ms m ds ns ws → GivesNodes ms m d more_nodes more_warnings
       → Gathers ms m (ds ++ d ∷ []) (ns ++ more_nodes) (ws ++ more_warnings)
 
--- one of the modules `ms` is named `name`
+-- whether one of the modules `ms` is named `name`
 abbrev pub is_loaded : List Module → List ℕ → Bool
 is_loaded ms name = is_some (module_named ms name)
 

@@ -9,13 +9,14 @@ use Rattle.smi_names.specs.declared.chains.order.Mark.TheVariants as M
 abbrev pub mark_at : List Mark → ℕ → Mark
 mark_at marks p = slice_index_or marks p M.New
 
--- `path` begins with `from`, each of its indices refers to the next one, and the last one to `to`;
--- if `path` is empty, `from` is `to`
+-- `path` begins with `from`, each of its indices refers to the next one, and the last one refers to
+-- `to`; if `path` is empty, `from` is `to`
 abbrev pub Follows : List (Option ℕ) → List ℕ → Option ℕ → Option ℕ → Type 0
 Follows next [] from to = from ≡ to
 Follows next (p ∷ rest) from to = (from ≡ Some p) × Follows next rest (next_at next p) to
 
--- `to` is `None`, or its chain has an end, and it is in `order` or past the end of `next`
+-- `to` is `None`, or an index whose chain has an end and which is in `order` or past the end of
+-- `next`
 abbrev pub IsSettled : List (Option ℕ) → List ℕ → Option ℕ → Type 0
 IsSettled next order to =
     (q : ℕ) → to ≡ Some q → HasEnd (next_at next) q × (q < length next → Contains order q)
@@ -28,9 +29,9 @@ pub record ReachesSettled (next : List (Option ℕ)) (order path : List ℕ) : T
   pub refers_to : Follows next path from to
   pub settled : IsSettled next order to
 
--- the invariant of the search: `order` has the indices marked as settled, and only indices whose
--- chains have an end, each after the index that it refers to; `path` has each index marked as met
--- whose chain has an end
+-- The invariant of the search: `order` has each index marked as settled, and `path` each one marked
+-- as met whose chain has an end. The chain of each index in `order` has an end, and the index comes
+-- after the one that it refers to, if that isn't past the end of `next`.
 pub record Keeps (next : List (Option ℕ)) (marks : List Mark) (order path : List ℕ) : Type 0 where
   pub long : length marks ≡ length next
   pub within : All (λ p. p < length next) order

@@ -1,4 +1,5 @@
-//! The indices whose chains end, in an order: each comes after the index that it refers to.
+//! The indices whose chains end, in an order: each comes after the index that it refers to, unless
+//! it refers past the end of the list.
 ghost use Rattle.std.specs.Prelude.{◌≡◌, ◌≢◌, ◌⊎◌, ℕ, ◌<◌, ◌↔◌, List, [], ◌∷◌, length, All};
 ghost use Rattle.std.specs.Prelude.{Contains, Option, IfOk, IsTrue, Some, true, false, vec_len};
 ghost use Rattle.smi_names.specs.chains.Chain.{HasEnd};
@@ -23,15 +24,18 @@ enum Mark {
 struct Search {
     /// The state of each index.
     marks: Vec<Mark>,
-    /// The indices found so far whose chains end, each after the one that it refers to.
+    /// The indices found so far whose chains end, each after the one that it refers to, if that
+    /// isn't past the end.
     order: Vec<usize>,
-    /// The indices of the chain that is being followed, from its start on, that were new.
+    /// The indices of the chain that is being followed, from its start on, as far as they were
+    /// new.
     path: Vec<usize>,
 }
 
-/// Returns the indices whose chains end, each after the index that it refers to. Index `i` refers
-/// to `next[i]`; a chain ends at an index that refers to `None` or past the end of `next`. Follows
-/// the reference of each index at most once, without recursion.
+/// Returns the indices whose chains end, each after the index that it refers to, if that isn't
+/// past the end of `next`. Index `i` refers to `next[i]`, or to nothing if this is `None`. A chain
+/// ends at an index that refers to nothing or past the end of `next`. Follows the reference of
+/// each index at most once, without recursion.
 pub fn topological_order(alloc: Global, next: &[Option<usize>]) -> Result<Vec<usize>, AllocError>
     ensures within { IfOk result (λ order. All (λ p. p < length next.now) order.items) }
     ensures only_ended { IfOk result (λ order. All (HasEnd (next_at next.now)) order.items) }
@@ -53,7 +57,7 @@ pub fn topological_order(alloc: Global, next: &[Option<usize>]) -> Result<Vec<us
 impl Search {
     /// Follows the chain from `start` as long as its indices are new, marks them as met and
     /// appends them to the path. Returns the first index of the chain that isn't new, perhaps one
-    /// past the end of `next`, or `None` if the chain ends at a new index.
+    /// past the end of `next`, or `None` if a new index refers to nothing.
     fn climb(&mut self, next: &[Option<usize>], start: usize) -> Result<Option<usize>, AllocError>
         requires kept { Keeps next.now self.old.marks.items self.old.order.items
             self.old.path.items }
@@ -112,8 +116,9 @@ impl Search {
         matches!(self.marks.get(index), Some(Mark::New))
     }
 
-    /// Returns whether the chain ends, if `climb` returned `to`. It doesn't if `to` is marked as
-    /// met: then it is on the path, which enters a ring, or on an earlier path that entered one.
+    /// Returns whether the chain that `climb` followed has an end, if `climb` returned `to`. The
+    /// chain has no end if `to` is marked as met: then `to` is on the path, which enters a ring,
+    /// or on an earlier path that entered one.
     fn has_ended(&self, to: Option<usize>) -> bool
         ensures met { result ≡ false → (p : ℕ) × (to ≡ Some p)
             × (mark_at self.now.marks.items p ≡ Mark.Met) }

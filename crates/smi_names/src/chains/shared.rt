@@ -13,9 +13,10 @@ use std::alloc::{AllocError, Global};
 pub enum Resolution {
     /// The name's identifier, of at most 128 numbers.
     Numbers(StoredOid),
-    /// Its chain, from name to name, has no end.
+    /// The name's chain, from name to name, has no end.
     Cycle,
-    /// Its chain ends at a name that isn't defined, or whose definition yields no identifier.
+    /// The name's chain ends at a name that isn't defined, or whose definition yields no
+    /// identifier.
     Unresolved,
     /// The name's identifier would have more than 128 numbers (RFC 2578, section 3.5).
     TooLong,

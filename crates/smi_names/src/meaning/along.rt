@@ -18,16 +18,16 @@ pub trait References {
 }
 
 /// A meaning of names. An imported name means what the same name means in the module after FROM
-/// (RFC 2578, section 3.2). A defined name means what its definition does, which can depend on the
-/// meaning of the name that the definition refers to. Any other name, such as a root's, means
+/// (RFC 2578, section 3.2). A defined name means what its definition means, which can depend on
+/// the meaning of the name that the definition refers to. Any other name, such as a root's, means
 /// nothing.
 pub trait Meaning: Copy + References {
     /// `means at def far`: what the definition means, if the name that it refers to means `far`.
     ghost means: { ℕ × ℕ → Def → Option Self → Option Self };
 
-    /// Returns what `def` means. `at` has the index of its module, and its index in the module.
-    /// `far` is the meaning of the name that it refers to, `None` if that name has none or `def`
-    /// refers to none.
+    /// Returns what `def` means. `at` has the index of the definition's module, and the index of
+    /// the definition in it. `far` is the meaning of the name that `def` refers to: `None` if that
+    /// name means nothing, or if `def` refers to no name.
     fn meaning(at: (usize, usize), def: &Def, far: Option<Self>) -> Option<Self>
         ensures { result ≡ means at def.now far };
 }

@@ -1,4 +1,5 @@
-//! The indices of names: which entry a name of a module has, and which entry that one refers to.
+//! Finds the index of a name's entry, and for each entry the index of the entry that it refers to:
+//! a name can refer to another by its definition or by an import.
 ghost use Rattle.std.specs.Prelude.{◌≡◌, ℕ, List, [], map, IfOk, Some, All};
 ghost use Rattle.indexmap.specs.IndexMap.{hasher_of};
 ghost use Rattle.smi_names.specs.meaning.Scopes.{index_in};
@@ -20,15 +21,16 @@ use std::alloc::{AllocError, Global};
 /// The modules and their names, each with its index.
 #[derive(Drop)]
 pub(crate) struct Directory<'a> {
-    /// The index of the first module of each name.
+    /// For each module name, the index of the first module with that name.
     pub(crate) homes: NameIndices<'a>,
-    /// For each module, the index of the entry of each of its names.
+    /// For each module, a map from its names to the indices of their entries.
     pub(crate) scopes: Vec<NameIndices<'a>>,
-    /// What decides each name of each module.
+    /// The names that have a meaning in a module, each with what decides the meaning.
     pub(crate) entries: Vec<Entry<'a>>,
-    /// For each entry whose name refers to a name for its identifier, the index of that name's
-    /// entry, or the number of entries if it has none. Empty until these are found. An import
-    /// refers to the same entry for every other meaning.
+    /// For each entry, the index of its parent's entry. The parent of an imported name is the same
+    /// name in the module after FROM. The parent of a defined name is the name at the start of its
+    /// identifier value, if the other parts, and only they, have numbers. `None` without a parent;
+    /// the number of entries if the parent has no entry. Empty until computed.
     pub(crate) parents: Vec<Option<usize>>,
 }
 
@@ -37,11 +39,12 @@ pub(crate) struct Directory<'a> {
 struct Found<'a> {
     /// The name of the module.
     home: &'a [u8],
-    /// The index of the first module of that name, if there is one.
+    /// The index of the first module named `home`, if there is one.
     at: Option<usize>,
     /// The name.
     name: &'a [u8],
-    /// The index of its entry, or the number of entries if it has none.
+    /// The index of the entry of `name` in that module, or the number of entries if `name` has no
+    /// entry there.
     index: usize,
 }
 
@@ -92,8 +95,8 @@ impl<'a> Directory<'a> {
         self.index_in(find(&self.homes, home), name)
     }
 
-    /// Returns the index of the entry of `name` in the module at index `at`, or the number of
-    /// entries if it has no meaning there or `at` is `None`.
+    /// Returns the index of the entry of `name` in the module at index `at`. Returns the number of
+    /// entries if no such module exists, as for `None`, or `name` has no meaning in it.
     fn index_in(&self, at: Option<usize>, name: &'a [u8]) -> usize
         ensures { result ≡ index_at self.now at name.now }
     {
@@ -120,8 +123,8 @@ impl<'a> Directory<'a> {
     }
 
     /// Returns what [`Directory::entry_index`] does. `last` is the name that was looked up last;
-    /// it makes the search faster, since names that follow one another are mostly of one module,
-    /// and often have the same parent.
+    /// it makes the search faster, since successive look-ups are mostly in one module, and often
+    /// of one name.
     fn cached_index(&self, home: &'a [u8], name: &'a [u8], last: &mut Option<Found<'a>>) -> usize
         requires { IsFound self.now last.old }
         ensures index { result ≡ index_by self.now (record { home = home.now; name = name.now }) }
@@ -146,9 +149,9 @@ impl<'a> Directory<'a> {
         index
     }
 
-    /// If the name of `entry`, which is at `index`, refers to a name, returns the index of that
-    /// name's entry, or the number of entries if it has none. `last` is the name that was looked
-    /// up last.
+    /// Returns the index of the entry that `entry`, which is at `index`, refers to. Returns `None`
+    /// if `entry` refers to no name, and the number of entries if it refers to a name without an
+    /// entry. `last` is the name that was looked up last.
     fn next<M: References>(
         &self,
         index: usize,
@@ -167,7 +170,7 @@ impl<'a> Directory<'a> {
                 let name = M::reference(def)?;
                 Some(self.cached_index(home, name.as_bytes(), last))
             }
-            // An import refers to the same entry in every meaning. `parents` has the index of that
+            // An import refers to the same entry for any meaning. `parents` has the index of that
             // entry, except while `parents` itself is computed.
             Decider::Import(import) => match self.parents.get(index) {
                 Some(to) => *to,
@@ -177,9 +180,9 @@ impl<'a> Directory<'a> {
         }
     }
 
-    /// Returns for each entry whose name refers to a name the index of that name's entry, or the
-    /// number of entries if it has none. The indices for identifiers are found first, while
-    /// `parents` is empty.
+    /// Returns for each entry the index of the entry that it refers to. This is `None` if the entry
+    /// refers to no name, and the number of entries if it refers to a name without an entry. The
+    /// first call, which computes `parents`, is made while `parents` is empty.
     pub(crate) fn next_indices<M: References>(
         &self,
         alloc: Global,

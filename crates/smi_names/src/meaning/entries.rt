@@ -68,10 +68,9 @@ impl<'s, 'a> Entries<'s, 'a> {
     }
 
     /// Returns what each name means: `None` for a root, for a definition that means nothing, for
-    /// an import of a name that means nothing, and for a chain that has no end, as in a ring of
-    /// imports.
-    /// Finds the meaning of each name at most once, without recursion. Fails only if memory runs
-    /// out.
+    /// an import of a name that means nothing, and for a name whose chain has no end, as in a ring
+    /// of imports. Finds the meaning of each name at most once, without recursion. Fails only if
+    /// memory runs out.
     pub fn along<M: Meaning>(&self, alloc: Global) -> Result<Vec<Option<M>>, AllocError>
         ensures { IfOk result (λ found. AreMeant self.now M.refers_to M.means found.items) }
     {
@@ -85,15 +84,16 @@ impl<'s, 'a> Entries<'s, 'a> {
         Ok(found)
     }
 
-    /// Returns for each name the index of the name that it refers to, if it refers to one; that is
-    /// the number of names if the name there has no meaning.
+    /// Returns for each name the index of the name that it refers to, if it refers to one. The
+    /// index is the number of names if the other name has no meaning.
     fn next_indices<M: References>(&self, alloc: Global) -> Result<Vec<Option<usize>>, AllocError>
         ensures { IfOk result (λ next. AreNext self.now M.refers_to next.items) }
     {
         self.directory.next_indices::<M>(alloc)
     }
 
-    /// Returns what the name at `index` means, if the name that it refers to means `far`.
+    /// Returns what the name at `index` means. `far` is the meaning of the name that this name
+    /// refers to, or `None` if it refers to none.
     fn meaning_at<M: Meaning>(&self, index: usize, far: Option<M>) -> Option<M>
         ensures { let k = self.now in (to : Option ℕ) → IsNext k M.refers_to index to
             → MatchOption to (far ≡ None) (λ q. MeansAt k M.refers_to M.means q far)
@@ -136,8 +136,9 @@ impl<'s, 'a> Entries<'s, 'a> {
         Ok(Shared { list, indices })
     }
 
-    /// Returns for each name the index of the name that it refers to for its identifier, if it
-    /// refers to one; that is the number of names if the name there has no meaning.
+    /// Returns for each name the index of its parent, if it has one: the name that its identifier
+    /// value begins with, or, for an import, the same name in the module after FROM. The index is
+    /// the number of names if the parent has no meaning.
     #[tactic(auto, using(crate::proofs::ReferenceChains::are_next))]
     fn parents(&self) -> &[Option<usize>]
         ensures { AreNext self.now parent_of result.now }
@@ -145,8 +146,8 @@ impl<'s, 'a> Entries<'s, 'a> {
         &self.directory.parents
     }
 
-    /// Returns an upper bound of the number of identifiers in the list: the number of names that a
-    /// root, or a definition with an identifier value, decides.
+    /// Returns an upper bound of the number of identifiers in the list of resolutions: the number
+    /// of names that a root, or a definition with an identifier value, decides.
     fn most(&self) -> usize {
         let mut count = 0_usize;
         'entries: for entry in &self.directory.entries {
@@ -163,9 +164,9 @@ impl<'s, 'a> Entries<'s, 'a> {
     }
 
     /// Returns the index in `list` of what the name at `index` resolves to; a new identifier is
-    /// appended. `to` is the index of the name that it refers to, and `indices[to]` the index in
-    /// `list` of what that name resolves to. `to` is `None` if the name refers to none, and the
-    /// number of names if it refers to a name without a meaning.
+    /// appended. `to` is the index of the name that this name refers to, and `indices[to]` is the
+    /// index in `list` of what that other name resolves to. `to` is `None` if the name at `index`
+    /// refers to none, and the number of names if it refers to a name without a meaning.
     fn resolve_entry(
         &self,
         alloc: Global,

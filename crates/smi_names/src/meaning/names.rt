@@ -46,7 +46,8 @@ impl<'a> Model for Names<'a> {
 }
 
 impl<'a> Names<'a> {
-    /// Resolves the names of `modules`, each once. `hash` is for the maps that find the names.
+    /// Resolves the names of `modules`, each at most once. The maps that find the names hash them
+    /// by `hash`.
     pub fn new(
         alloc: Global,
         hash: NameHash,
@@ -97,13 +98,13 @@ impl<'a> Names<'a> {
         self.resolutions.get(index)
     }
 
-    /// Returns what `name` resolves to in `module`, or `None` if it has no meaning there. The
-    /// module must be the first of its name. `source` has its index, and the index of a definition
-    /// in it, which should be the one of `name`.
+    /// Returns what `name` resolves to in `module`, or `None` if it has no meaning there. `module`
+    /// must be the first module of its name. `source` has the index of `module`, and the index of
+    /// a definition in it, which should be the definition of `name`.
     ///
     /// `from` is a guess at the index of the module's first name. The names of its definitions
-    /// follow one another from there, unless one is defined twice. A wrong guess is replaced by
-    /// another, and no result depends on it.
+    /// follow one another from that index, unless one is defined twice. A wrong guess is replaced
+    /// by another. What is returned doesn't depend on the guess.
     pub(crate) fn resolution_of(
         &self,
         source: (usize, usize),

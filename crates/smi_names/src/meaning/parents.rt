@@ -1,5 +1,6 @@
-//! What names resolve to: if the identifier value of a definition begins with a name without a
-//! number, the definition has that name's identifier followed by the numbers of the other parts.
+//! What names resolve to. If the identifier value of a definition begins with a name without a
+//! number, then the definition's identifier, if it has one, is the identifier of that name
+//! followed by the numbers of the other parts.
 ghost use Rattle.std.specs.Prelude.{◌≡◌, ℕ, List, IfOk, is_some, option_map};
 ghost use Rattle.smi_names.specs.chains.Resolution.{far_at, resolution_by, resolutions_at};
 ghost use Rattle.smi_names.specs.chains.Resolution.{AreWithin};
@@ -51,9 +52,10 @@ fn arcs(alloc: Global, parts: &[Part]) -> Result<Option<Vec<u32>>, AllocError>
 }
 
 /// Returns the index in `list` of what a name with the identifier value `parts` resolves to; a new
-/// identifier is appended. `to` is the index of the name that `parts` begins with, and
-/// `indices[to]` the index in `list` of what that name resolves to. No `Vec` is made for the usual
-/// value, a name and one number.
+/// identifier is appended. If `parts` is a name without a number, followed by parts with numbers,
+/// then `to` is the index of that name, past the end if the name has no meaning, and `indices[to]`
+/// is the index in `list` of what the name resolves to. No `Vec` is made for the usual value, a
+/// name and one number.
 pub(crate) fn by_parts(
     alloc: Global,
     list: &mut Vec<Resolution>,

@@ -49,7 +49,7 @@ fn is_double<'a>(names: &Names<'a>, module: &'a Module, index: usize) -> bool
 
 impl Gathered {
     /// Appends the node of `def`, a definition of `module`, if `resolution` is an identifier.
-    /// Otherwise appends the warning that says why it has none.
+    /// Otherwise appends the warning that says why `def` has no identifier.
     fn add(
         &mut self,
         alloc: Global,
@@ -77,9 +77,10 @@ impl Gathered {
         Ok(())
     }
 
-    /// Appends the node of `def`, a definition of `module`, or the warning about it; nothing if it
-    /// has no identifier value. `at` has the index of the module, and the index of the definition
-    /// in it. `from` is a guess at the index of the module's first name; no result depends on it.
+    /// Appends the node of `def`, a definition of `module`, or the warning about it. Appends
+    /// nothing if `def` has no identifier value. `at` has the index of the module, and the index
+    /// of the definition in it. `from` is a guess at the index of the module's first name; what is
+    /// appended doesn't depend on it.
     fn add_definition<'a>(
         &mut self,
         alloc: Global,
@@ -132,7 +133,8 @@ impl Gathered {
     }
 
     /// Appends the warnings about the imports of `module`, and then the nodes of its definitions
-    /// and the warnings about them. No earlier module may have its name.
+    /// and the warnings about them. No module before `index`, the index of `module`, may have the
+    /// name of `module`.
     fn add_loaded<'a>(
         &mut self,
         alloc: Global,

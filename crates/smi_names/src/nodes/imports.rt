@@ -8,7 +8,7 @@ use crate::nodes::warning::Warning;
 use smi_text::{Import, Module, Text, TokenText, is_macro};
 use std::alloc::{AllocError, Global};
 
-/// Returns whether a definition or an import decides a name, and not the list of roots.
+/// Returns whether `decider` is a definition or an import, and not the list of roots.
 fn is_stated(decider: Decider<'_>) -> bool
     ensures { result ≡ imports.is_stated (decision_of decider.entry) }
 {

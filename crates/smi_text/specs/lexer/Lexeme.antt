@@ -37,14 +37,13 @@ begins test (c ∷ cs) = test c
 
 -- ---- lexemes
 
--- whether these are letters, digits, `_`, and hyphens that each have a letter, a digit or `_`
--- after them
+-- whether each octet is a letter, a digit, `_`, or a hyphen directly before one of these three
 abbrev pub is_word_rest : List ℕ → Bool
 is_word_rest [] = true
 is_word_rest (c ∷ cs) = (is_word_octet c ||
     (is_hyphen c && begins is_word_octet cs)) && is_word_rest cs
 
--- a word: a first octet that passes the test, and then the rest of a word
+-- `text` is a word: an octet that passes `is_first`, followed by octets that `is_word_rest` accepts
 abbrev pub IsWord : (ℕ → Bool) → List ℕ → Type 0
 IsWord is_first text = (c : ℕ) × (rest : List ℕ) × (text ≡ c ∷ rest) × IsTrue (is_first c)
     × IsTrue (is_word_rest rest)
@@ -59,13 +58,15 @@ abbrev pub IsString : List ℕ → Type 0
 IsString text = (body : List ℕ) × (text ≡ codes "\"" ++ body ++ codes "\"")
     × IsTrue (list_all (λ c. not (c == 34)) body)
 
--- digits of a base, perhaps none, between two `'`, and then the base's letter in either case
+-- `text` is octets that pass `is_digit`, perhaps none, between two `'`, followed by the letter
+-- `upper` or `lower`
 abbrev pub IsLiteral : (ℕ → Bool) → ℕ → ℕ → List ℕ → Type 0
 IsLiteral is_digit upper lower text = (digits : List ℕ) × (letter : ℕ)
     × (text ≡ codes "'" ++ digits ++ codes "'" ++ letter ∷ [])
     × IsTrue (list_all is_digit digits) × ((letter ≡ upper) ⊎ (letter ≡ lower))
 
--- the only text of a sign; it is empty for a word, a number, a string and a literal
+-- the only text that tokens of this kind have, such as `::=` for `Assign`; empty for the kinds that
+-- have more than one text: words, numbers, strings and literals
 abbrev pub sign_text : TokenKind → List ℕ
 sign_text K.Assign = codes "::="
 sign_text K.Range = codes ".."
@@ -101,13 +102,14 @@ IsLexeme kind text = text ≡ sign_text kind
 abbrev pub IsRunOfHyphens : List ℕ → Type 0
 IsRunOfHyphens octets = (2 ≤ length octets) × IsTrue (list_all is_hyphen octets)
 
--- whether these are octets of one line, with no two hyphens in a row
+-- whether the octets contain no newline and no two hyphens in a row
 abbrev pub is_remark : List ℕ → Bool
 is_remark [] = true
 is_remark (c ∷ cs) = not (is_newline c) && not (is_hyphen c && begins is_hyphen cs) && is_remark cs
 
--- A run of hyphens, a remark (see `is_remark`), and another run of hyphens or nothing. If no other
--- run follows on the line, the longest comment ends before the newline, or at the end of the text.
+-- `text` is a run of hyphens, a remark (no newline, no two hyphens in a row), and another run of
+-- hyphens or nothing. If no other run follows on the line, the longest comment ends before the
+-- newline, or at the end of the text.
 abbrev pub IsComment : List ℕ → Type 0
 IsComment text = (opening remark closing : List ℕ) × (text ≡ opening ++ remark ++ closing)
     × IsRunOfHyphens opening × IsTrue (is_remark remark) × ((closing ≡ []) ⊎ IsRunOfHyphens closing)

@@ -1,4 +1,4 @@
--- The tokens of a text, computed in the plain, slow way: every prefix of what is left is tried,
+-- The tokens of a text, computed in the plain, slow way: every prefix of the unread text is tried,
 -- the longest first. A part is a prefix that is a lexeme or a gap (a blank octet or a comment).
 -- Contracts see a `Lexer` as the list of its items. The proof that these are the items of `Lexes`
 -- is in proofs/.
@@ -46,28 +46,28 @@ abbrev pub is_nothing : List ℕ → Bool
 is_nothing [] = true
 is_nothing (c ∷ cs) = false
 
--- whether this is one octet, which passes the test
+-- whether the list is a single octet, and this octet passes the test
 abbrev pub is_sole : (ℕ → Bool) → List ℕ → Bool
 is_sole test [] = false
 is_sole test (c ∷ cs) = test c && is_nothing cs
 
--- whether this is the rest of a comment, after the run of hyphens that it begins with
+-- whether the octets are the rest of a comment, after the run of hyphens that begins the comment
 abbrev pub is_remark_rest : List ℕ → Bool
 is_remark_rest [] = true
 is_remark_rest (c ∷ cs) = if is_newline c then false else
     (if is_hyphen c && begins is_hyphen cs then list_all is_hyphen cs else is_remark_rest cs)
 
--- whether this is the rest of a comment, after its first two hyphens
+-- whether the octets are the rest of a comment, after its first two hyphens
 abbrev pub is_comment_rest : List ℕ → Bool
 is_comment_rest [] = true
 is_comment_rest (c ∷ cs) = if is_hyphen c then is_comment_rest cs else is_remark_rest (c ∷ cs)
 
--- whether this is the rest of a string, after its first `"`
+-- whether the octets are the rest of a string, after its first `"`
 abbrev pub is_string_rest : List ℕ → Bool
 is_string_rest [] = false
 is_string_rest (c ∷ cs) = if c == 34 then is_nothing cs else is_string_rest cs
 
--- whether this is the rest of a literal, after its first `'`
+-- whether the octets are the rest of a literal, after its first `'`
 abbrev pub is_literal_rest : (ℕ → Bool) → (ℕ → Bool) → List ℕ → Bool
 is_literal_rest is_digit is_letter [] = false
 is_literal_rest is_digit is_letter
@@ -99,7 +99,7 @@ symbol_part K.Colon (c ∷ cs) = then_some (c == 58 && is_sole (λ d. d == 61) c
 symbol_part K.Dot (c ∷ cs) = then_some (c == 46 && is_nothing cs) (lexeme K.Range)
 symbol_part _ (c ∷ cs) = None
 
--- the part that an octet of the class and the octets `cs` after it are together, if they are one
+-- the part that an octet of this class followed by the octets `cs` forms; None if it forms none
 abbrev pub part_in : Class → List ℕ → Option Part
 part_in C.Blank cs = then_some (is_nothing cs) gap
 part_in C.Lowercase cs = then_some (is_word_rest cs) (lexeme K.Lower)
@@ -117,13 +117,13 @@ part_of (c ∷ cs) = part_in (class_of c) cs
 
 -- ---- the longest prefix
 
--- the part with its length `n`, if it isn't `None`; otherwise `shorter`
+-- the part and the length `n`, if a part is passed; `shorter` if None is passed
 abbrev pub part_or_shorter : ℕ → Option Part → Option (Part × ℕ) → Option (Part × ℕ)
 part_or_shorter n None shorter = shorter
 part_or_shorter n (Some part) shorter = Some (part, n)
 
--- the longest prefix of at most n octets that is a part, of a text with at least n octets: which
--- part, and its length
+-- For a text of n octets or more: the part and the length of its longest prefix of at most n octets
+-- that is a part. None if no such prefix is a part.
 abbrev pub longest_prefix : ℕ → List ℕ → Option (Part × ℕ)
 longest_prefix zero text = None
 longest_prefix (suc n) text = part_or_shorter (suc n) (part_of (take (suc n) text))
@@ -147,8 +147,9 @@ abbrev pub part_items : ℕ → ℕ → Part → List ℕ → List Item → List
 part_items at lines gap octets rest = rest
 part_items at lines (lexeme kind) octets rest = Ok (lexeme_at at lines kind octets) ∷ rest
 
--- the items of a text, by its longest prefix that is a part and the items `rest` after that: the
--- prefix, if it is a lexeme, and `rest`; if no prefix is a part, only the fault
+-- The items of a text, computed from its longest prefix that is a part, and the items `rest` after
+-- this prefix. If the prefix is a lexeme, they are this lexeme and then `rest`. If it is a gap,
+-- they are `rest`. If no prefix is a part, the only item is the fault.
 abbrev pub prefix_items : ℕ → ℕ → List ℕ → Option (Part × ℕ) → List Item → List Item
 prefix_items at lines text None rest = Err (fault_on (lines + 1) text) ∷ []
 prefix_items at lines text (Some prefix) rest =
@@ -172,7 +173,7 @@ items_at zero at lines (c ∷ cs) =
 
 -- ---- for private functions
 
--- the literal, by its kind, that the digits and the letter make, if they make one
+-- the literal with these digits and this last letter, as a part; None if they make no literal
 abbrev pub literal_of : List ℕ → ℕ → Option Part
 literal_of digits letter =
     if list_all is_ascii_hexdigit digits && is_hex_letter letter then Some (lexeme K.Hex)
@@ -184,14 +185,14 @@ pub record IsLongestPassing (test : List ℕ → Bool) (text : List ℕ) (n : �
   pub passes : test (take n text) ≡ true
   pub longest : (m : ℕ) → n < m → m ≤ length text → test (take m text) ≡ false
 
--- by `reading`, the prefix of n octets is `part`, and no longer prefix is a part
+-- `reading` reads the first n octets of the text as `part`, and reads no longer prefix as a part
 pub record IsPartPrefix (reading : List ℕ
     → Option Part) (text : List ℕ) (part : Part) (n : ℕ) : Type 0 where
   pub within : n ≤ length text
   pub reads : reading (take n text) ≡ Some part
   pub longest : (m : ℕ) → n < m → m ≤ length text → reading (take m text) ≡ None
 
--- by `reading`, no prefix is a lexeme; `HasNoGap`: no prefix is a gap
+-- `reading` reads no prefix of the text as a lexeme; `HasNoGap` says that no prefix is a gap
 abbrev pub HasNoLexeme : (List ℕ → Option Part) → List ℕ → Type 0
 HasNoLexeme reading text = (kind : TokenKind) (m : ℕ)
     → reading (take m text) ≡ Some (lexeme kind) → ⊥
@@ -199,20 +200,19 @@ HasNoLexeme reading text = (kind : TokenKind) (m : ℕ)
 abbrev pub HasNoGap : List ℕ → Type 0
 HasNoGap text = (m : ℕ) → part_of (take m text) ≡ Some gap → ⊥
 
--- the result is the kind and the length of the longest prefix that is a part by `reading`, if that
--- is a lexeme; `None` if no prefix is a lexeme
+-- The result is None, and `reading` reads no prefix as a lexeme. Or the result is the kind and the
+-- length of the longest prefix that `reading` reads as a part, and this part is a lexeme.
 abbrev pub IsLexemePrefix : (List ℕ → Option Part) → List ℕ → Option (TokenKind × ℕ) → Type 0
 IsLexemePrefix reading text None = HasNoLexeme reading text
 IsLexemePrefix reading text (Some prefix) = IsPartPrefix reading text (lexeme prefix.0) prefix.1
 
--- the first n octets add no item, and for the lines of the items after them they count as `lines`
--- newlines
+-- the first n octets of the text add no item: they only count as n octets and `lines` newlines
+-- before the remaining text
 abbrev pub Skips : List ℕ → ℕ → ℕ → Type 0
 Skips text n lines = (at before : ℕ)
     → items_at 0 at before text ≡ items_at 0 (at + n) (before + lines) (drop n text)
 
--- the first n octets make no difference to the test of a prefix of n octets or more: it passes if
--- and only if its octets after these do
+-- a prefix of n or more octets passes the test if and only if its octets after the first n pass it
 pub record GoesOn (test : List ℕ → Bool) (text : List ℕ) (n : ℕ) : Type 0 where
   pub within : n ≤ length text
   pub same : (k : ℕ) → test (take (n + k) text) ≡ test (take k (drop n text))
@@ -238,13 +238,13 @@ pub record IsRunIn (test : ℕ → Bool) (text : List ℕ) (at run : ℕ) : Type
   pub passes : (k : ℕ) → at ≤ k → k < at + run → test (get_or text k 0) ≡ true
   pub stops : run < 16 → test (get_or text (at + run) 0) ≡ false
 
--- the octets from offset `from` up to offset `to` pass the test
+-- each octet at an offset `k` with `from ≤ k < to` passes the test
 pub record ArePassedBetween (test : ℕ → Bool) (text : List ℕ) (from to : ℕ) : Type 0 where
   pub ordered : from ≤ to
   pub within : to ≤ length text
   pub passes : (k : ℕ) → from ≤ k → k < to → test (get_or text k 0) ≡ true
 
--- the octets from offset `from` up to offset `to` pass the test, and the octet at `to`, if there
+-- each octet at an offset `k` with `from ≤ k < to` passes the test, and the octet at `to`, if there
 -- is one, fails it
 pub record IsRunBetween (test : ℕ → Bool) (text : List ℕ) (from to : ℕ) : Type 0 where
   pub ordered : from ≤ to
@@ -252,7 +252,7 @@ pub record IsRunBetween (test : ℕ → Bool) (text : List ℕ) (from to : ℕ) 
   pub passes : (k : ℕ) → from ≤ k → k < to → test (get_or text k 0) ≡ true
   pub stops : to < length text → test (get_or text to 0) ≡ false
 
--- whether the octet is another one than `octet`
+-- whether an octet differs from `octet`
 abbrev pub is_other : ℕ → ℕ → Bool
 is_other octet c = not (c == octet)
 

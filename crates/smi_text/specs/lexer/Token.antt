@@ -14,7 +14,7 @@ pub record Lexeme : Type 0 where
 abbrev pub lexeme_of : Token → Lexeme
 lexeme_of t = record { kind = t.kind; span = t.span; text = t.text.now; line = t.line }
 
--- an item of a lexer: a token, or the fault if it can't read one
+-- an item that the lexer returns: a token, or the fault if the lexer can't read a token
 abbrev pub Item : Type 0
 Item = Result Lexeme LexError
 

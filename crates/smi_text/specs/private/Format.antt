@@ -1,5 +1,5 @@
--- Productions of the grammar as values: how a part of the tree is read from the start of the
--- tokens, what it begins with, and what must not follow it.
+-- Productions of the grammar as values. A format says how a value, such as a definition, is read
+-- from the leading tokens, with which tokens it can begin, and which must not follow it.
 use Rattle.std.specs.Prelude.{◌≡◌, ℕ, Bool, true, false, ◌&&◌, ◌||◌, not, List, [], ◌∷◌, ◌++◌}
 use Rattle.std.specs.Prelude.{length, Option, Some, None, Ok, Err, drop, if◌then◌else◌}
 use Rattle.std.specs.Prelude.{option_and_then, option_map, refl, unwrap_or}
@@ -12,8 +12,9 @@ use Rattle.smi_text.specs.{trees.Reserved.is_reserved, declared.trees.names.Name
 use Rattle.smi_text.specs.trees.Mark.{Mark, same_kind, same_text, MarksToken}
 use Rattle.smi_text.specs.lexer.Lexeme.{sign_text}
 
--- a condition on the token ahead, the next to be read: it is this word of the grammar, a name that
--- begins with an upper-case letter, or of this kind; or it isn't this word, or isn't of this kind
+-- A condition on the token ahead, which is the next to be read. In this order: it is this word of
+-- the grammar; it begins with an upper-case letter and isn't reserved; it is of this kind; it isn't
+-- this word; it isn't of this kind.
 pub data Ahead : Type 0 where
   a_word : List ℕ → Ahead
   a_name : Ahead
@@ -68,20 +69,21 @@ half_apart _ _ = false
 abbrev pub apart : List Ahead → List Ahead → Bool
 apart cs ds = list_all (λ c. list_all (λ d. half_apart c d || half_apart d c) ds) cs
 
--- what is read, and the items after it; None if the part can't be read
+-- a value that was read, and the items after it; None if no value can be read
 abbrev pub Parsed : Type 0 → Type 0
 Parsed A = Option (A × List Item)
 
 pub record Format (A : Type 0) : Type 0 where
   pub read : List Item → Parsed A
-  -- what the part begins with: a token that meets one of these conditions
+  -- if tokens are read, the first of them meets one of these conditions
   pub first : List Ahead
-  -- what must not follow the part: a token that meets one of these conditions
+  -- the tokens that are read must not be followed by one that meets one of these conditions
   pub stop : List Ahead
-  -- whether the part may be read from no token
+  -- whether `read` may return a value without taking a token
   pub empty : Bool
 
--- one token: what `pick` takes from it, if anything, and the items after it
+-- reads the token ahead as what `pick` returns for it; fails if `pick` returns None, or no token is
+-- ahead
 abbrev pub one : {A : Type 0} → List Ahead → (Lexeme → Option A) → Format A
 one cs pick = record {
   read = λ ts. option_map (λ x. (x, drop 1 ts)) (option_and_then pick (token_ahead ts));
@@ -90,12 +92,12 @@ one cs pick = record {
   empty = false;
 }
 
--- a token of this kind and text
+-- reads a token of kind `k` with the text `x`; the format's `first` is `c`
 abbrev pub exact : Ahead → TokenKind → List ℕ → Format (Unit {0})
 exact c k x =
     one (c ∷ []) (λ t. if same_kind t.kind k && same_text t.text x then Some tt else None)
 
--- a word of the grammar; `token`: a sign, which has only one text
+-- reads the word `w` of the grammar; `token` reads a sign, a token whose kind has only one text
 unfoldable pub word : List ℕ → Format (Unit {0})
 word w = exact (a_word w) Upper w
 
@@ -106,12 +108,12 @@ token k = exact (a_kind k) k (sign_text k)
 unfoldable pub text : TokenKind → Format (List ℕ)
 text k = one (a_kind k ∷ []) (λ t. if same_kind t.kind k then Some t.text else None)
 
--- the text of a token of this kind, if it passes a test
+-- the text of a token of this kind, if the text passes the test `ok`
 unfoldable pub text_where : TokenKind → (List ℕ → Bool) → Format (List ℕ)
 text_where k ok = one (a_kind k ∷ [])
     (λ t. if same_kind t.kind k && ok t.text then Some t.text else None)
 
--- the name of these octets, if they are a word
+-- `b` says whether `x` is a word; if it is, this is the name with the octets `x`, otherwise None
 abbrev pub name_when : (x : List ℕ) (b : Bool) → is_word x ≡ b → Option Name
 name_when x true word = Some (record { octets = x; lexical = word })
 name_when x false other = None
@@ -119,7 +121,8 @@ name_when x false other = None
 abbrev pub name_of : List ℕ → Option Name
 name_of x = name_when x (is_word x) refl
 
--- a name that passes the test, from a token of this kind
+-- reads a token of kind `k` as a name, if its text is a word that passes `ok`; the format's `first`
+-- is `cs`
 abbrev pub name_where : List Ahead → TokenKind → (List ℕ → Bool) → Format Name
 name_where cs k ok =
     one cs (λ t. if same_kind t.kind k && ok t.text then name_of t.text else None)
@@ -132,7 +135,7 @@ lower = name_where (a_kind Lower ∷ []) Lower (λ _. true)
 unfoldable pub name : Format Name
 name = name_where (a_name ∷ []) Upper (λ x. not (is_reserved x))
 
--- one part, and then another
+-- the pair of what `f` reads and what `g` reads from the items after it, and the items after both
 abbrev pub read_pair : {A B : Type 0} → (List Item → Parsed A) → (List Item → Parsed B)
     → List Item → Parsed (A × B)
 read_pair f g ts = option_and_then (λ p. option_map (λ q. ((p.0, q.0), q.1)) (g p.1)) (f ts)
@@ -145,7 +148,7 @@ pair f g = record {
   empty = f.empty && g.empty;
 }
 
--- a part of the tree that `to` makes of what `f` reads
+-- the format that reads what `f` reads, with `to` applied to the result
 unfoldable pub shaped : {A B : Type 0} → (A → B) → Format A → Format B
 shaped to f = record {
   read = λ ts. option_map (λ p. (to p.0, p.1)) (f.read ts);
@@ -154,14 +157,16 @@ shaped to f = record {
   empty = f.empty;
 }
 
--- a part after tokens that aren't stored; `before`: a part before such tokens
+-- reads with `w` and then with `f`, and returns only what `f` read; `before` reads with `f` and
+-- then with `w`, and also returns only what `f` read
 unfoldable pub preceded : {A : Type 0} → Format (Unit {0}) → Format A → Format A
 preceded {A} w f = shaped (λ (p : (Unit {0}) × A). p.1) (pair w f)
 
 unfoldable pub before : {A : Type 0} → Format A → Format (Unit {0}) → Format A
 before {A} f w = shaped (λ (p : A × (Unit {0})). p.0) (pair f w)
 
--- a part that may be left out
+-- reads with `f` if the token ahead meets a condition of `f.first`; otherwise takes no token and
+-- returns None as the value
 unfoldable pub maybe : {A : Type 0} → Format A → Format (Option A)
 maybe f = record {
   read = λ ts. if begins f.first ts then option_map (λ p. (Some p.0, p.1)) (f.read ts) else Some
@@ -171,7 +176,7 @@ maybe f = record {
   empty = true;
 }
 
--- one of two parts: the token ahead decides
+-- reads with `f` if the token ahead meets a condition of `f.first`, and otherwise with `g`
 unfoldable pub either : {A B : Type 0} → Format A → Format B → Format (A ⊎ B)
 either f g = record {
   read = λ ts. if begins f.first ts then option_map (λ p. (inl p.0, p.1))
@@ -181,7 +186,8 @@ either f g = record {
   empty = false;
 }
 
--- any number of one part, read as long as the token ahead begins one; `n` bounds the recursion
+-- reads with `f` again and again, at most `n` times, as long as the token ahead meets a condition
+-- of `f.first`; fails if one of these reads fails
 unfoldable pub read_many : {A : Type 0} → Format A → ℕ → List Item → Parsed (List A)
 read_many f zero ts = Some ([], ts)
 read_many f (suc n) ts =
@@ -196,11 +202,11 @@ many f = record {
   empty = true;
 }
 
--- `xs` before the parts that were read
+-- puts `xs` before the list that was read, if one was
 unfoldable pub prepend : {A : Type 0} → List A → Parsed (List A) → Parsed (List A)
 prepend xs r = option_map (λ p. (xs ++ p.0, p.1)) r
 
--- one part, and then any number of another, as one list
+-- reads with `f` once, and then with `g` any number of times; the results are one list
 unfoldable pub some_of : {A : Type 0} → Format A → Format A → Format (List A)
 some_of f g = record {
   read = λ ts. option_and_then (λ p. prepend (p.0 ∷ []) ((many g).read p.1)) (f.read ts);
@@ -209,7 +215,7 @@ some_of f g = record {
   empty = (pair f (many g)).empty;
 }
 
--- one part, or several with a sign between them
+-- reads with `f` one or more times, with a sign of kind `k` between each two
 unfoldable pub separated : {A : Type 0} → TokenKind → Format A → Format (List A)
 separated k f = some_of f (preceded (token k) f)
 
@@ -217,7 +223,7 @@ separated k f = some_of f (preceded (token k) f)
 abbrev pub line_ahead : List Item → ℕ
 line_ahead items = unwrap_or (option_map (λ t. t.line) (token_ahead items)) 0
 
--- a part, with the line of its first token
+-- reads with `f`, and pairs the result with the line of the token ahead
 unfoldable pub lined : {A : Type 0} → Format A → Format (ℕ × A)
 lined f = record {
   read = λ ts. option_map (λ p. ((line_ahead ts, p.0), p.1)) (f.read ts);

@@ -40,19 +40,19 @@ use Rattle.smi_text.specs.declared.trees.tree.Refinement.TheVariants as R
 
 -- ---- formats that productions share
 
--- a clause: its word, and the string after it
+-- reads a clause, the word `w` and then a string, and returns the string
 unfoldable pub clause : List ℕ → Format (List ℕ)
 clause w = preceded (word w) (text K.Text)
 
--- a part in braces
+-- reads with `f` between two braces
 unfoldable pub braced : {A : Type 0} → Format A → Format A
 braced f = preceded (token K.OpenBrace) (before f (token K.CloseBrace))
 
--- a part in parentheses
+-- reads with `f` between two parentheses
 unfoldable pub parenthesized : {A : Type 0} → Format A → Format A
 parenthesized f = preceded (token K.OpenParen) (before f (token K.CloseParen))
 
--- a token, stored unchanged; `kept`: a token that is stored unchanged, if it passes a test
+-- the kind and the text of a token; `kept` reads these from a token that passes the test `ok`
 abbrev pub kept_text : Lexeme → TokenText
 kept_text t = record { kind = t.kind; text = t.text }
 
@@ -101,7 +101,7 @@ range =
 unfoldable pub ranges : Format (List Range)
 ranges = separated K.Bar range
 
--- a name with a number in parentheses, which may be negative
+-- a name and then a number in parentheses; the number may be negative
 unfoldable pub named_number : Format NamedNumber
 named_number =
     shaped (λ p. record { name = p.0; number = p.1 })
@@ -173,7 +173,7 @@ implied_name = preceded (word (codes "IMPLIED")) lower
 abbrev pub index_parts : List Name → Bool → IndexParts
 index_parts xs implied = record { names = xs; implied = implied }
 
--- `xs` before the names that were read
+-- puts the names `xs` before the names that were read, if any were
 unfoldable pub with_names : List Name → Parsed IndexParts → Parsed IndexParts
 with_names xs r = option_map (λ p. (index_parts (xs ++ p.0.names) p.0.implied, p.1)) r
 
@@ -432,7 +432,7 @@ heading = braced (many part)
 unfoldable pub opening : Format (Unit {0})
 opening = preceded (word (codes "DEFINITIONS")) (preceded (token K.Assign) (word (codes "BEGIN")))
 
--- a module up to its definitions
+-- the start of a module, before its definitions: its name, its heading and its imports
 unfoldable pub head : Format Head
 head =
     shaped (λ p. record { name = p.0; heading = p.1.0; imports = p.1.1 })

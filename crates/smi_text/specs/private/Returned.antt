@@ -1,4 +1,4 @@
--- What the steps of the parser return, for private clauses.
+-- What the steps of the parser return, compared with what the grammar reads from the same tokens.
 use Rattle.std.specs.Prelude.{◌≡◌, ℕ, Bool, true, false, List, [], ◌∷◌, ◌++◌, Option, Some, None}
 use Rattle.std.specs.Prelude.{Result, Ok, Err, option_map, unwrap_or}
 use Rattle.std.specs.Borrow.{Bor}
@@ -19,8 +19,9 @@ abbrev pub is_memory : Stop → Bool
 is_memory Memory = true
 is_memory _ = false
 
--- If the grammar reads `r` from the tokens, a step of the parser returns the part of the tree in
--- `r` and leaves the items `rest` after it. It stops only if `r` is None or memory ran out.
+-- `r` is what the grammar reads from the tokens. If a step of the parser returns a value, then `r`
+-- is this value with the items `rest` that the step leaves. If the step stops, then `r` is None,
+-- unless memory ran out.
 abbrev pub ReturnsReading : {A : Type 0} → Result A Stop → List Item → Parsed A → Type 0
 ReturnsReading (Ok x) rest r = r ≡ Some (x, rest)
 ReturnsReading (Err e) rest r = is_memory e ≡ false → r ≡ None
@@ -46,21 +47,23 @@ pub record ReadsDefinitions (defs : List Def) (tokens rest : List Item) : Type 0
   pub read : (many definition).read tokens ≡ Some (defs, rest)
   pub distinct : are_distinct (labels defs) ≡ true
 
--- the definition ahead is read, and appended to those before it
+-- a definition is read from `tokens`, and `rest` is left; `after` is `before` followed by this
+-- definition
 pub record AppendsDefinition (before after : List Def) (tokens rest : List Item) : Type 0 where
   pub def : Def
   pub read : definition.read tokens ≡ Some (def, rest)
   pub appended : after ≡ before ++ def ∷ []
 
--- the definition ahead is on line `line`
+-- a definition can be read from `tokens`, and it is on line `line`
 pub record IsDefinitionOn (line : ℕ) (tokens : List Item) : Type 0 where
   pub def : Def
   pub rest : List Item
   pub read : definition.read tokens ≡ Some (def, rest)
   pub on_line : def.line ≡ line
 
--- the error of a step that reads a new definition: its name is defined already, which `defined`
--- says, or no definition can be read, or memory ran out
+-- The error of a step that reads a new definition. For `DoubleName`, a definition on this line can
+-- be read, and `defined` is true: its name is defined already. For `Memory`, nothing is said. For
+-- any other error, no definition can be read.
 abbrev pub NewDefinitionFault : ParseError → (defined : Bool) → List Item → Type 0
 NewDefinitionFault (E.DoubleName line) defined tokens =
     (defined ≡ true) × IsDefinitionOn line tokens
@@ -76,7 +79,8 @@ pub record ReadsModule (m : Module) (tokens rest : List Item) : Type 0 where
   pub read : module_text.read tokens ≡ Some (m, rest)
   pub distinct : are_distinct (labels m.defs) ≡ true
 
--- the tokens begin with a module up to its second definition of a name, on line `line`
+-- The tokens begin with the head of a module and definitions. The last of these is on line `line`,
+-- and is the first to define a name a second time.
 pub record OpensTwice (line : ℕ) (tokens : List Lexeme) : Type 0 where
   pub name : Name
   pub heading : Option (List Part)
@@ -99,15 +103,15 @@ ModulesFault (E.DoubleName line) tokens = DefinesAgain line (tokens_of tokens)
 ModulesFault E.Memory tokens = Unit {0}
 ModulesFault _ tokens = (ms : List Module) → file.read tokens ≡ Some (ms, []) → ⊥
 
--- the error may be reported if the parser stopped at a fault of the lexer: it is the fault with
--- which the lexer stops in the text, or it is wrong syntax
+-- an error that may be reported if the parser stopped at a fault of the lexer: the fault with which
+-- the lexer stops in the text, or any syntax error
 abbrev pub IsLexFault : ParseError → List ℕ → Type 0
 IsLexFault (E.Lex fault) text = BreaksOff fault text
 IsLexFault (E.Syntax line) text = Unit {0}
 IsLexFault _ text = ⊥
 
--- `error` may be reported if the parser stopped with `stop`: for a fault of the lexer an error as
--- `IsLexFault` says, and for any other only `stop` itself
+-- `error` may be reported if the parser stopped with `stop`: if `stop` is a fault of the lexer, an
+-- error that `IsLexFault` allows; otherwise only `stop` itself
 abbrev pub IsCauseOf : ParseError → ParseError → List ℕ → Type 0
 IsCauseOf (E.Lex fault) error text = IsLexFault error text
 IsCauseOf stop error text = error ≡ stop

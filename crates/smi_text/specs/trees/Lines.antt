@@ -4,12 +4,12 @@ use Rattle.smi_text.specs.{trees.Mark.Mark, trees.Mark.spelled, trees.Mark.on_li
 use Rattle.smi_text.specs.{declared.trees.tree.Module.Module, declared.trees.tree.Def.Def}
 use Rattle.smi_text.specs.declared.trees.tree.Import.{Import}
 
--- the mark without the line that it requires
+-- the mark without the line that it requires, if it requires one
 abbrev pub plain : Mark → Mark
 plain (spelled k x ok) = spelled k x ok
 plain (on_line n m) = plain m
 
--- the module with 0 as each line
+-- the module with each of its lines set to 0
 abbrev pub without_lines : Module → Module
 without_lines m = record m {
   imports = option_map (map (λ (x : Import). record x { line = 0 })) m.imports;

@@ -1,4 +1,4 @@
--- What a module defines and imports, and what a definition says of its name.
+-- What a module defines and imports, and what a definition says of the name that it defines.
 use Rattle.std.specs.Prelude.{ℕ, Bool, true, ◌&&◌, not, List, [], ◌∷◌, Option, Some, None, codes}
 use Rattle.std.specs.Prelude.{map, unwrap_or}
 use Rattle.std.specs.List.{list_any, find}
@@ -21,18 +21,19 @@ is_imported_by name i = list_any (λ s. same_text s.text name) i.symbols
 abbrev pub import_clauses : Module → List Import
 import_clauses m = unwrap_or m.imports []
 
--- the first definition of `ds` that defines `name`, and the first clause of `is` that imports it
+-- the first of the definitions `ds` that defines `name`, if one does; `first_import` is the first
+-- of the clauses `is` that imports `name`, if one does
 abbrev pub first_definition : List ℕ → List Def → Option Def
 first_definition name ds = find (defines name) ds
 
 abbrev pub first_import : List ℕ → List Import → Option Import
 first_import name is = find (is_imported_by name) is
 
--- the definition of a name in a module: the first in the text
+-- the first definition of `name` in the text of module `m`, if the module has one
 abbrev pub definition_of : Module → List ℕ → Option Def
 definition_of m name = first_definition name m.defs
 
--- the FROM clause that imports `name` into module `m`: the first in the text
+-- the first FROM clause in the text of module `m` that imports `name`, if one does
 abbrev pub import_of : Module → List ℕ → Option Import
 import_of m name = first_import name (import_clauses m)
 
@@ -58,7 +59,7 @@ identifier_value_of (D.ModuleCompliance d) = Some d.value
 identifier_value_of (D.AgentCapabilities d) = Some d.value
 identifier_value_of _ = None
 
--- the words that say what is defined; the assignment of a type has none
+-- the words that say what is defined; empty for the assignment of a type
 abbrev pub kind_words : DefKind → List ℕ
 kind_words (D.ObjectIdentifier v) = codes "OBJECT IDENTIFIER"
 kind_words (D.ModuleIdentity d) = codes "MODULE-IDENTITY"
@@ -75,7 +76,7 @@ kind_words (D.Sequence fields) = codes "SEQUENCE"
 kind_words (D.Choice tokens) = codes "CHOICE"
 kind_words (D.Macro tokens) = codes "MACRO"
 
--- the number of a part of an identifier value, if it has one
+-- the number of a part of an identifier value, if it has one from 0 to 4294967295
 abbrev pub part_number : Part → Option ℕ
 part_number (P.Number n) = arc_in n
 part_number (P.Name x) = None

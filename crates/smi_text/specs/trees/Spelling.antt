@@ -1,7 +1,8 @@
 -- The spelling of a list of module trees, as marks: each describes one token. There is one case
 -- for each production of the grammar. In the comments a word or sign in quotes stands for itself,
--- UPPER, LOWER, NUM, HEX, BIN and STR for a token of that kind, [ x ] for x or nothing, and { x }
--- for x any number of times (RFC 2578, sections 3 to 8; RFC 2579; RFC 2580).
+-- UPPER, LOWER, NUM, HEX, BIN and STR for a token of that kind (UPPER for one that isn't a reserved
+-- word), [ x ] for x or nothing, and { x } for x any number of times (RFC 2578, sections 3 to 8;
+-- RFC 2579; RFC 2580).
 use Rattle.std.specs.Prelude.{ℕ, Bool, true, false, ◌&&◌, not, List, [], ◌∷◌, ◌++◌, Option, Some}
 use Rattle.std.specs.Prelude.{None, codes, map, if◌then◌else◌}
 use Rattle.std.specs.List.{flat_map}
@@ -39,7 +40,7 @@ use Rattle.smi_text.specs.declared.trees.tree.Refinement.TheVariants as R
 abbrev pub word : List ℕ → Mark
 word w = spelled K.Upper w true
 
--- an UPPER that isn't a reserved word
+-- UPPER, which isn't a reserved word
 abbrev pub upper : Name → Mark
 upper x = spelled K.Upper x.octets (not (is_reserved x.octets))
 
@@ -65,7 +66,8 @@ number x = spelled K.Number x (is_number x)
 abbrev pub bound : TokenText → Mark
 bound x = spelled x.kind x.text (is_bound x.kind x.text)
 
--- a list of a mark that no token matches, for a part of a tree that can't be written
+-- a single mark, which no token matches; it spells values that can't be written, such as an empty
+-- list of ranges
 abbrev pub nothing : List Mark
 nothing = spelled K.Upper [] false ∷ []
 
@@ -100,7 +102,7 @@ of_part (P.Number n) = arc n ∷ []
 of_part (P.Name x) = lower x ∷ []
 of_part (P.NamedNumber n) = of_named_arc n
 
--- a part after the first: not LOWER without a number
+-- a part of an identifier value after the first; it can't be LOWER without a number
 abbrev pub of_later_part : Part → List Mark
 of_later_part (P.Number n) = arc n ∷ []
 of_later_part (P.Name x) = nothing
@@ -173,7 +175,7 @@ abbrev pub of_index : Index → List Mark
 of_index (I.Own p) = word (codes "INDEX") ∷ braces (of_index_names p.names p.implied)
 of_index (I.Augments x) = word (codes "AUGMENTS") ∷ braces (lower x ∷ [])
 
--- tokens stored as they are, between braces; `nothing` if their own braces aren't balanced
+-- tokens stored as they are; `nothing` if the braces among them aren't balanced
 abbrev pub of_balanced : List TokenText → List Mark
 of_balanced xs = if has_balanced_braces xs then map
     (λ x. spelled x.kind x.text true) xs else nothing
@@ -279,7 +281,7 @@ of_def d = on_line d.line (label d.label d.kind) ∷ of_kind d.kind
 abbrev pub imported_symbol : TokenText → Mark
 imported_symbol x = spelled x.kind x.text (is_symbol x.kind x.text)
 
--- the marks, the first of them on line n
+-- the marks, the first of them on line n; `nothing` if there are no marks
 abbrev pub put_line : ℕ → List Mark → List Mark
 put_line n [] = nothing
 put_line n (m ∷ ms) = on_line n m ∷ ms

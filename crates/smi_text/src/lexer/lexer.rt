@@ -8,15 +8,15 @@ use crate::lexer::scan::{gaps_at, is_open, lexeme_at, lines_in};
 use crate::lexer::token::{LexError, Span, Token};
 use std::marker::Model;
 
-/// An iterator over the tokens of a module text. If neither a token, a blank nor a comment begins
-/// at an octet, it returns the fault there, and then ends. It doesn't allocate.
+/// An iterator over the tokens of a module text. If it can't read the text to its end, its last
+/// item is the fault. It doesn't allocate.
 #[derive(Drop)]
 pub struct Lexer<'a> {
     /// The octets that are still to be read; none after a fault.
     rest: &'a [u8],
     /// The number of octets before `rest`, unless `rest` is empty.
     at: usize,
-    /// The number of newlines among those octets.
+    /// The number of newlines among the octets before `rest`, unless `rest` is empty.
     lines: usize,
 }
 

@@ -70,8 +70,8 @@ fn word_rest_len(text: &[u8]) -> usize
     n
 }
 
-/// Returns what `word_run_end` does, faster if one octet and then a hyphen follow. `from` is the
-/// offset after a hyphen.
+/// Returns what `word_run_end` returns, and is faster if one letter, digit or `_` and then a hyphen
+/// follow. `from` is the offset after a hyphen.
 #[inline(always)]
 fn part_end(text: &[u8], from: usize) -> usize
     requires { from ≤ length text.now }
@@ -106,8 +106,8 @@ fn hyphens_len(text: &[u8]) -> usize
     n
 }
 
-/// Returns the number of octets before the end of the line or two hyphens in a row. If neither
-/// comes, this is the length of `text`.
+/// Returns the number of octets of `text` before the first newline, or before the first two hyphens
+/// in a row if these come earlier. If neither occurs, this is the length of `text`.
 fn remark_len(text: &[u8]) -> usize
     ensures within { result ≤ length text.now }
     ensures same { GoesOn is_remark_rest text.now result }

@@ -1,4 +1,4 @@
--- The branches of the prefixes of identifiers in a list.
+-- The branches of a list of identifiers: one for each prefix of an identifier.
 use Rattle.std.specs.Prelude.{◌≡◌, ◌≢◌, ℕ, ◌+◌, ◌<◌, ◌≤◌, ◌⊎◌, List, [], ◌∷◌, ◌++◌, length, take}
 use Rattle.std.specs.Prelude.{slice_index_or, Option, Some, None}
 use Rattle.std.specs.{List.slice_get, Option.option_and_then, Ordering.nat_cmp, BTreeMap.get}
@@ -14,7 +14,8 @@ follower bs at n = option_and_then (λ b. get nat_cmp b.after n) (slice_get bs a
 abbrev pub id_at : List Branch → ℕ → Option ℕ
 id_at bs at = option_and_then (λ b. b.node_id) (slice_get bs at)
 
--- the branch that numbers reach from the branch `at`, one after the other
+-- the branch that numbers reach from the branch `at`, one after the other; `next b n` is the branch
+-- that `n` reaches from the branch `b`
 abbrev pub walk : (ℕ → ℕ → Option ℕ) → ℕ → List ℕ → Option ℕ
 walk next at [] = Some at
 walk next at (n ∷ rest) = option_and_then (λ b. walk next b rest) (next at n)
@@ -23,7 +24,7 @@ walk next at (n ∷ rest) = option_and_then (λ b. walk next b rest) (next at n)
 abbrev pub branch_of : List Branch → List ℕ → Option ℕ
 branch_of bs o = walk (follower bs) 0 o
 
--- one of the identifiers begins with `o`
+-- one of the identifiers `oids` begins with `o`
 abbrev pub IsBeginning : List (List ℕ) → List ℕ → Type 0
 IsBeginning oids o = (k : ℕ) × (rest : List ℕ) × (k < length oids) × (oid_at oids k ≡ o ++ rest)
 
@@ -56,8 +57,8 @@ pub record AddsBranch (old new : List Branch) (at n b : ℕ) : Type 0 where
       → (follower old c m ≡ Some d) ⊎ ((c ≡ at) × (m ≡ n) × (d ≡ b))
   pub node_id : (c : ℕ) → id_at new c ≡ id_at old c
 
--- `n` reaches branch `b` from the branch `at`; `b` was there before or was added, and nothing else
--- was changed
+-- `n` reaches branch `b` from the branch `at` in `new`; either `new` is `old`, or `b` was added and
+-- nothing else was changed
 pub record GrowsBranch (old new : List Branch) (at n b : ℕ) : Type 0 where
   pub refers_to : follower new at n ≡ Some b
   pub kept : (c m d : ℕ) → follower old c m ≡ Some d → follower new c m ≡ Some d
@@ -86,6 +87,7 @@ pub record IsUnderWay (oids : List (List ℕ)) (bs : List Branch) (o : List ℕ)
   pub here : branch_of bs (take depth o) ≡ Some branch
   pub so_far : SoFar oids o depth deepest
 
--- `way` has the branch of each prefix of `o`, by the length of the prefix
+-- for `j` from 0 to the length of `o`, `way` has at index `j` the branch that the first `j` numbers
+-- of `o` reach
 pub record IsWay (bs : List Branch) (o way : List ℕ) : Type 0 where
   pub each : (j : ℕ) → j ≤ length o → branch_of bs (take j o) ≡ Some (slice_index_or way j 0)

@@ -33,17 +33,17 @@ indexes_of kept rows = map (λ at. option_and_then (λ p. parts_at kept p.0 p.1)
 
 -- ---- for private functions
 
--- `name` has no part in an INDEX clause of module `m`
+-- `name`, after IMPLIED or not, has no part in an INDEX clause of module `m`
 abbrev pub HasNoPart : List Module → Module → List ℕ → Bool → Type 0
 HasNoPart ms m name implied = (part : IndexPart) → IsIndexPart ms m name implied part → ⊥
 
--- the result is the parts of an INDEX clause, or `None` if it can't be read
+-- the result is the parts of the INDEX clause `clause`, or `None` if this can't be read
 abbrev pub IsReading : List Module → Module → IndexParts → Option (List IndexPart) → Type 0
 IsReading ms m clause None = (parts : List IndexPart) → AreParts ms m clause parts → ⊥
 IsReading ms m clause (Some parts) = AreParts ms m clause parts
 
--- the result is the parts of the INDEX clause of `d` itself, or `None` if it has none that can be
--- read
+-- the result is the parts of the INDEX clause of `d` itself, or `None` if `d` has no INDEX clause
+-- that can be read
 abbrev pub IsOwn : List Module → Module → Def → Option (List IndexPart) → Type 0
 IsOwn ms m d None = (parts : List IndexPart) → IsIndexed ms m d parts → ⊥
 IsOwn ms m d (Some parts) = IsIndexed ms m d parts
@@ -93,7 +93,7 @@ abbrev pub HasRowOrNone : List Module → List Node → Node → Option (ℕ × 
 HasRowOrNone ms nodes node None = HasNoRow ms nodes node
 HasRowOrNone ms nodes node (Some at) = HasRowAt ms nodes node at.0 at.1
 
--- `rows` has, for each node, the definition whose INDEX clause its row uses, or `None`
+-- `rows` has, for each node, the definition whose INDEX clause the node's row uses, or `None`
 abbrev pub AreRows : List Module → List Node → List (Option (ℕ × ℕ)) → Type 0
 AreRows ms nodes rows = ArePairwise (λ k node at. HasRowOrNone ms nodes node at) nodes rows
 

@@ -14,7 +14,8 @@ use Rattle.smi_names.specs.declared.meaning.base.TypeBase.TheVariants as T
 abbrev pub StatesBound : TokenText → ℕ → Type 0
 StatesBound t n = bound_in t.kind t.text ≡ Some (pos n)
 
--- the SIZE is fixed: it has a single range, which is only `bound`; `n..n` isn't a single bound
+-- the SIZE is fixed: its only range is the single bound `bound`, as in `SIZE (4)`; `SIZE (4..4)`
+-- has two bounds
 pub record IsFixedBy (sizes : Option (List Range)) (bound : TokenText) : Type 0 where
   pub range : Range
   pub only : sizes ≡ Some (range ∷ [])

@@ -4,7 +4,7 @@ use Rattle.smi_text.specs.{declared.trees.tree.Module.Module, declared.trees.tre
 use Rattle.smi_names.specs.meaning.Meaning.{QualifiedName}
 use Rattle.smi_tree.specs.columns.Definitions.{IsDefinedBy}
 
--- `p` refers to definition `k` of module `i`
+-- the name `p` refers to the definition at index `k` of the module at index `i`
 pub record IsFoundAt (ms : List Module) (p : QualifiedName) (i k : ℕ) : Type 0 where
   pub home : Module
   pub at_module : slice_get ms i ≡ Some home
@@ -12,6 +12,6 @@ pub record IsFoundAt (ms : List Module) (p : QualifiedName) (i k : ℕ) : Type 0
   pub there : slice_get home.defs k ≡ Some definition
   pub named : IsDefinedBy ms p home definition
 
--- `p` refers to no definition
+-- the name `p` refers to no definition
 abbrev pub IsUndefined : List Module → QualifiedName → Type 0
 IsUndefined ms p = (m : Module) (d : Def) → IsDefinedBy ms p m d → ⊥

@@ -38,7 +38,8 @@ names_of d = option_and_then (λ s. names_in s.refinement) (type_in d.kind)
 abbrev pub sizes_of : Def → Option (List Range)
 sizes_of d = option_and_then (λ s. sizes_in s.refinement) (type_in d.kind)
 
--- the definition at `at`, if there is one
+-- the definition at `at`, which has the index of a module and the index of a definition in it, if
+-- there is one
 abbrev pub def_of : List Module → Option (ℕ × ℕ) → Option Def
 def_of ms at = option_and_then (λ p. def_at ms p.0 p.1) at
 
@@ -55,7 +56,7 @@ abbrev pub kept_syntax : List Module → Types → ℕ → ℕ → Option Facts
 kept_syntax ms t i k = option_map (facts_at ms)
     (option_and_then (λ kept. option_at kept.items k) (slice_get t.objects.items i))
 
--- `facts` is the syntax of a type with the origin `o`, or `None` if it has none
+-- `facts` is the syntax of a type with the origin `o`, or `None` if this type has no syntax
 abbrev pub IsSyntax : List Module → TypeOrigin QualifiedName → Option Facts → Type 0
 IsSyntax ms o facts = MatchOption facts (HasNoSyntax ms o) (λ f. HasSyntax ms o f)
 
@@ -74,8 +75,8 @@ abbrev pub base_or : Option TypeBase → Option KeptSyntax → Option KeptSyntax
 base_or None far = far
 base_or (Some b) far = Some (record { base = b; hint = None; names = None; sizes = None })
 
--- the syntax of the type `s` in the definition `at`, with a hint or without; `far` is the syntax
--- of the type that it refines
+-- the syntax of the type `s` in the definition at `at`; `hint` says whether this definition has a
+-- display hint, and `far` is the syntax of the type that `s` refines, unless that is a base type
 abbrev pub refined_by : ℕ × ℕ → Bool → SimpleType → Option KeptSyntax → Option KeptSyntax
 refined_by at hint s far = option_map (λ f. record {
   base = f.base;
@@ -84,13 +85,14 @@ refined_by at hint s far = option_map (λ f. record {
   sizes = if is_some (sizes_in s.refinement) then Some at else f.sizes;
 }) (base_or (base_in s.base) far)
 
--- the name of the type that the definition of a type refines, unless it is a base type
+-- the name of the type that the type defined by `d` refines; `None` if that is a base type, or if
+-- `d` doesn't define a type of values
 abbrev pub refines : Def → Option (List ℕ)
 refines d = option_and_then (λ s. name_in s.base)
     (option_and_then simple_in (type_syntax d.kind))
 
--- the syntax of the type that `d` defines; `at` are its indices, and `far` is the syntax of the
--- type that it refines
+-- the syntax of the type that `d` defines; `at` has the indices of `d`, and `far` is the syntax of
+-- the type that this type refines, unless that is a base type
 abbrev pub type_at : ℕ × ℕ → Def → Option KeptSyntax → Option KeptSyntax
 type_at at d far = option_and_then (λ s. refined_by at (is_some (type_hint d.kind)) s far)
     (option_and_then simple_in (type_syntax d.kind))
@@ -99,8 +101,8 @@ type_at at d far = option_and_then (λ s. refined_by at (is_some (type_hint d.ki
 abbrev pub AreFollowed : KnownNames → List (Option KeptSyntax) → Type 0
 AreFollowed k types = AreMeant k refines type_at types
 
--- `kept` has for each definition of module `m` the syntax of its values, if it defines an object
--- that has one
+-- `kept` has for each definition of module `m` the syntax of the object that it defines, if it
+-- defines an object that has one
 abbrev pub AreKeptOf : List Module → Module → List (Option KeptSyntax) → Type 0
 AreKeptOf ms m kept =
     ArePairwise (λ k d syntax. IsKept ms (origin_of_object m.name.octets d) syntax) m.defs kept

@@ -31,12 +31,12 @@ sizes_in (Some (R.Numbers names)) = None
 sizes_in (Some (R.Values ranges)) = None
 sizes_in (Some (R.Size ranges)) = Some ranges
 
--- what a type defines itself, with its display hint
+-- what a type with this display hint and this refinement defines itself
 abbrev pub layer : Option (List ℕ) → Option Refinement → Layer
 layer hint refinement =
     record { hint = hint; names = names_in refinement; sizes = sizes_in refinement }
 
--- the base type that a type refines, by keywords or by name
+-- the base type that a type refines, by keywords or by name; `None` if it refines another type
 abbrev pub base_in : Base → Option TypeBase
 base_in B.Integer = Some T.Integer
 base_in B.OctetString = Some T.OctetString
@@ -44,7 +44,8 @@ base_in B.ObjectIdentifier = Some T.ObjectIdentifier
 base_in B.Bits = Some T.Bits
 base_in (B.Named x) = base_named x.octets
 
--- the origin of a type: a base type, or another type by its name in the module `home`
+-- the origin of a type in the module named `home`, which refines `base` and defines `l` itself; the
+-- last argument is the base type that `base` is, or `None` if it isn't one
 abbrev pub origin_of_base : List ℕ → Layer → Base → Option TypeBase → TypeOrigin QualifiedName
 origin_of_base home l base (Some b) = at_base l b
 origin_of_base home l (B.Named x) None = on_name l (record { home = home; name = x.octets })
@@ -67,8 +68,8 @@ abbrev pub origin_of_syntax : List ℕ → Option (List ℕ) → Option Syntax �
 origin_of_syntax home hint syntax =
     origin_of_simple home hint (option_and_then simple_in syntax)
 
--- the syntax of a textual convention or an assigned type; SEQUENCE and CHOICE aren't types of
--- values, and other definitions aren't types
+-- the syntax of a textual convention or an assigned type; `None` for any other definition, also for
+-- a SEQUENCE or a CHOICE, which aren't types of values
 abbrev pub type_syntax : DefKind → Option Syntax
 type_syntax (D.TextualConvention d) = Some d.syntax
 type_syntax (D.TypeAssignment d) = Some d.syntax
@@ -84,7 +85,8 @@ abbrev pub no_layer : Layer
 no_layer = record { hint = None; names = None; sizes = None }
 
 -- the origin of the type named `a`, by what decides this name in its module: a definition or, if
--- it is imported, the same name in the module after FROM; `no_type` if nothing or a root does
+-- it is imported, the same name in the module after FROM; `no_type` if a root decides it, or
+-- nothing does
 abbrev pub type_origin_by : QualifiedName → Option Decision → TypeOrigin QualifiedName
 type_origin_by a None = no_type
 type_origin_by a (Some (defined d)) =
@@ -124,14 +126,15 @@ abbrev pub object_origin : List Module → ℕ → ℕ → TypeOrigin QualifiedN
 object_origin ms i k = object_in (slice_get ms i) (def_at ms i k)
 
 -- a syntax: the base type at the end of the chain of types, and the first hint, names and SIZE on
--- it
+-- the chain
 pub record Facts : Type 0 where
   pub base : TypeBase
   pub hint : Option (List ℕ)
   pub names : Option (List NamedNumber)
   pub sizes : Option (List Range)
 
--- the chain of types from `origin` defines these facts
+-- the chain of types from `origin` ends at the base type in `facts`, and the hint, names and SIZE
+-- in `facts` are the first ones on the chain
 pub record HasSyntax (ms : List Module) (origin : TypeOrigin QualifiedName) (facts : Facts)
     : Type 0 where
   pub layers : List Layer

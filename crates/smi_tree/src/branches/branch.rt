@@ -66,7 +66,8 @@ pub(crate) fn first(alloc: Global) -> Result<Vec<Branch>, AllocError>
 }
 
 /// The branches of the identifier that was added last: at index `n`, from 0 to the identifier's
-/// length, the index of the branch of its first `n` numbers. An identifier has at most 128.
+/// length, the index of the branch of its first `n` numbers. An identifier has at most 128
+/// numbers.
 pub(crate) type Way = [usize; 129];
 
 /// Returns the length of the longest common prefix of `a` and `b`.

@@ -153,9 +153,10 @@ impl Identifiers {
         }
     }
 
-    /// Returns the child of `oid` with the lower number: `child`, or the identifier at index `id`,
-    /// if this is a child of `oid` and `id` is its first index. A child is its last number and its
-    /// first index.
+    /// Returns the lower, by the last number, of two children of `oid`: `child`, and the
+    /// identifier at index `id`, which counts only if it is a child of `oid` and `id` is its first
+    /// index. Returns `None` if there is neither. A child is represented by its last number and
+    /// its first index.
     pub(crate) fn lower_child(
         &self,
         oid: &Oid,
@@ -232,7 +233,8 @@ fn deepest_at(oids: &[StoredOid], branches: &[Branch], oid: &Oid, at: usize) -> 
     })
 }
 
-/// Returns the longest prefix of `oid` that is in the list. Searches from the first branch.
+/// Returns the longest prefix of `oid` that is in the list, if any is. Searches from the first
+/// branch.
 fn deepest_of_all(oids: &[StoredOid], branches: &[Branch], oid: &Oid) -> Option<Deepest>
     requires { AreBranchesOf oids.now branches.now }
     ensures { MatchOption result
@@ -242,8 +244,9 @@ fn deepest_of_all(oids: &[StoredOid], branches: &[Branch], oid: &Oid) -> Option<
     deepest_from(oids, branches, oid, 0, 0, deeper(branches, 0, 0, None))
 }
 
-/// Returns the longest prefix of `oid` that is in the list. Searches from `branch`, which the
-/// first `depth` numbers of `oid` reach. `before` is the longest prefix up to there.
+/// Returns the longest prefix of `oid` that is in the list, if any is. Searches from `branch`,
+/// which the first `depth` numbers of `oid` reach. `before` is the longest prefix of at most
+/// `depth` numbers that is in the list.
 fn deepest_from(
     oids: &[StoredOid],
     branches: &[Branch],
@@ -271,7 +274,8 @@ fn deepest_from(
     deepest
 }
 
-/// Returns the numbers that follow `numbers` in identifiers, each with the index of its branch.
+/// Returns the numbers that follow `numbers` in identifiers, each with the index of the branch
+/// that is reached by `numbers` and then this number.
 #[tactic(auto, using(std::proofs::lemmas::Option::slice_get_read, std::proofs::lemmas::Option::slice_get_past, crate::proofs::BranchWalks::walk_push))]
 fn after<'a>(
     branches: &'a [Branch],

@@ -9,8 +9,8 @@ use crate::columns::{Extent, IndexPart};
 use smi_names::TypeBase;
 use smi_text::{Range, TokenText, bound as value_of};
 
-/// Returns the number that `bound` represents, or `None` if there is none (a bound has at most 64
-/// bits) or it is below zero.
+/// Returns the number that `bound` represents. Returns `None` if it represents none (a bound has
+/// at most 64 bits) or a number below zero.
 fn number(bound: &TokenText) -> Option<u64>
     ensures { MatchOption result ((n : ℕ) → StatesBound bound.now n → ⊥)
         (λ n. StatesBound bound.now n) }
@@ -19,8 +19,8 @@ fn number(bound: &TokenText) -> Option<u64>
     if value < 0 { None } else { Some(value as u64) }
 }
 
-/// Returns the bound of a SIZE that is one number. A range has none, even if its two ends are the
-/// same.
+/// Returns the bound of a SIZE that is a single bound, as in `SIZE (4)`. Returns `None` for a
+/// range with two ends, even if they are the same, for several ranges, and if there is no SIZE.
 fn single(sizes: Option<&[Range]>) -> Option<&TokenText>
     ensures { let returned = option_copied sizes.entry in
         MatchOption result (IsNotFixed returned) (λ bound. IsFixedBy returned bound.now) }

@@ -8,7 +8,7 @@ use crate::branches::Identifiers;
 /// The row that was looked up last.
 #[derive(Clone, Copy)]
 pub(crate) struct LastRow<'i> {
-    /// The numbers of its identifier.
+    /// The numbers of the row's identifier.
     numbers: &'i [u32],
     /// The first index of that identifier in the list of all identifiers, or `None` if it isn't
     /// there.

@@ -17,7 +17,7 @@ use std::marker::Model;
 /// the warnings.
 #[derive(Drop)]
 pub(super) struct Resolved {
-    /// Where each node comes from.
+    /// What each node comes from: a root or a definition.
     pub(super) sources: Vec<Source>,
     /// The identifier of each node.
     identifiers: Identifiers,

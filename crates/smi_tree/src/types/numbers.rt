@@ -9,10 +9,10 @@ use std::alloc::{AllocError, Global};
 use std::collections::BTreeMap;
 
 /// The indexes of the long lists of named numbers or bits in a module. The key is the index of the
-/// definition of the list.
+/// definition that has the list.
 pub(super) type ListIndexes = BTreeMap<usize, NumberIndex>;
 
-/// Returns the index of the named numbers or bits in a definition, if it is useful.
+/// Returns the index of the named numbers or bits in a definition, if they are a long list.
 fn index_of(alloc: Global, def: &Def) -> Result<Option<NumberIndex>, AllocError>
     ensures { IfOk result (λ index. IfSome index (IsIndexIn def.now)) }
 {
@@ -22,7 +22,8 @@ fn index_of(alloc: Global, def: &Def) -> Result<Option<NumberIndex>, AllocError>
     }
 }
 
-/// Returns the indexes of the definitions `defs` of a module.
+/// Returns the indexes of the long lists of named numbers or bits in `defs`, the definitions of a
+/// module.
 fn indexes_of(alloc: Global, defs: &[Def]) -> Result<ListIndexes, AllocError>
     ensures { IfOk result (AreNumbersOf defs.now) }
 {
@@ -35,7 +36,7 @@ fn indexes_of(alloc: Global, defs: &[Def]) -> Result<ListIndexes, AllocError>
     Ok(numbers)
 }
 
-/// Returns the indexes of each module.
+/// Returns, for each module, the indexes of its long lists of named numbers or bits.
 pub(super) fn number_indexes(
     alloc: Global,
     modules: &[Module],

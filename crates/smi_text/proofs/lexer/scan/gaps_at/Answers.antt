@@ -20,7 +20,7 @@ gaps-preserved c = grind (arith, common_steps, skips_comment, take_rest, length-
 pub returns-after-gaps-clause-all : goal.returns-after-gaps-clause-all
 returns-after-gaps-clause-all c = gaps_end c.args.text.now c.gaps.n c.gaps-test.false
 
--- no gap begins here: the octet isn't blank, and isn't a hyphen before another
+-- no gap begins at offset `n`: the octet there isn't blank, and isn't a hyphen before another hyphen
 pub returns-else-text-n-eq45-clause-all : goal.returns-else-text-n-eq45-clause-all
 returns-else-text-n-eq45-clause-all c = grind (
   arith,

@@ -4,7 +4,7 @@ use Rattle.smi_text.proofs.lexer.scan.remark_len.Goals as goal
 use Rattle.smi_text.proofs.lexer.scan.remark_len.Goals.{else-octet-eq45-via-then-octet-eq45+then-n-text+else-text-n-eq45}
 use Rattle.smi_text.proofs.lexer.scan.remark_len.Goals.{else-octet-eq45-via-then-octet-eq45+else-n-text, else-octet-eq45-via-else-octet-eq45}
 
--- the octet doesn't end a remark: it isn't a newline, and isn't a hyphen before another
+-- the octet continues a remark: it isn't a newline, and isn't a hyphen before another hyphen
 pub octets-preserved : goal.octets-preserved
 octets-preserved c = grind (
   arith,

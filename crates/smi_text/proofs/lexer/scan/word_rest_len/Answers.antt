@@ -4,7 +4,7 @@ use Rattle.smi_text.specs.{lexer.Lexeme.is_word_octet, lexer.Lexeme.is_word_rest
 use Rattle.smi_text.proofs.Scans.{goes_from_start, hyphen_step, word_ends, word_run_goes}
 use Rattle.smi_text.proofs.lexer.scan.word_rest_len.Goals as goal
 
--- a hyphen, with the run of letters, digits and `_` after it, continues the rest of a word
+-- a hyphen and the run of one or more letters, digits and `_` after it continue the rest of a word
 part_goes : (text : List ℕ) (n to : ℕ) → get_or text n 0 ≡ 45 → n + 1 < to → IsRunBetween is_word_octet text (n + 1) to
     → GoesOn is_word_rest text n → GoesOn is_word_rest text to
 part_goes text n to hyphen some run goes =

@@ -1,4 +1,4 @@
--- The index is stored for each source.
+-- The previous index of the label is stored for each source.
 use Rattle.std.proofs.Common.{◌≡◌, ◌<◌, length, slice_index_or, sym, arith}
 use Rattle.std.proofs.lemmas.{Grind.common_steps, Option.gets}
 use Rattle.smi_tree.proofs.Sources.{length_nodes, labels_nodes}

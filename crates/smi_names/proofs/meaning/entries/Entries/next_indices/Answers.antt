@@ -1,4 +1,4 @@
--- Each entry refers to the index of the name that its own name refers to.
+-- An entry refers to the entry of the name that its own name refers to.
 use Rattle.std.proofs.{Common.arith, lemmas.Grind.common_steps, lemmas.Result.IfOk-weaker}
 use Rattle.smi_names.proofs.ReferenceChains.{are_next, keeps_imports}
 use Rattle.smi_names.proofs.meaning.entries.Entries.next_indices.Goals as goal

@@ -1,4 +1,5 @@
--- Which of the two children is the result: `child`, if its number is at most that of the identifier at index `id`, or if that isn't a child at its first index; otherwise that one.
+-- The result is `child` if its number is at most the last number of the identifier at index `id`, or if this identifier isn't a child or `id` isn't its first
+-- index. Otherwise the result is this identifier.
 use Rattle.std.proofs.Common.{rules, ◌≡◌, ℕ, List, [], ◌∷◌, ◌++◌, Option, Some, None, IfSome, IsSomeAnd, ◌≤◌, inl, inr, refl, sym, ◌∙◌, arith}
 use Rattle.std.proofs.Common.{ap, length, length-append}
 use Rattle.std.proofs.lemmas.{List.same_from_push, Grind.common_steps}
