@@ -16,7 +16,7 @@ Pair = List ℕ × List ℕ
 same_pair : (p q : Pair) → Some p ≡ Some q → (p.0 ≡ q.0) × (p.1 ≡ q.1)
 same_pair p q h = let e : p ≡ q = cc in (ap (λ (r : Pair). r.0) e, ap (λ (r : Pair). r.1) e)
 
--- if `Some y` was returned on the condition `b`, then `b` is true and `y` is what was to be returned
+-- if `Some x` on the condition `b`, and otherwise None, is `Some y`, then `b` is true and `x` is `y`
 pub chosen : {A : Type 0} (b : Bool) (x y : A) → cond b (Some x) None ≡ Some y → (b ≡ true) × (x ≡ y)
 chosen true x y h = (refl, cc)
 chosen false x y h = let no : ⊥ = cc in absurd no
@@ -126,7 +126,7 @@ pub one_reading_of_all : (parts : List IndexPart) (numbers : List ℕ) (values o
     → ReadValues parts numbers others → values ≡ others
 one_reading_of_all parts numbers values others h g = grind (arith, common_steps, all_only)
 
--- if the numbers encode values of all parts, then these values are computed; `if_read` says the converse
+-- if the numbers encode values of all parts, then `values_of` returns values; `if_read` says the converse
 pub read_if : (parts : List IndexPart) (numbers : List ℕ) → ((values : List (List ℕ)) × ReadValues parts numbers values)
     → is_some (values_of parts numbers) ≡ true
 read_if parts numbers h = ap is_some (all_only parts numbers h.0 h.1)

@@ -1,4 +1,4 @@
--- The computed meaning of parts and of a text is the one that `Meant` defines.
+-- What `Meaning` computes for a part, for parts and for a text is a meaning as `Meant` defines it, and the only one.
 use Rattle.std.proofs.Common.{arith, ◌≡◌, ◌≢◌, ℕ, Bool, true, false, eqb, cond, List, [], ◌∷◌, ◌++◌, length, Option, Some, None, Result, Ok, Err}
 use Rattle.std.proofs.Common.{refl, sym, ◌∙◌, ap, subst, inl, inr}
 use Rattle.std.proofs.lemmas.Grind.{common_steps}

@@ -32,7 +32,7 @@ number_fails (octet ∷ more) h =
 
 -- ---- texts in quotes
 
--- if `octets` were read from `rest` as the text before a quote, then `rest` is `octets` and the quote, and each of `octets` may appear between quotes
+-- if `quoted_in` returns `octets` for `rest`, then `rest` is `octets` followed by `quote`, and each of `octets` may appear between quotes
 pub quoted_of : (quote : ℕ) (rest octets : List ℕ) → quoted_in quote rest ≡ Some octets → (rest ≡ octets ++ quote ∷ []) × (list_all is_quotable octets ≡ true)
 quoted_of quote rest octets h = grind (arith, common_steps, chosen, and_parts, ltb-true, take_more, eqb-true, take-length)
 
@@ -79,7 +79,7 @@ pub word_is : (part : List ℕ) → WordIs part (word_of part)
 word_is [] = tt
 word_is (octet ∷ more) = word_at octet more (is_ascii_digit octet) (eqb octet 34) (eqb octet 39) refl refl refl
 
--- if a part begins with a quote and isn't a text in quotes, then what it is by `WordIs` is the fault `BadIndex`
+-- if a part begins with a quote and isn't the text of a piece, and `read` is what the part is by `WordIs`, then `read` is the fault `BadIndex`
 bad_index : (octet : ℕ) (more : List ℕ) (read : Result Word NameError) → IsBadIndex (octet ∷ more) → WordIs (octet ∷ more) read → read ≡ Err BadIndex
 bad_index octet more (Ok (a_piece piece)) h is = absurd (h.1 piece is)
 bad_index octet more (Ok (a_label label)) h is = absurd (elim h.0 [ inl double ↦ is.1.1 double | inr single ↦ is.1.2 single ])

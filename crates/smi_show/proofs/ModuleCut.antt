@@ -1,5 +1,5 @@
--- In the loop of `cut_later_module`, `IsModuleAt` holds before each octet. If no `::` outside quotes begins at the octet, then it holds after the octet too
--- (`module_later`); if one does, then it is the first one, and the loop returns the texts before and after it (`module_here`).
+-- `IsModuleAt`: what `module_after` returns for `text` is what it returns from the offset `at` on, with the first `at` octets put before the module. It holds
+-- before each step of the loop of `cut_later_module`: `module_later` is for an `at` without `::` outside quotes, `module_here` for an `at` with it.
 use Rattle.std.proofs.Common.{◌≡◌, ℕ, ◌+◌, ◌<◌, true, false, List, [], ◌∷◌, length, take, drop, get_or, Option, Some, None, refl, sym, ◌∙◌, ap, subst, arith}
 use Rattle.std.proofs.lemmas.List.{drop_more, append-nil, drop-drop}
 use Rattle.snmp_io.specs.Quotes.{open_after}

@@ -8,8 +8,8 @@ use Rattle.smi_show.specs.name.Meaning.{and_then, fitting, further_meaning, part
 use Rattle.smi_tree.specs.{Naming.oid_of_child, Tree.Contents}
 use Rattle.smi_show.proofs.{PlainOctets.plain_digits, ShownWords.IsWhole, ShownWords.cuts, ShownWords.plain_is_whole, Words.digits_word}
 
--- if a text begins with a number, which ends at a dot or with the text, then after `o` it means `TooLong` if `o` has no room for the number, otherwise what
--- the parts after the dot mean after `o` and the number
+-- `part` is the number `n` in digits, and `text` is `part`, or `part` followed by a dot and `rest`: after parts that mean `o`, `text` means `TooLong` if `o`
+-- followed by `n` has more than 128 numbers, otherwise what the parts of `rest`, if there are any, mean after `o` followed by `n`
 pub number_next : (tree : Contents) (look_up : List ℕ → Option (List ℕ)) (o text part : List ℕ) (n : ℕ) (after : Option (List ℕ)) → IsNumeral part n
     → MatchOption after (text ≡ part) (λ rest. text ≡ part ++ dot ∷ rest)
     → parts_meaning tree look_up o (name_parts text)

@@ -35,7 +35,7 @@ at_tests part false small digits is some none = refl
 pub no_numeral : (part : List ℕ) → part ≢ [] → ((n : ℕ) → IsNumeral part n → ⊥) → numeral_of part ≡ None
 no_numeral part some none = at_tests part (all_ascii_digits part) (ltb (decimal_value part) 4294967296) refl refl some none
 
--- if `part` isn't empty, and `read` is its number, or None if it isn't a number in digits, then `read` is what `numeral_of` computes
+-- if `part` isn't empty, and `read` is the number that `part` writes in digits, or None if `part` isn't a number in digits, then `read` is `numeral_of part`
 pub numeral_read : (part : List ℕ) (read : Option ℕ) → part ≢ [] → IfSome read (IsNumeral part) → IfNone read ((n : ℕ) → IsNumeral part n → ⊥)
     → read ≡ numeral_of part
 numeral_read part (Some n) some found none = sym (numeral_is part n found)

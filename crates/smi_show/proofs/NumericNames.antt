@@ -11,20 +11,21 @@ use Rattle.smi_show.proofs.{NumberParts.number_next, PlainOctets.apart, PlainOct
 use Rattle.smi_tree.specs.{Naming.oid_of_child, Naming.oid_anywhere, Naming.oid_of_root, Tree.Contents}
 use Rattle.smi_show.proofs.ShownWords.{dot_module, plain_is_whole, scopes}
 
--- an identifier of at most 128 numbers fits
+-- `fitting` returns an identifier of at most 128 numbers unchanged
 pub fits : (o : List ℕ) → length o ≤ 128 → fitting o ≡ Ok o
 fits o low = rw (le-leb (length o) 128 low) refl
 
 pub shorter : (prefix rest : List ℕ) → length (prefix ++ rest) ≤ 128 → length prefix ≤ 128
 shorter prefix rest h = omega (arith, length-append prefix rest)
 
--- a text that is neither empty nor `.` is read by its module and parts
+-- the meaning of a text that is neither empty nor `.` is what `scoped_meaning` computes from the text and its module, if it has one
 pub scoped : (tree : Contents) (text : List ℕ) → text ≢ [] → text ≢ 46 ∷ [] → meaning tree text ≡ scoped_meaning tree text (module_after None text)
 scoped tree [] some more = absurd (some refl)
 scoped tree (octet ∷ []) some more = rw (ne_eqb octet 46 (λ e. more (ap (λ (n : ℕ). n ∷ []) e))) refl
 scoped tree (octet ∷ next ∷ rest) some more = refl
 
--- parts that are the numbers `o`, after the identifier `so_far`, mean `so_far` and then `o`, if these are at most 128 numbers together
+-- if `text` is the numbers `o` with dots between them, and `so_far` followed by `o` has at most 128 numbers, then the parts of `text`, after parts that mean
+-- `so_far`, mean `so_far` followed by `o`
 dotted_parts : (tree : Contents) (look_up : List ℕ → Option (List ℕ)) (so_far text o : List ℕ) → IsDotted text o → length (so_far ++ o) ≤ 128
     → parts_meaning tree look_up so_far (name_parts text) ≡ Ok (so_far ++ o)
 dotted_parts tree look_up so_far text [] h low = absurd h
@@ -40,7 +41,7 @@ dotted_parts tree look_up so_far text (n ∷ m ∷ more) (first, rest, is, numer
     ∙ dotted_parts tree (oid_of_child tree next) next rest (m ∷ more) dotted low_all
     ∙ ap (λ (t : List ℕ). Ok t) grouped
 
--- dotted numbers have no module before them
+-- a text of numbers with dots between them has no module
 dotted_module : (text o : List ℕ) → IsDotted text o → module_after None text ≡ None
 dotted_module text [] h = absurd h
 dotted_module text (n ∷ []) h =

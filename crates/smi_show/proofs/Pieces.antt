@@ -15,7 +15,8 @@ use Rattle.smi_show.specs.index.Pieces.{Piece, plain_number, is_quotable, is_sho
 use Rattle.smi_show.specs.index.Pieces.{as_numbers, as_text, extent_numbers, value_numbers, value_pieces, index_pieces, AreInstancePieces}
 use Rattle.smi_show.proofs.IndexValues.{all_found, all_only, first_value}
 
--- the text of the values `ahead`, the first one of part `i`, is the text of `value` and then the text of `more`, which the parts after `i` read from `rest`
+-- the text of `ahead`, the values of part `i` and the parts after it, is the text of `value` and then the text of `more`, which the parts after `i` read from
+-- `rest`
 pub record IsNextValue (parts : List IndexPart) (i : ℕ) (value rest : List ℕ) (ahead : List (List ℕ)) : Type 0 where
   pub more : List (List ℕ)
   pub left : values_of (drop (i + 1) parts) rest ≡ Some more

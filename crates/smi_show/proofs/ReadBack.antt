@@ -51,7 +51,7 @@ begins_more : (word rest : List ℕ) → is_word word ≡ true → word ++ rest 
 begins_more [] rest h same = let wrong : ⊥ = cc in absurd wrong
 begins_more (octet ∷ more) rest h same = grind (arith, common_steps, plain_word_begins)
 
--- a label without a module is looked up in the whole tree
+-- if a text begins with a label, then `plain_meaning` looks the label of its first part up in the whole tree
 plain_label : (tree : Contents) (label rest : List ℕ) → is_word label ≡ true
     → plain_meaning tree (label ++ rest) ≡ meaning_in tree anywhere (name_parts (label ++ rest))
 plain_label tree [] rest h = let wrong : ⊥ = cc in absurd wrong

@@ -11,7 +11,8 @@ abbrev pub Passes : Option ℕ → ℕ → Type 0
 Passes None octet = (nat_eq octet 46 ≡ false) × (nat_eq octet 58 ≡ false)
 Passes (Some quote) octet = Unit {0}
 
--- `read` reads a text octet by octet: unless `ends` says that what is read ends here, it puts the octet before what it reads from the rest
+-- `read` reads a text octet by octet: if `ends` is false at the first octet, then `read` returns what it returns for the octets after it, with the first octet
+-- put before that by `before`
 pub record IsReader {X : Type 0} (before : List ℕ → X → X) (read : Option ℕ → List ℕ → X) (ends : Option ℕ → List ℕ → Bool) : Type 0 where
   pub none : (state : Option ℕ) (text : List ℕ) → read state text ≡ before [] (read state text)
   pub twice : (a b : List ℕ) (x : X) → before a (before b x) ≡ before (a ++ b) x
@@ -19,7 +20,7 @@ pub record IsReader {X : Type 0} (before : List ℕ → X → X) (read : Option 
       → read state (octet ∷ more) ≡ before (octet ∷ []) (read (open_after state octet) more)
   pub passes : (state : Option ℕ) (octet : ℕ) (more : List ℕ) → Passes state octet → ends state (octet ∷ more) ≡ false
 
--- `Passes` holds of each octet, with the quote that is open before it
+-- `Passes` holds of each octet of the text, with the quote that is open before the octet
 abbrev pub Passing : Option ℕ → List ℕ → Type 0
 Passing state [] = Unit {0}
 Passing state (octet ∷ more) = Passes state octet × Passing (open_after state octet) more
@@ -29,7 +30,8 @@ module _ {X : Type 0} {before : List ℕ → X → X} {read : Option ℕ → Lis
   all_pass state [] rest h = r.none state rest
   all_pass state (octet ∷ word) rest h = grind (arith, common_steps, all_pass (open_after state octet) word rest h.1, quote_after)
 
-  -- if `read` continues from the offset `at`, before which the quote `state` is open, and doesn't end there, then it continues from the next offset
+  -- if what `read` returns for `text` is what it returns from the offset `at` on, with the first `at` octets put before that, and `ends` is false at `at`, then
+  -- the same holds for the offset `at + 1`; `state` is the quote that is open before the offset `at`, if any
   pub one_more : (text : List ℕ) (at : ℕ) (state : Option ℕ) → at < length text → ends state (drop at text) ≡ false
       → read None text ≡ before (take at text) (read state (drop at text))
       → read None text ≡ before (take (at + 1) text) (read (open_after state (get_or text at 0)) (drop (at + 1) text))

@@ -25,8 +25,8 @@ unfolding ArePlain
 plain_is_whole [] h = record { passing = tt; closed = refl }
 plain_is_whole (octet ∷ more) h = grind (arith, common_steps, plain_is_whole more h.1)
 
--- if `quote` is open and octets that may appear between quotes follow and then `quote`, then nothing that is read ends at any of them (`Passing`), and no
--- quote is open after them
+-- each of `octets` may appear between quotes: if `quote` is open before `octets` and another `quote` follows them, then no part and no module ends in this
+-- text (`Passing`), and no quote is open after it
 quoted : (quote : ℕ) (octets : List ℕ) → is_quotable quote ≡ false → list_all is_quotable octets ≡ true
     → Passing (Some quote) (octets ++ quote ∷ []) × (quote_after (Some quote) (octets ++ quote ∷ []) ≡ None)
 quoted quote [] bad h = ((tt, tt), rw (eq-eqb quote quote refl) refl)
@@ -43,7 +43,7 @@ piece_is_whole (counted_text octets) h =
 piece_is_whole (plain_text octets) h =
     let inside = quoted 39 octets refl h.1 in record { passing = ((refl, refl), inside.0); closed = inside.1 }
 
--- the parts of a word, followed by pieces with dots before them, are the word and each piece
+-- the parts of `word` followed by pieces, each after a dot, are `word` and then the text of each piece
 pub joined_parts : (word : List ℕ) (pieces : List Piece) → IsWhole word → All IsPiece pieces
     → name_parts (word ++ shown_pieces pieces) ≡ word ∷ map shown_piece pieces
 joined_parts word [] whole all = cuts word [] whole ∙ ap (λ (t : List ℕ). t ∷ []) (append-nil word)
@@ -58,7 +58,7 @@ joined_parts word (piece ∷ pieces) whole all = grind (
   All-tail,
 )
 
--- if a text has no module, then with a dot before it it has none either
+-- if a text has no module, then a dot followed by this text has no module either
 pub dot_module : (rest : List ℕ) → module_after None rest ≡ None → module_after None (46 ∷ rest) ≡ None
 dot_module rest none = rw (no_colon 46 rest refl, none) refl
 

@@ -23,7 +23,7 @@ abbrev pub octets_of : ℕ → List ℕ
 octets_of n =
     get_or SMALL.now (n * 4) 0 ∷ get_or SMALL.now (n * 4 + 1) 0 ∷ get_or SMALL.now (n * 4 + 2) 0 ∷ get_or SMALL.now (n * 4 + 3) 0 ∷ []
 
--- the first octets of this entry, as many as a dot and the digits of `n`
+-- the first octets of the entry of `n` in `SMALL`: as many as a dot and the digits of `n` have, if `n` is below 1000
 abbrev entry : ℕ → List ℕ
 entry n = take (length (dotted n)) (octets_of n)
 
@@ -42,11 +42,13 @@ matched =
 pub small_entry : (n : ℕ) → n < 256 → take (length (46 ∷ decimal n)) (octets_of n) ≡ 46 ∷ decimal n
 small_entry n small = ap (λ t. take (length t) (octets_of n)) (sym (dotted_is n small)) ∙ matched n small ∙ dotted_is n small
 
--- the length of a dot and a number below 256 is two, one more if the number is at least 10, and one more if it is at least 100
+-- if `n` is below 256, `a` is 1 if `n` is at least 10 and otherwise 0, and `b` is 1 if `n` is at least 100 and otherwise 0, then a dot followed by the digits
+-- of `n` has `2 + a + b` octets
 pub small_len_is : (n a b : ℕ) → n < 256 → a ≡ bool_byte (leb 10 n) → b ≡ bool_byte (leb 100 n) → 2 + a + b ≡ length (46 ∷ decimal n)
 small_len_is n a b small tens hundreds = grind (arith, common_steps, cases_lt, lt-leb, decimal_digit, le-leb, two_digits, digits_of_three)
 
--- if `now` begins with the first `a` octets of `room` and then `part`, then it also begins with these and the first `k` octets of `part`
+-- if the first `a + m` octets of `now` are the first `a` of `room` followed by `part`, and `k` is at most `m` and the length of `part`, then the first `a + k`
+-- octets of `now` are the first `a` of `room` followed by the first `k` of `part`
 pub prefix_after : (a k m : ℕ) (room now part : List ℕ) → a ≤ length room → k ≤ length part → k ≤ m → take (a + m) now ≡ take a room ++ part
     → take (a + k) now ≡ take a room ++ take k part
 prefix_after a k m room now part within fits fewer is =

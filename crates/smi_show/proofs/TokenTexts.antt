@@ -47,12 +47,14 @@ tokens_joined (m ∷ ms) (t ∷ ts) h = grind (arith, common_steps, token_text, 
 spaced_append : (ms ns : List Mark) → spaced (ms ++ ns) ≡ spaced ms ++ spaced ns
 spaced_append ms ns = flat_map-append (λ (m : Mark). codes " " ++ text_of m) ms ns
 
--- if `text` is the text of `ms`, each mark after a blank, then `text` between the signs `opens` and `closes` is the text of `ms` between these signs
+-- if `text` is the texts of the marks `ms`, each after a blank, then `text` between the texts of `opens` and `closes`, each after a blank, is the texts of the
+-- marks `opens`, `ms` and `closes`, each after a blank
 enclosed : (opens closes : Mark) (ms : List Mark) (text : List ℕ) → text ≡ spaced ms
     → (codes " " ++ text_of opens) ++ (text ++ (codes " " ++ text_of closes)) ≡ spaced (opens ∷ (ms ++ closes ∷ []))
 enclosed opens closes ms text is = rw (is, spaced_append ms (closes ∷ []), append-nil (codes " " ++ text_of closes)) refl
 
--- if the text of each element is the text of a sign and the element's marks, then the texts of all elements, joined, are the text of all these marks in order
+-- if `text x`, for each element `x`, is the texts of the mark `m` and of `marks x`, each after a blank, then the texts of all elements, one after the other,
+-- are the texts of all these marks in order, each after a blank
 parts_spaced : {A : Type 0} (m : Mark) (marks : A → List Mark) (text : A → List ℕ) → ((x : A) → text x ≡ spaced (m ∷ marks x)) → (xs : List A)
     → flat_map text xs ≡ spaced (flat_map (λ x. m ∷ marks x) xs)
 parts_spaced m marks text is [] = refl

@@ -83,7 +83,7 @@ pub fn one_line()
     one_value();
 }
 
-/// Appends the line of a binding. `found` is what the tree found for `name`.
+/// Appends the line of a binding. `found` must be what `tree` finds for `name`.
 pub(crate) fn append_line(
     tree: &Tree,
     letters: &Letters,

@@ -100,8 +100,8 @@ fn append_qualified(node: NearestNode<'_>, draft: &mut Draft)
     draft.octets(node.label);
 }
 
-/// Appends, for each of `numbers`, a dot and the label of the node at the identifier that ends
-/// with this number, or the number if there is none.
+/// Appends, for each of `numbers`, a dot and a text: if a node's identifier is the numbers up to
+/// and with this one, the label of that node, otherwise the number.
 fn path(tree: &Tree, numbers: &[u32], draft: &mut Draft)
     requires { length numbers.now ≤ 128 }
     ensures { Adds draft.old (path_text tree.now numbers.now) draft.new }
@@ -126,8 +126,8 @@ fn arc(tree: &Tree, here: &Oid, number: u32, near: &mut Near, draft: &mut Draft)
     }
 }
 
-/// Appends the numbers after `node`: by its index, or as numbers if it has none, if the index
-/// doesn't read them all, or if `numeric_index` is set.
+/// Appends the numbers of `oid` after `node`: by the node's index, or as numbers if the node has no
+/// index, if the index doesn't read them all, or if `numeric_index` is set.
 fn instance_text(numeric_index: bool, oid: &Oid, node: NearestNode<'_>, draft: &mut Draft)
     requires { node.depth ≤ length oid.now }
     ensures { let text = instance_text numeric_index oid.now (view_of node.entry) in

@@ -16,9 +16,9 @@ use std::marker::Model;
 
 /// Writes the lines of bindings by one tree, one after the other.
 ///
-/// A writer stores what the tree found for the last name. This is used for the next name too if it
-/// is known to hold for that name: most lines follow a line of the same column. In contracts, a
-/// writer is its tree.
+/// A writer stores what the tree found for the last name. If this is known to be right for the next
+/// name too, the tree isn't searched again: most lines follow a line of the same column. In
+/// contracts, a writer is its tree.
 #[derive(Drop)]
 pub struct LineWriter<'t> {
     tree: &'t Tree,
@@ -77,8 +77,8 @@ impl<'t> LineWriter<'t> {
     }
 }
 
-/// Sets `found` to what the tree finds for `name`. If [`is_known`] says that `found` is this
-/// already, leaves it unchanged.
+/// Sets `found` to what the tree finds for `name`. Leaves `found` unchanged if [`is_known`] says
+/// that `found` is that already.
 fn find<'t>(tree: &'t Tree, name: &Oid, near: &mut Near, found: &mut Found<'t>)
     requires { IsFoundBelow tree.now found.old }
     ensures found { IsFound tree.now name.now found.new }
@@ -89,8 +89,8 @@ fn find<'t>(tree: &'t Tree, name: &Oid, near: &mut Near, found: &mut Found<'t>)
     }
 }
 
-/// Returns whether `found` is known to hold for `name`: `found.below` is an identifier, and `name`
-/// is below it.
+/// Returns whether `found` is known to be what the tree finds for `name`: `found.below` is an
+/// identifier, and `name` is below that identifier.
 fn is_known(found: &Found<'_>, name: &Oid) -> bool
     ensures { IsTrue result ↔ MatchOption found.now.below ⊥ (λ root. IsBelow name.now root.now) }
 {

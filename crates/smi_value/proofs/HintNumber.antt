@@ -11,7 +11,7 @@ use Rattle.smi_value.specs.hint.Number.{leading_digits, StartsWithNumber, IsNumb
 use Rattle.smi_value.specs.{hint.Pieces.number_of_octets, declared.hint.number.NumberForm.NumberForm}
 use Rattle.smi_value.specs.declared.hint.number.NumberForm.TheVariants as form
 
--- up to `at` digits of `left` are still to be written before `written`: together they are the digits of `n`
+-- the digits of `left` in base `base`, at most `at` of them, followed by the digits `written`, are the digits of `n`
 pub record AreLeft (at base left : ℕ) (written : List ℕ) (n : ℕ) : Type 0 where
   pub same : digits_onto at base false left written ≡ digits base false n
 
@@ -67,7 +67,7 @@ below_56_bits n i low short =
     let le : 2 ^ (8 * i) ≤ 2 ^ 56 = pow_mono {i = 8 * i} {j = 56} (omega arith) in
     omega (arith, le, low)
 
--- if a text isn't a number of at most 20, then `d-` with the text after it isn't a hint of integers
+-- if `text` isn't a decimal number up to 20, then `d-` followed by `text` isn't a hint of integers
 pub no_places : (text : List ℕ) → ((indices : ℕ) → StartsWithNumber text indices [] → indices ≤ 20 → ⊥) → (form : NumberForm)
     → IsNumberHint (100 ∷ 45 ∷ text) form → ⊥
 no_places text none (form.Decimal indices) (inl h) = absurd (cc h.0)
@@ -78,7 +78,7 @@ no_places text none _ h = absurd (cc h)
 
 -- ---- one or two octets, in two to four digits
 
--- if the last two digits of two octets are written, and the first octet isn't 0, then the digits of the first octet are still to be written
+-- the number of the two octets `a` and `b` in base 16: if the two digits of `b` are written, and `a` isn't 0, then the digits of `a` are still to be written
 low_two : (a b : ℕ) → 0 < a → b < 256
     → AreLeft 62 16 a (digit_glyph false (b / 16) ∷ digit_glyph false (b % 16) ∷ []) (a * 256 + b)
 low_two a b some within =

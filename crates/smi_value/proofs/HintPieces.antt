@@ -12,13 +12,15 @@ use Rattle.smi_value.specs.hint.Pieces.{ArePieces, IsCut, IsGroup, AreGroups, Sh
 use Rattle.smi_value.specs.hint.Pieces.{specs_after, is_single, single_text, singles_text}
 use Rattle.smi_value.proofs.{Drafts.grows_none, Drafts.grows_both, Drafts.adds_from, HintSpec.after_first, HintSpec.first_some, HintSpec.Begins}
 
--- from `old` to `new` the text of the pieces that `times` applications of the spec cut from `octets` is appended, and `rest` remains
+-- `spec`, applied up to `times` times, cuts `pieces` from the start of `octets` and leaves `rest`; `new` is `old` with the text of the pieces appended, unless
+-- memory ran out
 pub record AppendsPieces (spec : Spec) (times : ℕ) (octets : List ℕ) (old new : Written) (rest : List ℕ) : Type 0 where
   pub pieces : List (List ℕ)
   pub cut : IsCut spec.length times pieces octets rest
   pub grows : Grows old (pieces_text spec pieces rest) new
 
--- if the text of `ahead` applications to `left` is appended from `now` on, then the text of `times` applications to `octets` is appended from `old` on
+-- the loop that appends pieces has written `now`, and has the octets `left`: if up to `ahead` more applications of `spec`, to `left`, then write `new`, then
+-- `new` is what up to `times` applications of `spec`, to `octets`, write after `old`
 pub record PiecesAhead (spec : Spec) (times : ℕ) (octets : List ℕ) (old : Written) (ahead : ℕ) (left : List ℕ) (now : Written) : Type 0 where
   pub whole : (new : Written) (rest : List ℕ) → AppendsPieces spec ahead left now new rest → AppendsPieces spec times octets old new rest
 
@@ -117,21 +119,21 @@ one_for_all spec times octets old new rest short bare more h = go h.pieces h.cut
         }
     go (piece ∷ next ∷ pieces) cut grows = absurd (omega (arith, cut.at_most))
 
--- from `old` to `new` the text of the groups that `specs` cut `octets` into is appended
+-- `specs` cut `octets` into `groups`, and `new` is `old` with the text of these groups appended, unless memory ran out
 pub record AppendsGroups (specs : List Spec) (octets : List ℕ) (old new : Written) : Type 0 where
   pub groups : List (List (List ℕ))
   pub text : List ℕ
   pub are_groups : AreGroups specs groups octets text
   pub grows : Grows old text new
 
--- from `old` to `new` the text that `hint` shows for `octets` is appended
+-- `hint` shows `octets` as `text`, and `new` is `old` with this text appended, unless memory ran out
 pub record AppendsShown (hint octets : List ℕ) (old new : Written) : Type 0 where
   pub text : List ℕ
   pub shows : ShowsOctets hint octets text
   pub grows : Grows old text new
 
--- `ahead` is the text of the specs after `spec`, the last of all these specs takes octets, and `spec` isn't too long for its format; if the groups that `spec`
--- and the specs after it cut `left` into are appended from `now` on, then what `hint` shows for `octets` is appended from `old` on
+-- the loop that appends groups is at `now`, and `ahead` is the text of the specs after `spec`: if the groups that `spec` and these specs cut `left` into are
+-- appended to `now`, then what `hint` shows for `octets` is appended to `old`
 pub record GroupsAhead (hint octets : List ℕ) (old : Written) (spec : Spec) (ahead left : List ℕ) (now : Written) : Type 0 where
   pub specs : List Spec
   pub are_specs : AreSpecs ahead specs

@@ -20,7 +20,7 @@ same_spec text a b r s h k = grind (arith, common_steps, same_fields)
 pub same_rest : (text : List ℕ) (a b : Spec) (r s : List ℕ) → IsFirstSpec text a r → IsFirstSpec text b s → r ≡ s
 same_rest text a b r s h k = grind (arith, common_steps, same_spec)
 
--- the last of the specs takes octets or, if there are none, `before` is true: the spec before them takes octets
+-- the last of the specs takes octets; if there are no specs, `before` is true, which says that the spec before them takes octets
 abbrev pub TakesAfter : Bool → List Spec → Type 0
 TakesAfter before [] = before ≡ true
 TakesAfter before (spec ∷ specs) = TakesAfter (takes_octets spec) specs
@@ -35,7 +35,8 @@ takes_after_to [] h = absurd (cc)
 takes_after_to (spec ∷ []) h = h
 takes_after_to (spec ∷ next ∷ more) h = takes_after_to (next ∷ more) h
 
--- `text` is a hint of octets if and only if `rest` consists of specs and the last one takes octets or, if `rest` is empty, `before` is true
+-- `text` is a hint of octets if and only if `rest` consists of specs, and `TakesAfter before` holds of these: the last one takes octets, or there are none and
+-- `before` is true
 pub record GoesOn (text rest : List ℕ) (before : Bool) : Type 0 where
   pub whole : (specs : List Spec) → AreSpecs rest specs → TakesAfter before specs → (all : List Spec) × IsOctetHint text all
   pub part : (all : List Spec) → IsOctetHint text all → (specs : List Spec) × AreSpecs rest specs × TakesAfter before specs
@@ -60,7 +61,7 @@ pub first_some : (text : List ℕ) (spec : Spec) (rest : List ℕ) → IsFirstSp
 first_some [] spec rest h = λ _. h.digits refl
 first_some (octet ∷ more) spec rest h = λ no. absurd (cc no)
 
--- if a text consists of specs, and `spec` is its first, then the others are the specs of the rest
+-- if `text` consists of `specs`, and begins with `spec` followed by `rest`, then `specs` is `spec` followed by specs that `rest` consists of
 pub after_first : (text : List ℕ) (specs : List Spec) (spec : Spec) (rest : List ℕ) → IsFirstSpec text spec rest → AreSpecs text specs
     → (more : List Spec) × AreSpecs rest more × (specs ≡ spec ∷ more)
 after_first text [] spec rest h are = absurd (first_some text spec rest h are)
@@ -95,7 +96,7 @@ most_octets-le : (format : OctetFormat) → most_octets format ≤ 65535
 most_octets-le octet_format.Text = omega arith
 most_octets-le _ = omega arith
 
--- if a text, without its star, doesn't begin with a number up to 65535, then it has no first spec
+-- if a text, without its star if it begins with one, doesn't begin with a number up to 65535, then it doesn't begin with a spec
 pub no_length : (text after : List ℕ) → after ≡ after_star text → ((number : ℕ) (rest : List ℕ) → StartsWithNumber after number rest → 65535 < number)
     → (spec : Spec) (rest : List ℕ) → IsFirstSpec text spec rest → ⊥
 no_length text after e none spec rest h =
@@ -111,11 +112,11 @@ not_both text (form.Decimal indices) (spec ∷ more) (inl h) k = (rw h.0 at k.re
 not_both text (form.Decimal indices) (spec ∷ more) (inr h) k = (rw h.whole at k.read.1.digits) refl
 not_both text _ (spec ∷ more) h k = (rw h at k.read.1.digits) refl
 
--- if the form of a hint is one of integers, then the text is the hint of integers for that form
+-- if the form of the hint `text` is `Number number`, then `text` is the hint of integers for `number`
 pub of_number : (text : List ℕ) (form : HintForm) (number : NumberForm) → form ≡ kept.Number number → IsFormOf text form → IsNumberHint text number
 of_number text form number e h = let P : HintForm → Type 0 = λ f. IsFormOf text f in subst P e h
 
--- if the form of a hint is one of octets, then the text is a hint of octets that begins with the spec in the form
+-- if the form of the hint `text` is `Octets first ahead`, then `text` is a hint of octets that begins with `first`, followed by `ahead`
 pub of_octets : (text : List ℕ) (form : HintForm) (first : Spec) (ahead : Bor (List ℕ)) → form ≡ kept.Octets first ahead → IsFormOf text form
     → (specs : List Spec) × IsOctetHint text specs × IsFirstSpec text first ahead.now
 of_octets text form first ahead e h = let P : HintForm → Type 0 = λ f. IsFormOf text f in subst P e h

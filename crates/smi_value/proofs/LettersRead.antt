@@ -23,7 +23,7 @@ has_more : (letter : ℕ) (text : List ℕ) (octet : ℕ) → has_letter letter 
 has_more letter [] octet = grind (arith, common_steps)
 has_more letter (x ∷ text) octet = grind (arith, common_steps, has_more letter text octet, either_way)
 
--- if `old` is what the letters of a text say, then `new`, with `octet` as one more, is what they say with `octet` after them
+-- if `old` is what the letters in `text` say, and `new` is `old` with `octet` as one more letter, then `new` is what `text` followed by `octet` says
 pub letters_more : (text : List ℕ) (octet : ℕ) (old new : Letters) → AreLetters text old → IsWith old octet new → AreLetters (text ++ octet ∷ []) new
 letters_more text octet old new h k = grind (arith, common_steps, choice_of, last_more, has_more)
 

@@ -1,4 +1,4 @@
--- The first item that passes a test is at the first position of an item that passes it (`found_at`).
+-- The item that `find` returns for a test is the item at the position that `position_from` returns for this test, if there is one (`found_at`).
 use Rattle.std.proofs.lemmas.Grind.{common_steps}
 use Rattle.std.proofs.Common.{◌≡◌, ℕ, suc, ◌+◌, Bool, List, [], ◌∷◌, Option, Some, None, length, refl, sym, arith}
 use Rattle.std.specs.List.{find, slice_get, position_from}
@@ -17,7 +17,7 @@ module _ {A : Type 0} (t : A → Bool) where
   found_at [] = refl
   found_at (x ∷ xs) = grind (arith, common_steps, found_at xs, shift xs 0, moved)
 
--- what `get` of a slice returns is the item at the position
+-- what `get` of a slice returns is what `slice_get` returns for its items: the item at index `k`, or None past the end
 pub copied_at : {A : Type 0} (xs : List A) (k : ℕ) (r : Option (Bor A)) → IsItemAt xs k r → option_copied r ≡ slice_get xs k
 copied_at xs k None h = sym (slice_get_past xs k h.3)
 copied_at xs k (Some x) h = sym (slice_get_read xs (length xs) k x.now refl h.3.0 h.1)

@@ -112,7 +112,8 @@ module _ (letters : Letters) (names : List NamedNumber) where
   shown : (ℕ → ℕ) → ℕ → ℕ → List ℕ
   shown s n count = flat_map (set_bit_text letters names) (picked s n count)
 
-  -- if bit m is a, and `rest` shows the bits after it, then the text of bit m, followed by `rest`, shows all of them
+  -- if bit `n`, with `m` the same number, is `a`, and `rest` is the text of those of the next `count` bits that are set, then the text of bit `m` followed by
+  -- `rest` is the text of those of the `count + 1` bits from `n` on that are set
   one_more : (s : ℕ → ℕ) (n count m a : ℕ) (rest : List ℕ) → n ≡ m → s n ≡ a → shown s (n + 1) count ≡ rest
       → shown s n (suc count) ≡ bit_text letters names m a ++ rest
   unfolding shown

@@ -18,7 +18,7 @@ is_one_of letters octet = list_any (λ letter. letter == octet) letters
 abbrev pub all_letters : List ℕ
 all_letters = codes "nfsSqQvetbUxa"
 
--- the first octet of `text` that isn't one of the letters, if there is one
+-- the first octet of `text` that isn't a letter of `-O`, if there is one
 abbrev pub first_other : List ℕ → Option ℕ
 first_other text = find (λ octet. not (is_one_of all_letters octet)) text
 
@@ -48,7 +48,7 @@ abbrev pub string_form : Option ℕ → StringForm
 string_form None = strings.Plain
 string_form (Some octet) = if octet == 120 then strings.Hexadecimal else strings.Text
 
--- `letters` is what the letters in `text` say together
+-- `letters` is how names and values are shown after `-O` with the letters in `text`
 pub record AreLetters (text : List ℕ) (letters : Letters) : Type 0 where
   pub n_f_s_S : letters.names ≡ name_form (last_of (codes "nfsS") text)
   pub q_Q : letters.types ≡ type_form (last_of (codes "qQ") text)
@@ -61,7 +61,7 @@ pub record AreLetters (text : List ℕ) (letters : Letters) : Type 0 where
 
 -- ---- for private functions
 
--- `new` is `old` with the letter `octet` as one more
+-- `new` is how names and values are shown if the letter `octet` follows the letters of `old`
 pub record IsWith (old : Letters) (octet : ℕ) (new : Letters) : Type 0 where
   pub n_f_s_S : new.names
       ≡ (if is_one_of (codes "nfsS") octet then name_form (Some octet) else old.names)

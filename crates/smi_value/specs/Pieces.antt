@@ -12,16 +12,16 @@ use Rattle.smi_text.specs.declared.trees.tree.NamedNumber.{NamedNumber}
 use Rattle.smi_value.specs.Texts.{clock_text, days_text, escape_octet, hexadecimal_text}
 use Rattle.smi_value.specs.Texts.{is_printable}
 
--- whether values are shown after the words of their types: without q and Q they are
+-- whether the word of its type is shown before a value: it is, unless with the letters q or Q
 abbrev pub is_typed : TypeForm → Bool
 is_typed types.Typed = true
 is_typed _ = false
 
--- the word of a type, with its colon and blank; nothing with q or Q
+-- `word`, a type with a colon and a blank, such as `INTEGER: `; nothing with the letters q or Q
 abbrev pub type_word : Letters → List ℕ → List ℕ
 type_word letters word = if is_typed letters.types then word else []
 
--- a blank and the units; nothing if there are none, or with U
+-- a blank and the units; nothing if there are none, or with the letter U
 abbrev pub units_text : Letters → Option (List ℕ) → List ℕ
 units_text letters None = []
 units_text letters (Some units) = if letters.no_units then [] else 32 ∷ units
@@ -32,7 +32,8 @@ printable_or_dot octet = if is_printable octet then octet else 46
 
 -- the octets as characters between double quotes
 abbrev pub quoted : List ℕ → List ℕ
-quoted octets = codes "\"" ++ flat_map (λ octet. escape_octet (printable_or_dot octet)) octets ++ codes "\""
+quoted octets =
+    codes "\"" ++ flat_map (λ octet. escape_octet (printable_or_dot octet)) octets ++ codes "\""
 
 -- whether a string that isn't empty is shown as text. The last of x and a decides: with x it
 -- isn't, with a it is; without either, it is if each octet is printable.
@@ -88,7 +89,8 @@ pub record AreSetBits (octets bits : List ℕ) : Type 0 where
   pub set : (n : ℕ) → Contains bits n → IsBitSet octets n
   pub all : (n : ℕ) → IsBitSet octets n → Contains bits n
 
--- the bit with the number `bit`, which is set, with its name in `names` if it has one
+-- the text of the bit with the number `bit`, which is set: what `bit_name` returns for its name in
+-- `names`, if it has one, and its number
 abbrev pub set_bit_text : Letters → List NamedNumber → ℕ → List ℕ
 set_bit_text letters names bit = bit_name letters (name_of_number names (pos bit)) (decimal bit)
 

@@ -30,7 +30,8 @@ same_base base.TimeTicks base.TimeTicks = true
 same_base base.Counter64 base.Counter64 = true
 same_base _ _ = false
 
--- the syntax for values of type `base`: the object's if it is of that type, otherwise `no_syntax`
+-- the syntax for values of type `base`: the object's if it applies to them (`same_base`), otherwise
+-- `no_syntax`
 abbrev pub syntax_at : ValueBase → Option ObjectSyntax → ObjectSyntax
 syntax_at base None = no_syntax
 syntax_at base (Some syntax) = if same_base syntax.base base then syntax else no_syntax
@@ -52,7 +53,8 @@ is_number_of n named = is_same (stated_number named.number)
 abbrev pub name_of_number : List NamedNumber → ℤ → Option (List ℕ)
 name_of_number names n = option_map (λ named. named.name.octets) (find (is_number_of n) names)
 
--- `index` has the position of the first name of each number, if it has one
+-- `index` has, for each number that has a name in `names`, the position of its first name, and no
+-- position for any other number
 abbrev pub IsIndexOf : List NamedNumber → NumberIndex → Type 0
 IsIndexOf names index =
     (n : ℤ) → get int_cmp index.positions n ≡ position_from (is_number_of n) 0 names

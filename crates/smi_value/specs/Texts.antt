@@ -14,7 +14,8 @@ is_printable octet = nat_le 32 octet && nat_le octet 126
 abbrev pub escape_octet : ℕ → List ℕ
 escape_octet octet = if (octet == 34) || (octet == 92) then 92 ∷ octet ∷ [] else octet ∷ []
 
--- the octet at index `index` as two digits and a blank, on a new line after each 16 octets
+-- the octet at index `index` as two hexadecimal digits and a blank; a newline comes before them if
+-- `index` is a multiple of 16 other than 0
 abbrev pub hex_dump_octet : ℕ × ℕ → List ℕ
 hex_dump_octet (index, octet) =
     (if nat_lt 0 index && (index % 16 == 0) then 10 ∷ [] else [])

@@ -27,8 +27,9 @@ pub record IsTypedNumber (letters : Letters) (word : List ℕ) (hint units : Opt
   pub is_number : IsNumberText hint n shown
   pub whole : text ≡ type_word letters word ++ shown ++ units_text letters units
 
--- `text` shows the INTEGER `n`: as `named_text` says, without units, if it has a name, otherwise
--- as `IsTypedNumber` says, with the hint and the units
+-- `text` shows the INTEGER `n`. If `n` has a name, `text` is the word of the type and what
+-- `named_text` returns; otherwise it is as `IsTypedNumber` says, with the hint and the units of
+-- `syntax`.
 abbrev pub IsIntegerText : Letters → ObjectSyntax → ℤ → Option (List ℕ) → List ℕ → Type 0
 IsIntegerText letters syntax n None text =
     IsTypedNumber letters (codes "INTEGER: ") syntax.hint syntax.units n text

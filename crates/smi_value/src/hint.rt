@@ -21,7 +21,7 @@ pub use write::{one_text, write_hint};
 pub enum HintValue<'a> {
     /// A number, for a hint of integers.
     Number(i64),
-    /// Octets, for a hint of strings.
+    /// Octets, for a hint of octets.
     Octets(&'a [u8]),
 }
 
@@ -43,7 +43,7 @@ pub struct Hint<'a> {
 enum HintForm<'a> {
     /// A hint of integers.
     Number(NumberForm),
-    /// A hint of octets: its first spec, and the rest of its text.
+    /// A hint of octets: its first spec, and the text after that spec.
     Octets(Spec, &'a [u8]),
 }
 

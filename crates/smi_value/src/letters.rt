@@ -9,11 +9,12 @@ pub enum NameForm {
     /// `n`: the numbers, with a dot before each.
     Numeric,
     /// `f`: for each number down to the deepest node, a dot and the label of the node there, or the
-    /// number if there is none; then the rest.
+    /// number if no node is there; then the numbers after the deepest node.
     Full,
-    /// `s`: the label of the deepest node, then the rest.
+    /// `s`: the label of the deepest node, then the numbers after the node.
     Label,
-    /// `S`: the module and the label of the deepest node, then the rest. The default.
+    /// `S`: the module and the label of the deepest node, then the numbers after the node. The
+    /// default.
     ModuleLabel,
 }
 

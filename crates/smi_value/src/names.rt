@@ -21,7 +21,7 @@ pub struct NumberIndex {
 }
 
 impl NumberIndex {
-    /// Returns whether an index makes it faster to find a name in a list: it has more than 16.
+    /// Returns whether `names` has more than 16 names. An index then makes it faster to find one.
     pub fn is_useful(names: &[NamedNumber]) -> bool
         ensures { result ≡ nat_lt 16 (length names.now) }
     {

@@ -29,7 +29,7 @@ pub(crate) fn append_word(draft: &mut Draft, letters: &Letters, word: &[u8])
     }
 }
 
-/// Returns whether values are shown after the words of their types.
+/// Returns whether the word of its type is shown before a value.
 fn is_typed(form: TypeForm) -> bool
     ensures { result ≡ is_typed form }
 {

@@ -85,8 +85,8 @@ impl<'a> ValueSyntax<'a> {
         }
     }
 
-    /// Returns the name of the number `n` in `syntax`, if it has one and applies to values of type
-    /// `base`.
+    /// Returns the name of the number `n` in `syntax`, if `syntax` has one and applies to values of
+    /// type `base`.
     pub(crate) fn name_at(
         syntax: Option<&'a ValueSyntax<'a>>,
         base: ValueBase,

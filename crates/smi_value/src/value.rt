@@ -114,8 +114,8 @@ fn append_counter(draft: &mut Draft, letters: &Letters, word: &[u8], units: Opti
     append_units(draft, letters, units);
 }
 
-/// Appends an INTEGER as [`append_named`] does, without units, if it has a name, otherwise as
-/// [`append_typed_number`] does.
+/// Appends the INTEGER `n`. If `n` has a name, appends the word of the type and what
+/// [`append_named`] appends, without units; otherwise does what [`append_typed_number`] does.
 fn append_integer(draft: &mut Draft, letters: &Letters, syntax: Option<&ValueSyntax<'_>>, n: i64)
     ensures { let at = syntax_at base.Integer (option_copied syntax.entry) in (text : List ℕ)
         × IsIntegerText letters.now at n (name_of_number at.names n) text
@@ -134,8 +134,8 @@ fn append_integer(draft: &mut Draft, letters: &Letters, syntax: Option<&ValueSyn
     }
 }
 
-/// Appends `word`, the word of a type, the number `n` as [`append_number`] does, and the units.
-/// `letters` may leave out the word and the units.
+/// Appends `word` (the word of a type), then the number `n` as [`append_number`] does, and then the
+/// units. `letters` may leave out the word and the units.
 fn append_typed_number(
     draft: &mut Draft,
     letters: &Letters,

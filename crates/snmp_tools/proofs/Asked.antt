@@ -54,7 +54,7 @@ counts_rows : (plan : Plan) (view : MibView) (first : WalkState) (rows : List Va
 counts_rows plan view first rows (ending.Done n) h = h.5.0
 counts_rows plan view first rows end h = tt
 
--- if there were no deliveries to come (`ahead`), none were used
+-- if `ahead`, the deliveries to come, is `used` followed by `left`, and `ahead` is empty, then `used` is empty
 none_used : (used left : List (Option ℕ)) (ahead : List (Option ℕ)) → ahead ≡ used ++ left → ahead ≡ [] → used ≡ []
 none_used [] left ahead e none = refl
 none_used (d ∷ used) left ahead e none = let no : ⊥ = cc in absurd no
@@ -70,7 +70,7 @@ all_pass test [] each = refl
 all_pass test (row ∷ more) each =
     rw (each row (inl refl)) (ap (λ (s : List VarBind). row ∷ s) (all_pass test more (λ other one. each other (inr one))))
 
--- if `o`, which has at least three numbers, is below the root, then it comes after the wire form of the root
+-- if `o`, which has at least three numbers, is below the root, then `o` comes after the root as it is sent (`wire`)
 after_wire : (root o : List ℕ) → 3 ≤ length o → IsBelow o root → Precedes (wire root) o
 after_wire (a ∷ b ∷ root) o long below = inl below
 after_wire [] o long ([], some, e) = absurd (some refl)
@@ -116,8 +116,8 @@ module _ (below : BelowAreRows) (left : LeftAreRows) (one_get : (view : MibView)
   from_root mode.Include root got = ap (λ (s : List VarBind). rows_named (wire root) (variables view) ++ s) (rest_is root)
   from_root mode.NoLast root got = rest_is root
 
-  -- if `rows` are the answer to a walk of the table, then a Get of the name that the walk begins from returns some `got`, and `rows` are what `walk_at` is for
-  -- this name and `got`
+  -- if `rows` are the answer to the walk `w` of the table, then a Get of the name that the walk begins from returns some `got`, and `rows` are what `walk_at`
+  -- returns for the first state of the walk and `got`
   begun_rows : (after : Option (List ℕ)) (community : List ℕ) (w : Walk) (rows : List VarBind) → AreRowsAfter after w view rows
       → (got : VarBind) × IsGet view (first_after after community w).asked got × (rows ≡ walk_at (first_after after community w) view got)
   begun_rows None community w rows are = (are.0, are.1, are.2 ∙ sym (from_root w.mode w.root are.0))

@@ -41,7 +41,7 @@ picked true x y job f g e = f e
 picked false x y job f g e = g e
 
 module _ (words : ServeWords) (line : List (List ℕ)) (s : StateJob line (snmpd words)) where
-  -- the job that the arguments ask for, if they name none of the first `k` commands
+  -- the job that the arguments ask for if their command is after the first `k` commands of the list; otherwise None
   abbrev later : ℕ → Option Stated
   later k = stated_among (drop k (readings s.numbers)) (s.command, s.rows)
 
@@ -200,7 +200,7 @@ module _ (below : BelowAreRows) (left : LeftAreRows) (one_get : (view : MibView)
   ask_not_0 : (why : Fault) → run.fault ≡ Some why → status ≢ 0
   ask_not_0 why is zero_status = grind (arith, common_steps, no_fault_at_0)
 
-  -- nothing was asked
+  -- nothing happened at the end that asks (`IsAtAsker` without events)
   abbrev Unasked : Type 0
   Unasked = IsAtAsker net wire words ask.mib ask.plan before after status []
 

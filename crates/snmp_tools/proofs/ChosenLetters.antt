@@ -48,7 +48,7 @@ one_list text a b h k = ap (λ (p : List ℕ × List Part). p.1) (sym (parts_of 
 
 -- ---- all letters
 
--- what holds of each step holds of one of them
+-- if `P` holds of each step of a list, then it holds of `step`, which is in the list
 pub among : {S : Type 0} (P : S → Type 0) (before : List S) (step : S) (after : List S) → AreDone P (before ++ step ∷ after) → P step
 among P [] step after h = h.0
 among P (s ∷ before) step after h = among P before step after h.1
@@ -61,7 +61,7 @@ joined : (prefix back : List ℕ) (a b : List Part) → AreLettersIn prefix a �
 joined prefix back [] b e are = subst (λ (t : List ℕ). AreLettersIn (t ++ back) b) (sym e) are
 joined prefix back ((letter, digits) ∷ a) b (rest, e, none, all, more) are = grind (arith, common_steps, append_assoc, joined rest back a b more are)
 
--- a text that doesn't begin with a digit is a list of letters
+-- a text that doesn't begin with a digit consists of letters, each followed by its digits (`AreLettersIn`)
 has_letters : (text : List ℕ) → NoDigitFirst text → (letters : List Part) × AreLettersIn text letters
 has_letters [] none = ([], refl)
 has_letters (octet ∷ text) none =
@@ -73,8 +73,8 @@ has_more x letters part =
     list_any-append (λ (p : Part). p.0 == x) letters (part ∷ []) ∙ or_comm (has x letters) ((part.0 == x) || false)
     ∙ ap (λ (b : Bool). b || has x letters) (or-false (part.0 == x))
 
--- if `old` is the last number of `letters`, and `new` is the number of `part` if its letter is `r`, otherwise `old`, then `new` is the last number with `part`
--- too
+-- Let `old` be the number of repetitions that `letters` choose (`IsLastNumber`). Let `new` be the number after `part` if the letter of `part` is `r`,
+-- otherwise `old`. Then `new` is the number that `letters` followed by `part` choose.
 last_more : (letters : List Part) (part : Part) (old new : ℕ) → IsLastNumber letters old
     → ((part.0 ≡ 114) × AreRepetitions part.1 new) ⊎ (((part.0 == 114) ≡ false) × (new ≡ old)) → IsLastNumber (letters ++ part ∷ []) new
 last_more letters part old new last one = grind (arith, common_steps, append_assoc, has_more, or_from)
@@ -136,7 +136,7 @@ module _ (bulk : Bool) (text : List ℕ) (at n : ℕ) (old : Choices) (rest : Li
   none_after : NoDigitFirst (drop n rest)
   none_after = no_digit_at rest n maximal
 
-  -- a digit is at `at` only if that is 0, since digits are read to their end
+  -- the octet at `at` is a digit only if `at` is 0, since digits after a letter are read to their end
   no_digit_or_first : (is_ascii_digit Letter ≡ false) ⊎ ((at ≡ 0) × (is_ascii_digit Letter ≡ true))
   no_digit_or_first = grind (arith, common_steps, at_index)
 

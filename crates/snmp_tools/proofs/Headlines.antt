@@ -26,7 +26,7 @@ use Rattle.snmp_tools.proofs.Plans.{IsWant, OneList, OneTree, held_is, one_load,
 use Rattle.smi_tree.specs.{Tree.Contents}
 use Rattle.snmp_tools.proofs.Plans.{wants_late}
 
--- the status is 1; and the output failed, or the line `Out of memory.` was written after the warnings, or a prefix of it
+-- the status is 1; and the output failed, or standard error, which was `warned` before, took the line `Out of memory.` or failed after a prefix of it
 abbrev Stops : (before after warned err_after : Stream) → ℕ → Type 0
 Stops before after warned err_after status = (status ≡ 1) × (HasIncreased before.faults after.faults ⊎ IsWritten warned (codes "Out of memory.\n") err_after)
 
@@ -68,8 +68,8 @@ module _ (mib : Contents) (letters : Letters) (agent : List ℕ) (given turned :
   own_reported counts (ending.Sink sink.Output) own printed finish = grind (arith, common_steps, reported_of, counted)
   own_reported counts end own printed finish = absurd own
 
--- if a job printed nothing because of the fault `why`, which for a feasible plan is that memory ran out, and standard error took nothing before the report, or
--- the lines of the warnings as `IsWritten` says, then `WritesRows` holds
+-- A job printed nothing because of the fault `why`. If its plan is feasible, `why` is that memory ran out. Before the report, standard error took nothing, or
+-- the lines of the warnings (`IsWritten`). Then `WritesRows` holds.
 pub not_asked : (words : AskWords) (files : Holdings) (rows : List VarBind) (ask : IsAsk words files rows) (before after err_before warned err_after : Stream)
     (fault : Option Fault) (status : ℕ) (why : Fault) → after ≡ before → fault ≡ Some why → IsReported fault warned err_after status
     → (IsFeasible ask.plan ask.view → IsWant why) → (warned ≡ err_before) ⊎ IsWritten err_before (warning_lines ask.warnings) warned
@@ -131,7 +131,8 @@ module _ (one_table : (names : Names) (ls : List (List ℕ)) (v w : MibView) →
             one_table ask.names (lines ask.text) ask.view view ask.table
             (subst (λ (n : Names). IsTableOf n (lines ask.text) view) names (subst (λ (t : List ℕ). IsTableOf states.0 (lines t) view) text states.4))
 
-        -- what holds of the plan and the table of `ask` holds of `plan` and `view`
+        -- if the plan asks the table file at `path`, and the file defines `view`, then what holds of the plan and the table of `ask` holds of `plan` and
+        -- `view`
         over_table : (P : Plan → MibView → Type 0) (path : List ℕ) (view : MibView) → plan.agent ≡ table path
             → HasTable before.files mib path view → P ask.plan ask.view → P plan view
         over_table P path view over states p = subst (P plan) (view_is path view over states) (subst (λ (q : Plan). P q ask.view) plan_is p)

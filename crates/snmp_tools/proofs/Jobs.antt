@@ -23,7 +23,8 @@ use Rattle.snmp_tools.specs.AskResult.{IsOutcome, IsReported, not_loaded}
 use Rattle.snmp_tools.proofs.{Headlines.asked_done, Headlines.not_asked, Outcomes.no_fault_at_0, Plans.OneList, Plans.OneTree, Plans.plain_want}
 use Rattle.snmp_tools.proofs.{TableNames.OneMeaning, TranslationHeadlines.all_printed, TranslationHeadlines.prefix_printed}
 
--- if the arguments have no fault, then no error with a text (a mistake, help or the version) is returned for them
+-- If an error with a text (a mistake, help or the version) has one of the faults of `words`, and arguments that the command accepts can have only the error
+-- `Memory`, then `words` aren't faultless (`AreFaultless`).
 no_error : (words : List (List ℕ)) (text : String Global) (help : Bool) → (is_taken words ≡ true → Parse text help ≡ Memory)
     → HasFaultOf (Parse text help) (faults_of words) → AreFaultless words → ⊥
 no_error words text help taken refused (inl takes) = let memory = taken takes in let no : ⊥ = cc in no

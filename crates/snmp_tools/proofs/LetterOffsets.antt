@@ -1,4 +1,4 @@
--- For functions that read letters by offsets: which octets are after an offset of a text (`at_index`, `no_digit_at`), and what digits are worth (`weight_at`,
+-- For functions that read letters by offsets: which octets are after an offset of a text (`at_index`, `no_digit_at`), and the value of digits (`weight_at`,
 -- `grows`).
 use Rattle.std.proofs.{lemmas.Grind.common_steps, lemmas.Bool.Decides.nat_tests, lemmas.Str.digit_value_digit}
 use Rattle.std.proofs.Common.{◌≡◌, ◌+◌, ◌*◌, ◌<◌, ◌≤◌, ℕ, true, false, List, [], ◌∷◌, zero, suc, length, drop, slice_index_or, refl, drop-cons}

@@ -1,5 +1,5 @@
--- With one file more, its modules are appended (`AreModulesOf-more`). Known files have one list of modules (`one_list`). The first file that fails is the
--- reason of a refusal (`refused_at`).
+-- The modules of one more file are appended to the modules of the files before it (`AreModulesOf-more`). Files that are known to hold modules have only one
+-- list of them (`one_list`). The first file that fails is the reason of a refusal (`refused_at`).
 use Rattle.std.proofs.Common.{arith, ◌≡◌, ◌∙◌, ◌⊎◌, inl, inr, ◌++◌, ◌+◌, ◌<◌, ap, ap₂, refl, sym, subst, ℕ, List, [], ◌∷◌, Bor, Option, Some, take}
 use Rattle.std.proofs.Common.{drop, length, get_or, unwrap_or, append_assoc, append-nil}
 use Rattle.std.proofs.lemmas.Grind.{common_steps}

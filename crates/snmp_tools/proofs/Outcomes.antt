@@ -35,7 +35,7 @@ printed_prefix mib letters before after rows turned (ending.Sink sink.Output) h 
 )
 printed_prefix mib letters before after rows turned end h = all_prefix mib letters before after rows turned h
 
--- `text` is the lines of the rows and, if that is asked for, of their number
+-- `text` is the lines of the rows and, if `counts` is true, the line of -Cp with the number of rows
 abbrev pub IsWhole : Contents → Letters → (counts : Bool) → List VarBind → List ℕ → Type 0
 IsWhole mib letters counts rows text =
     (shown : List ℕ) × AreLines mib letters rows shown × (text ≡ shown ++ count_text counts (length rows))
@@ -95,7 +95,8 @@ module _ (mib : Contents) (letters : Letters) (agent : List ℕ) (before : Strea
       all_finished false after fault
       (text, (text, subst (λ (ps : List VarBind). AreLines mib letters ps text) whole lines, sym (append-nil text)), finish.0 ∙ printed)
 
-  -- a run that ended early printed a prefix of the lines of the first rows of the answer
+  -- if the rows `given` and `turned` that a run printed are a prefix of `rows`, and nothing was printed after the run, then a prefix of the lines of the first
+  -- of `rows` was printed
   end_prefix : (counts : Bool) (given turned : List VarBind) (end : WalkEnd) (between after : Stream)
       → IsPrintedUpTo mib letters before given turned end between
       → after ≡ between → ((more : List VarBind) × (rows ≡ (given ++ turned) ++ more)) → IsPrefixOfLines mib letters counts rows before after

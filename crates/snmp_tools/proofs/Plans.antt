@@ -92,7 +92,7 @@ one_question one (walk bulk letters after name) choices mib (subtree v) (subtree
     let goes_on = one_after one mib after v.after w.after p.goes_on q.goes_on in
     grind (arith, common_steps, p.mode, q.mode, p.method, q.method, p.counts, q.counts)
 
--- arguments whose AGENT says one address, with names by one tree, ask for at most one plan: a clause determines each field
+-- if AGENT says only one address, then arguments ask for at most one plan, with their names looked up in `mib`: a clause determines each field
 pub one_plan : OneMeaning → (words : AskWords) (mib : Contents) (p q : Plan) → AskFor words mib p → AskFor words mib q
     → HasAgent words.asking.agent q.agent → p ≡ q
 one_plan one words mib p q a b only = grind (arith, common_steps, one_chosen, one_question, one_reading)

@@ -51,7 +51,7 @@ module _ {S : Type 0} (takes : S → VarBind → Result (Unit {0}) SinkFault →
   printed_up_to old new rows turned (ending.Sink why) is h = refused old h.0 new rows turned why is h.1 h.2
   printed_up_to old new rows turned why is h = printed old new rows is h.0
 
--- a printer: its tree, its letters and its output stay the same
+-- a printer: a row leaves its tree, its letters and the name of its output unchanged, and the output takes the line of the row as `TakesLine` says (`prints`)
 module _ {S N : Type 0} (tree : S → Contents) (letters : S → Letters) (name : S → N) (stream : S → Stream) where
   abbrev pub prints : S → VarBind → Result (Unit {0}) SinkFault → S → Type 0
   prints old binding result new =

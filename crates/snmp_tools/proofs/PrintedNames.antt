@@ -15,7 +15,7 @@ use Rattle.snmp_tools.specs.translate.Text.{AreTextsOf, IsTextOf}
 use Rattle.smi_tree.specs.Tree.{Contents}
 use Rattle.snmp_tools.proofs.Texts.{texts-more, texts-parts}
 
--- from `before` to `now` the output took the texts of `names` without `waiting`, the octets at their end
+-- the texts of `names`, one after the other, are some `taken` followed by `waiting`; the output took `taken`, which changed it from `before` to `now`
 abbrev pub IsTakenOrWaits : Contents → Style → (names : List (List ℕ)) → (before now : Stream) → (waiting : List ℕ) → Type 0
 IsTakenOrWaits mib style names before now waiting = (taken : List ℕ) × AreTextsOf mib style names (taken ++ waiting) × (now ≡ stream_after before taken)
 
@@ -74,8 +74,8 @@ module _ (mib : Contents) (style : Style) (before now : Stream) where
     stops = inl (none, is);
   }
 
--- `a` begins with `c`; or `c` is longer than `a` and begins with it, and then `b` is the rest of `c` and then `d`. If `a ++ b` is `c ++ d`, this holds
--- (`cut`).
+-- `a` is `c` followed by some `p`. Or `c` is `a` followed by some `p` that isn't empty, and `b` is `p` followed by `d`. If `a ++ b` is `c ++ d`, one of the
+-- two holds (`cut`).
 abbrev IsCutTwice : (a b c d : List ℕ) → Type 0
 IsCutTwice a b c d = ((p : List ℕ) × (a ≡ c ++ p)) ⊎ ((p : List ℕ) × (c ≡ a ++ p) × (b ≡ p ++ d) × (0 < length p))
 

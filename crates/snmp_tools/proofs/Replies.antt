@@ -14,7 +14,7 @@ use Rattle.snmp_tools.specs.Lines.{AreLines}
 use Rattle.smi_tree.specs.{Tree.Contents}
 use Rattle.snmp_tools.proofs.Printed.{lines_of_both, prints}
 
--- `line` begins with `prefix`, or `prefix` is `line` followed by the start of `rest`, and `left` is what remains of `rest`
+-- `line` begins with `prefix`; or `prefix` is `line` followed by some `more`, and `rest` is `more` followed by `left`
 abbrev Ends : (line rest prefix left : List ℕ) → Type 0
 Ends line rest prefix left = ((cut : List ℕ) × (line ≡ prefix ++ cut)) ⊎ ((more : List ℕ) × (prefix ≡ line ++ more) × (rest ≡ more ++ left))
 
@@ -43,8 +43,8 @@ fails_in_one before after a b f =
       }
     ]
 
--- if `text` has the lines of `rows`, and `line` is the line of one row more, with the tree and letters of the start, then both together are the lines of all
--- these rows
+-- if `text` has the lines of `rows`, and `line` is the line of the row `p` by the same tree and letters, then `text` followed by `line` has the lines of
+-- `rows` and then `p`
 pub next_line : (tree first : Contents) (letters from : Letters) (rows : List VarBind) (p : VarBind) (text line all : List ℕ)
     → tree ≡ first → letters ≡ from → AreLines first from rows text → IsLine tree letters p.name p.value line → all ≡ text ++ line
     → AreLines first from (rows ++ p ∷ []) all
@@ -89,7 +89,7 @@ module _ {S N : Type 0} (tree : S → Contents) (letters : S → Letters) (name 
         given_all (later old line) new q more rest (like_later new old line is) (lines_later old (q ∷ more) line rest lines) now,
       )
 
-  -- the sink took the first rows, and refused the row after them with the fault `why`
+  -- the sink took the rows of `rows` before one of them, and refused this one with the fault `why`
   abbrev IsCutOff : S → List VarBind → SinkFault → S → Type 0
   IsCutOff old rows why new =
       (prefix : List VarBind) × (p : VarBind) × (back : List VarBind) × (rows ≡ prefix ++ p ∷ back) × (between : S)

@@ -37,7 +37,7 @@ HasNoSyntax mib = (o : List ℕ) → nearest_syntax mib o ≡ None
 
 -- ---- strings
 
--- if each octet is printable, no dots are written
+-- if each octet is printable, then putting a dot for each octet that isn't printable changes nothing
 without_dots : (xs : List ℕ) → list_all is_printable xs ≡ true → flat_map (λ x. escape_octet (printable_or_dot x)) xs ≡ flat_map escape_octet xs
 without_dots [] e = refl
 without_dots (x ∷ xs) e = grind (arith, common_steps, and_parts, without_dots xs)

@@ -51,7 +51,8 @@ before_more : {S : Type 0} (IsDone : S → Type 0) (Fails : S → Fault → Type
     → IsFirstToFail (steps ++ more) IsDone Fails why
 before_more {S} IsDone Fails why steps more h = grind (arith, common_steps, append_assoc)
 
--- if `f step` is done whenever `step` is, and fails whenever `step` fails, then `f` maps the first step that fails to the first that fails
+-- if `f step` is done whenever `step` is, and fails whenever `step` fails, then `f` maps the first of some steps that fails to the first of the mapped steps
+-- that fails
 module _ {S T : Type 0} (f : S → T) where
   map_parts : (done : List S) (failed : S) (left : List S) → map f (done ++ failed ∷ left) ≡ map f done ++ f failed ∷ map f left
   map_parts [] failed left = refl

@@ -151,7 +151,8 @@ are_walked ls root got (row ∷ more) are is_got = page.below (λ e. cc) are
 
 -- ---- what is written
 
--- a prefix of the lines of the first rows, or of all rows, is a prefix of the lines of all rows
+-- if no object has a syntax, and a prefix of the lines of the first rows, or of all rows, was written, then a prefix of the lines that `row_line` defines for
+-- all rows was written
 prefix_is : (mib : Contents) (before after : Stream) (rows first rest : List VarBind) (text : List ℕ) → HasNoSyntax mib → rows ≡ first ++ rest
     → AreLines mib numeric_letters first text ⊎ ((shown : List ℕ) × AreLines mib numeric_letters rows shown × (text ≡ shown ++ []))
     → TakesPrefix before text after → TakesPrefix before (flat_map row_line rows) after

@@ -6,11 +6,11 @@ use Rattle.snmp_io.specs.{Draft.Written, Draft.Adds, Output.Stream, Output.strea
 use Rattle.snmp_words.specs.Words.{texts_at}
 use Rattle.snmp_tools.specs.{Lines.IsTextPrinted, Lines.StopsAtText, FaultText.Fault}
 
--- if `a` and then `b` are appended, `a ++ b` is
+-- if `a` is appended and then `b`, then `a ++ b` is appended
 pub adds_both : (old middle new : Written) (a b : List ℕ) → Adds old a middle → Adds middle b new → Adds old (a ++ b) new
 adds_both old middle new a b one two = grind (arith, common_steps, append_assoc)
 
--- if `a` is appended and then `b ++ c`, then `a ++ b ++ c` is
+-- if `a` is appended and then `b ++ c`, then `a ++ b ++ c` is appended
 pub adds_after : (old middle new : Written) (a b c : List ℕ) → Adds old a middle → Adds middle (b ++ c) new → Adds old (a ++ b ++ c) new
 adds_after old middle new a b c one two = grind (arith, common_steps, append_assoc, adds_both)
 

@@ -16,7 +16,7 @@ use Rattle.snmp_tools.specs.Question.{Plan, Question, Walk, names, subtree}
 
 -- ---- the answer of an agent over a table
 
--- the agent in memory over the table `view`
+-- the agent in memory that has only the table `view`, with the plan's community and greatest size
 abbrev pub agent_over : Plan → MibView → Agents
 agent_over plan view =
     record { tables = view ∷ []; community = plan.community; max_size = plan.max_size }
@@ -29,7 +29,7 @@ abbrev pub first_after : Option (List ℕ) → (community : List ℕ) → Walk �
 first_after None community w = start_state w.root w.mode w.method community 1
 first_after (Some after) community w = resume_state w.root after w.method community 1
 
--- the walk before its first request, which has the id 1
+-- the state of the walk before its first request, which has the id 1
 abbrev pub first_of : (community : List ℕ) → Walk → WalkState
 first_of community w = first_after w.after community w
 
@@ -38,10 +38,11 @@ AreRowsAfter None w view rows = (got : VarBind) × IsGet view (wire w.root) got
     × (rows ≡ walk_of w.mode w.root got (variables view))
 AreRowsAfter (Some after) w view rows = rows ≡ rest_of w.root (wire after) (variables view)
 
--- `rows` answers the question from the table `view`. Get: the result for each name, in the order
--- of the names. Walk: the rows below the root in increasing order; by its mode, also the root's
--- own row before them, or the result of a Get of the root if there are none. Walk that continues
--- after a name: the rows below the root that come after that name.
+-- `rows` is the answer to the question from the table `view`. For a Get, it is the result for each
+-- name, in the order of the names. For a walk, it is the rows below the root in increasing order.
+-- With the mode `Include`, the root's own row comes before them, if there is one. With the mode
+-- `Plain`, it is the result of a Get of the root if no row is below the root. For a walk that
+-- continues after a name, it is the rows below the root that come after this name.
 abbrev pub AreRowsOf : Question → MibView → List VarBind → Type 0
 AreRowsOf (names os) view rows = AreGot view os rows
 AreRowsOf (subtree w) view rows = AreRowsAfter w.after w view rows
@@ -51,15 +52,16 @@ abbrev pub CanGoOn : List ℕ → Option (List ℕ) → Type 0
 CanGoOn root None = Unit {0}
 CanGoOn root (Some after) = IsAtOrBelow after root × IsWire (wire after)
 
--- the names of the question can be sent, and a walk that continues after a name can do so
+-- the names of the question can be sent, and the name to continue after, if there is one, is the
+-- root or below it
 abbrev pub CanBeSent : Question → Type 0
 CanBeSent (names os) = All (λ o. IsWire (wire o)) os
 CanBeSent (subtree w) = IsWire (wire w.root) × CanGoOn w.root w.after
 
 -- There is room for the question over the table `view`. For a Get: the request fits into a
--- datagram, and the Response into a message of the agent. For a walk: each Response with a single
--- row of the table fits, and each with an exception for the name that the walk begins from; and
--- there are enough ids.
+-- datagram, and the Response into a message of the agent. For a walk: a Response with any one row
+-- of the table fits, and so does a Response with any exception for the name that the walk begins
+-- from; and there are enough request ids.
 abbrev pub HasRoomFor : Question → Plan → MibView → Type 0
 HasRoomFor (names os) plan view = HasRoomForGet (agent_over plan view) (request_for plan os) os
 HasRoomFor (subtree w) plan view =
@@ -84,9 +86,9 @@ abbrev pub Counts : WalkEnd → ℕ → Type 0
 Counts (ending.Done count) n = count ≡ n
 Counts _ n = Unit {0}
 
--- why the run ended. If it is done, its end has the number of names of a Get, or of the rows that
+-- Why the run ended. If it is done, its end has the number of names of a Get, or of the rows that
 -- a walk passed on (`given`). It ended early only if a message didn't fit, if the ids were used
--- up, if no reply arrived, or if the link or the sink failed
+-- up, if no reply arrived, or if the link or the sink failed.
 abbrev pub HasReason : Question → Plan → MibView → (given : List VarBind) → WalkEnd → Type 0
 HasReason (names os) plan view given end =
     IsEndOfGet (IsTooBig (agent_over plan view) (request_for plan os) os) ⊥
@@ -95,9 +97,10 @@ HasReason (subtree w) plan view given end =
     IsLawfulEnd (agent_over plan view) (HasNone (agent_over plan view)) (first_of plan.community w)
     given end × Counts end (length given)
 
--- The question was asked over the table `view`: the sink took the rows `given`, and refused one or
--- none (`refused`), and the run ended with `end`. Both together are a prefix of the answer. If the
--- run is done, `given` is the whole answer. It didn't end because the link failed.
+-- What is known of a run that asked the question over the table `view` and ended with `end`, if the
+-- sink took the rows `given` and refused the rows `refused`. `given` and then `refused` are a
+-- prefix of the answer. If the run is done, `given` is the whole answer. The run didn't end because
+-- the link failed.
 pub record IsAsked (plan : Plan) (question : Question) (view : MibView)
     (given refused : List VarBind) (end : WalkEnd) : Type 0 where
   pub prefix : (rows : List VarBind) → AreRowsOf question view rows
@@ -110,7 +113,9 @@ pub record IsAsked (plan : Plan) (question : Question) (view : MibView)
 
 -- ---- over any link
 
--- what is known of a run that asks the question over a link, from the state `link` to `after`
+-- What is known (`facts`) of a run that asks the question over a link, with `tries` tries for each
+-- request. The link was in the state `link` before the run, and in the state `after` when the run
+-- ended with `end`. The sink took the bindings `given` and refused `refused`.
 abbrev pub IsAskedOver : {W : Type 0} → LinkFacts W → (link after : W) → (tries : ℕ) → Plan
     → Question → (given refused : List VarBind) → WalkEnd → Type 0
 IsAskedOver {W} facts link after tries plan (names os) given refused end =
@@ -132,7 +137,8 @@ pub record HasFacts {W : Type 0} (Linked : (link after : W) → Type 0) (facts :
 
 -- ---- for private functions
 
--- How a run over a link in memory ended. Such a link fails only if memory runs out.
+-- the end of a run over a link in memory: if the link failed, the reason is that memory ran out,
+-- since such a link fails for no other reason
 abbrev pub end_in_memory : WalkEnd → WalkEnd
 end_in_memory ending.Link = ending.Sink sink.Memory
 end_in_memory end = end

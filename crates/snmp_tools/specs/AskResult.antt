@@ -19,9 +19,9 @@ use Rattle.smi_tree.specs.{Tree.Contents}
 
 -- ---- what is written
 
--- What follows the lines of a run. If the run is done and -Cp is asked for, the line of -Cp
--- follows, perhaps not whole. Otherwise nothing follows; if the run ended early, its end is the
--- fault.
+-- What follows the lines of a run. If the run is done and -Cp is asked for (`counts`), the line of
+-- -Cp is printed, or printing it fails. Otherwise nothing follows; if the run ended early, its end
+-- is the fault.
 abbrev pub IsFinished : (agent : List ℕ) → WalkEnd → (counts : Bool) → (before after : Stream)
     → Option Fault → Type 0
 IsFinished agent (ending.Done count) true before after fault =
@@ -44,7 +44,7 @@ pub record IsShown (Facts : (given refused : List VarBind) → WalkEnd → Type 
   pub finish : IsFinished agent end (counts_in plan.question) between after fault
 
 -- One link was opened to `port` of `host`, and closed. `link` is its state when it was opened, and
--- `last` when it was closed. Nothing else changed the network between.
+-- `last` when it was closed. Nothing else changed the network in between.
 pub record IsLinked {N V D : Type 0} (net : Network N V D) (host : List ℕ) (port seconds : ℕ)
     (before : N) (link last : V) (after : N) : Type 0 where
   pub between : N
@@ -103,10 +103,10 @@ pub data IsOutcomeBy {N V D : Type 0} (net : Network N V D) (wire : LinkFacts V)
       → net.fault_count after.links ≡ net.fault_count before.links
       → IsOutcomeBy net wire words mib before after fault
 
--- What a job wrote on its output, and of the warnings about its modules on standard error. If it
--- was refused before the modules were loaded, it wrote nothing. Otherwise it first wrote the lines
--- of the warnings, or a prefix of them if standard error failed, and then continued with these
--- modules.
+-- What a job wrote on its output, and which warnings about its modules it wrote on standard error.
+-- If it was refused before the modules were loaded, it wrote nothing. Otherwise it first wrote the
+-- lines of the warnings, or a prefix of them if standard error failed, and then continued with
+-- these modules.
 pub data IsOutcome {N V D : Type 0} (net : Network N V D) (wire : LinkFacts V) (Loads : LoadFacts)
     (words : AskWords) (before after : Seen N) (fault : Option Fault) : Type 0 where
   not_loaded : (why : Fault) → IsEarlyRefusal words before.files why → after ≡ before

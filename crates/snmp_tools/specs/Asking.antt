@@ -1,5 +1,5 @@
--- The steps that all jobs which ask an agent have: the version, the letters of -O, the community,
--- and AGENT; and how module files, names and agents fail.
+-- The first steps of each job that asks an agent, which judge the version, the letters of -O, the
+-- community and AGENT; and how module files, names and agents can fail.
 use Rattle.std.specs.Prelude.{◌≡◌, ◌≢◌, ◌<◌, ◌≤◌, ℕ, List, length, Some, None, Option, Ok, Err}
 use Rattle.std.specs.Prelude.{codes}
 use Rattle.snmp_tools.specs.load.Files.{AreModulesOf, FilesFail, Refusal}
@@ -19,7 +19,8 @@ use Rattle.smi_tree.specs.{Tree.Contents}
 
 -- ---- arguments, before any file is read
 
--- all octets of -O are letters, and `letters` is what they say: how lines are shown
+-- all octets of `text`, the argument of -O, are letters with a meaning, and `letters` is what they
+-- say: how lines are shown
 pub record AreShown (text : List ℕ) (letters : Letters) : Type 0 where
   pub known : first_other text ≡ None
   pub read : AreLetters text letters
@@ -66,19 +67,20 @@ abbrev pub NameFails : Contents → List ℕ → Fault → Type 0
 NameFails tree text why =
     (error : NameError) × TextMeans tree text (Err error) × (why ≡ bad_name error text)
 
--- `name` is the identifier that the text means, or None without a text
+-- `name` is the identifier that the text means in `mib`; without a text, `name` is None
 abbrev pub IsOptionalName : Contents → Option (List ℕ) → Option (List ℕ) → Type 0
 IsOptionalName mib None name = name ≡ None
 IsOptionalName mib (Some text) name =
     (o : List ℕ) × TextMeans mib text (Ok o) × (name ≡ Some o)
 
--- the agent's table file defines a table, as far as it is known, or the agent has no table file:
--- it is asked over the network
+-- The agent at this address can be reached. A table file must define a table, as far as it is
+-- known what the file holds. Of an address on the network, nothing is required.
 abbrev pub IsReached : Holdings → Contents → Address → Type 0
 IsReached files mib (table path) = (view : MibView) × HasTable files mib path view
 IsReached files mib (udp host port) = Unit {0}
 
--- the agent's table file fails for the reason `why`, as `TableFails` says
+-- the agent's table file fails for the reason `why` (`TableFails`); an address on the network has
+-- no table file, and never fails
 abbrev pub ReachFails : Holdings → Contents → Address → Fault → Type 0
 ReachFails files mib (table path) why = TableFails files mib path why
 ReachFails files mib (udp host port) why = ⊥

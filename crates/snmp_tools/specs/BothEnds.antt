@@ -95,8 +95,8 @@ pub data IsAtAsker {N V D : Type 0} (net : Network N V D) (wire : LinkFacts V) (
       → InTurn (Happens wire) shown.facts.link events shown.facts.after
       → IsAtAsker net wire words mib plan before after status events
 
--- `events` are `turns` turns of the agent, with the counts `served`. In turn they took the
--- endpoint of the door from its state at `door` to its state at `later`, as the endpoint says.
+-- `events` are `turns` turns of the agent, with the counts `served`. One after the other, as
+-- `happens` says, they took the door's endpoint from its state at `door` to its state at `later`.
 abbrev pub AreTurnsAt : {D P E : Type 0} → (endpoint_at : D → E)
     → (happens : E → Event P → E → Type 0) → (door : D) → Agent → (turns : ℕ) → Served
     → (later : D) → (events : List (Event P)) → Type 0
@@ -104,9 +104,9 @@ AreTurnsAt {D} {P} {E} endpoint_at happens door agent turns served later events 
     AreTurns agent turns served events
     × InTurn happens (endpoint_at door) events (endpoint_at later)
 
--- At each door (server socket) of the network an agent is served turn by turn. In each turn a
--- datagram arrived and got the agent's reply or was dropped, or none arrived, or a receive or a
--- send failed.
+-- Whenever the network served an agent at a door (server socket), it did so turn by turn. In each
+-- turn a datagram arrived and was replied to or dropped, or none arrived, or a receive or a send
+-- failed.
 abbrev pub ServesInTurn : {N V D P E : Type 0} → Network N V D → (endpoint_at : D → E)
     → (happens : E → Event P → E → Type 0) → Type 0
 ServesInTurn {N} {V} {D} {P} {E} net endpoint_at happens =
@@ -187,9 +187,9 @@ pub record IsWalkInNumbers (words : WalkWords) (root : List ℕ) : Type 0 where
   pub whole : words.after ≡ None
   pub from : words.name ≡ Some (numeric_text root)
 
--- The answer to such a walk from the table that `lines` define: the rows below the root or, if
--- there are none, what a Get of the root returns (`AreWalked`). What is written of each row is its
--- `row_line`, as over a table file (`TableWalk`).
+-- The answer to a walk in numbers (`IsWalkInNumbers`) from the table that `lines` define: the rows
+-- below the root or, if there are none, what a Get of the root returns (`AreWalked`). The line
+-- that is written of each row is its `row_line`, as over a table file (`TableWalk`).
 pub record IsAskInNumbers (words : WalkWords) (files : Holdings) (serving : ServeWords)
     (server_files : Holdings) (lines : List (List ℕ)) (root : List ℕ) : Type 0 where
   pub rows : List VarBind

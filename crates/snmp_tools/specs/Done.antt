@@ -1,4 +1,4 @@
--- What is promised of a job, by the arguments that ask for it.
+-- What is promised of a job that the arguments ask for.
 use Rattle.std.specs.Prelude.{◌≡◌, ℕ, true, false, List, Option}
 use Rattle.snmp_io.specs.{Files.Holdings, Output.Stream}
 use Rattle.snmp_walk.specs.declared.link.Link.{Ghosts as LinkFacts}
@@ -69,7 +69,8 @@ AreWordsDone {N} {V} {D} net wire words before after status = (job : Stated) →
 
 -- ---- for private functions
 
--- what a job did, and why not all of it was done, if so, before that is reported
+-- What a job did before its fault is reported. `fault` is why not all of the job was done, or None
+-- if all of it was.
 abbrev pub IsJobOutcome : {N V D : Type 0} → Network N V D → LinkFacts V → LoadFacts → Stated
     → (before after : Seen N) → Option Fault → Type 0
 IsJobOutcome {N} {V} {D} net wire Loads (snmptranslate words) before after fault =

@@ -31,7 +31,7 @@ pub data Fault : Type 0 where
   no_output : Fault
   out_of_memory : Fault
 
--- the fault that a failure stands for
+-- the fault of a failure, which is the error that the code returns
 abbrev pub fault_of : Failure → Fault
 fault_of (failure.Version word) = bad_version word.now
 fault_of (failure.Letter letter) = bad_letter letter

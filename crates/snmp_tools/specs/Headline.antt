@@ -41,7 +41,8 @@ abbrev pub IsWholeText : Contents → Plan → (rows : List VarBind) → List �
 IsWholeText mib plan rows text = (shown : List ℕ) × AreLines mib plan.letters rows shown
     × (text ≡ shown ++ count_text (counts_in plan.question) (length rows))
 
--- a prefix of the lines of the first rows was written, or of the whole text
+-- what was written is a prefix of the lines of `first`, the rows that `rows` begins with (none,
+-- some or all of them), or a prefix of the whole text (`IsWholeText`)
 abbrev pub IsPrefixWritten : Contents → Plan → (rows : List VarBind) → (before after : Stream)
     → Type 0
 IsPrefixWritten mib plan rows before after =

@@ -51,17 +51,17 @@ IsKnown bulk (letter, digits) = (IsPlain bulk letter × (digits ≡ []))
     ⊎ ((bulk ≡ true) × (letter ≡ 114) × ((n : ℕ) × AreRepetitions digits n))
 
 -- The letter has no meaning with the digits after it, and `octet` is reported: the first digit
--- after a plain letter, otherwise the letter itself.
+-- after a plain letter (`IsPlain`), otherwise the letter itself.
 abbrev pub IsUnknown : (bulk : Bool) → ℕ × List ℕ → (octet : ℕ) → Type 0
 IsUnknown bulk (letter, digits) octet =
     (IsPlain bulk letter × ((more : List ℕ) × (digits ≡ octet ∷ more)))
     ⊎ ((IsPlain bulk letter → ⊥) × (IsKnown bulk (letter, digits) → ⊥) × (octet ≡ letter))
 
--- whether the letter is among the letters
+-- whether `letter` is one of the letters in the list, which has each letter with its digits
 abbrev pub has : (letter : ℕ) → List (ℕ × List ℕ) → Bool
 has letter letters = list_any (λ part. part.0 == letter) letters
 
--- `n` is the number of repetitions after the last `r`, or 10 if there is none
+-- `n` is the number that the digits after the last `r` spell, or 10 if no letter is `r`
 abbrev pub IsLastNumber : List (ℕ × List ℕ) → ℕ → Type 0
 IsLastNumber letters n =
     ((has 114 letters ≡ false) × (n ≡ 10))
@@ -79,8 +79,8 @@ pub record HaveChosen (bulk : Bool) (text : List ℕ) (choices : Choices) : Type
   pub leaves_last_get : choices.leaves_last_get ≡ has 73 letters
   pub repetitions : IsLastNumber letters choices.repetitions
 
--- `octet` is the first in `text` without a meaning: a digit that `text` begins with, or the octet
--- that `IsUnknown` reports of the first letter without a meaning
+-- `octet` is the first in `text` without a meaning: a digit that `text` begins with; the first
+-- digit after a letter that takes none; or another letter that has no meaning with its digits
 abbrev pub IsFirstUnknown : (bulk : Bool) → (text : List ℕ) → (octet : ℕ) → Type 0
 IsFirstUnknown bulk text octet =
     ((rest : List ℕ) × (text ≡ octet ∷ rest) × (is_ascii_digit octet ≡ true))

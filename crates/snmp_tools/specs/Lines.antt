@@ -28,14 +28,15 @@ IsPrintedUpTo mib letters before rows refused (ending.Sink fault.Output) after =
 IsPrintedUpTo mib letters before rows refused _ after =
     (text : List ℕ) × AreLines mib letters rows text × (after ≡ stream_after before text)
 
--- `text` isn't printed because memory ran out, or only a prefix of it because the output failed
+-- printing `text` fails for the reason `fault`: memory ran out and nothing is printed, or a write
+-- failed and a prefix of `text` is printed
 abbrev pub StopsAtText : (before : Stream) → (text : List ℕ) → (after : Stream) → Option Fault
     → Type 0
 StopsAtText before text after fault =
     ((after ≡ before) × (fault ≡ Some out_of_memory))
     ⊎ (FailsWithin before text after × (fault ≡ Some no_output))
 
--- `text` is printed, or not all of it for the reason `fault`
+-- `text` is printed, or printing it fails for the reason `fault`
 abbrev pub IsTextPrinted : (before : Stream) → (text : List ℕ) → (after : Stream) → Option Fault
     → Type 0
 IsTextPrinted before text after fault =
@@ -61,8 +62,8 @@ TakesLine mib letters before binding (Err fault.Output) after = (line : List ℕ
     × IsLine mib letters binding.name binding.value line × FailsWithin before line after
 TakesLine mib letters before binding (Err fault.Memory) after = after ≡ before
 
--- the lines of `rows` were printed until the run ended with `end`; `Facts` holds of them and of
--- the refused row, if there is one
+-- the lines of `rows` were printed until the run ended with `end`; `Facts` holds of `rows` and of
+-- `refused`, which has the row that the sink refused, if there is one
 pub record ArePrinted (mib : Contents) (letters : Letters) (before after : Stream) (end : WalkEnd)
     (Facts : (rows refused : List VarBind) → Type 0) : Type 0 where
   pub rows : List VarBind

@@ -24,7 +24,8 @@ use Rattle.smi_tree.specs.{Tree.Contents}
 -- what to ask an agent for: the instances of names, or a walk
 pub data Request : Type 0 where
   get : (texts : List (List ℕ)) → Request
-  -- with GetBulk or not; its letters of -C, the name to continue after, and the root's name
+  -- `bulk`: whether to ask with GetBulk; `letters`: the letters of -C; `after`: the name to
+  -- continue after; `name`: the root's name
   walk : (bulk : Bool) → (letters : List ℕ) → (after name : Option (List ℕ)) → Request
 
 -- the arguments of a job that asks an agent
@@ -35,7 +36,7 @@ pub record AskWords : Type 0 where
 abbrev pub of_get : GetWords → AskWords
 of_get words = record { asking = words.asking; request = get words.names }
 
--- the arguments of snmpbulkwalk if `bulk`, otherwise of snmpwalk
+-- the arguments `words` of snmpbulkwalk (`bulk`) or snmpwalk, as those of a job that asks an agent
 abbrev pub of_walk : (bulk : Bool) → WalkWords → AskWords
 of_walk bulk words =
     record { asking = words.asking; request = walk bulk words.letters words.after words.name }
@@ -84,11 +85,13 @@ abbrev pub counts_in : Question → Bool
 counts_in (names os) = false
 counts_in (subtree w) = w.counts
 
--- `os` are what the names `texts` mean, in order
+-- each of the names `texts` means an identifier in `mib`, and `os` are these identifiers, in order
 abbrev pub AreNames : Contents → (texts os : List (List ℕ)) → Type 0
 AreNames mib texts os = AllZip (λ text o. TextMeans mib text (Ok o)) texts os
 
--- the arguments of snmpbulkwalk (`bulk`) or snmpwalk ask for the walk `w`
+-- The arguments of snmpbulkwalk (`bulk`) or snmpwalk ask for the walk `w`. `choices` are what the
+-- letters of -C choose. The root's name `name` and the name `after` to continue after are looked
+-- up in `mib`.
 pub record IsWalkOf (bulk : Bool) (choices : Choices) (after name : Option (List ℕ))
     (mib : Contents) (w : Walk) : Type 0 where
   pub mode : w.mode ≡ mode_of choices
@@ -97,7 +100,7 @@ pub record IsWalkOf (bulk : Bool) (choices : Choices) (after name : Option (List
   pub root : TextMeans mib (root_text name) (Ok w.root)
   pub goes_on : IsOptionalName mib after w.after
 
--- the request asks this question, with these choices of -C
+-- the request, with these choices of -C, asks this question; its names are looked up in the tree
 abbrev pub IsQuestionOf : Request → Choices → Contents → Question → Type 0
 IsQuestionOf (get texts) choices mib (names os) = AreNames mib texts os
 IsQuestionOf (walk bulk letters after name) choices mib (subtree w) =
@@ -116,8 +119,8 @@ pub record AskFor (words : AskWords) (mib : Contents) (plan : Plan) : Type 0 whe
   pub agent : IsAgent words.asking.agent plan.agent
   pub question : IsQuestionOf words.request choices mib plan.question
 
--- the arguments ask for `plan`, with names looked up in `mib`, a tree that the job can have
--- loaded, as far as it is known what the files hold; and they name no other agent
+-- The arguments ask for `plan`, with names looked up in `mib`, and AGENT means no other address. As
+-- far as it is known what the files hold, `mib` can be the tree of the job's module files.
 pub record IsPlanFor (words : AskWords) (files : Holdings) (mib : Contents) (plan : Plan) : Type 0
   where
     pub known : IsMibOf (MayHold files) words.asking mib
@@ -137,15 +140,15 @@ abbrev pub loading_steps : List LoadingStep
 loading_steps = asking version_step ∷ asking letters_step ∷ choices_step ∷ asking community_step
     ∷ asking agent_step ∷ mibs_step ∷ []
 
--- the later steps, before the first request: a name is looked up, the agent is reached, a name
--- can be sent, and the name to continue after is the root or below it
+-- the later steps, before the first request is sent: to look up a name, to reach the agent, to test
+-- that a name can be sent, and to test that the name to continue after is the root or below it
 pub data LaterStep : Type 0 where
   name_step : (text : List ℕ) → LaterStep
   reach_step : LaterStep
   sent_step : (text : List ℕ) → LaterStep
   below_step : (root_text text : List ℕ) → LaterStep
 
--- the steps for the name to continue after, if there is one
+-- `steps` applied to the name to continue after; no steps without such a name
 abbrev pub goes_on_after : {T : Type 0} → (List ℕ → List T) → Option (List ℕ) → List T
 goes_on_after {T} steps None = []
 goes_on_after {T} steps (Some text) = steps text
@@ -186,7 +189,7 @@ HaveNames mib root_text text Is =
     (root : List ℕ) × (after : List ℕ) × TextMeans mib root_text (Ok root)
     × TextMeans mib text (Ok after) × Is root after
 
--- `Is agent` holds of the address that AGENT says
+-- `Is agent` holds of the address `agent` that the argument AGENT says
 abbrev pub OfAgent : AskWords → (Address → Type 0) → Type 0
 OfAgent words Is = (agent : Address) × HasAgent words.asking.agent agent × Is agent
 

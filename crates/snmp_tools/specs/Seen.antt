@@ -8,7 +8,7 @@ pub record Seen (N : Type 0) : Type 0 where
   pub out : Stream
   pub err : Stream
 
--- the record of these parts
+-- the `Seen` with these fields: the files, the network `links`, and the outputs `out` and `err`
 abbrev pub seen : {N : Type 0} → Holdings → (links : N) → (out err : Stream) → Seen N
 seen {N} files links out err =
     record { files = files; links = links; out = out; err = err }

@@ -39,15 +39,15 @@ pub record HoldsTableFile (files : Holdings) (path root text : List ℕ) : Type 
 
 -- ---- what is below the root
 
--- `rows` are the rows of the lines that are below the root, and no others, by increasing names
+-- `rows` are all rows in `lines` that are below the root, and no others, by increasing names
 pub record AreRowsBelow (lines : List (List ℕ)) (root : List ℕ) (rows : List VarBind) : Type 0 where
   pub ordered : AllPairs (λ row later. Precedes row.name later.name) rows
   pub exact : (row : VarBind)
       → Contains rows row ↔ (HasRow first_format lines row × IsBelow row.name root)
 
 -- `got` is what a Get of the name `o` returns (RFC 3416, section 4.2.1): the row of that name. If
--- there is none, it is noSuchInstance if an object prefix of the table begins the name, otherwise
--- noSuchObject.
+-- no row has that name, it is noSuchInstance if `o` begins with an object prefix in a line of the
+-- file (`HasPrefix`), otherwise noSuchObject.
 pub data IsGot (lines : List (List ℕ)) (o : List ℕ) (got : VarBind) : Type 0 where
   variable : got.name ≡ o → HasRow first_format lines got → IsGot lines o got
   unknown_object : ((row : VarBind) → HasRow first_format lines row → row.name ≢ o)

@@ -44,7 +44,8 @@ pub fn tool<F: Files, L: Links, O: Output, E: Output>(
         → HoldsTableFile (F.text_at files.now) path root text
         → PrintsRows (lines text) root (O.stream out.old) (O.stream out.new)
         (E.stream err.old) (E.stream err.new) result }
-    // The job that the arguments ask for is done, or fails in a way that `IsJobDone` lists.
+    // If the arguments have no fault, the job that they ask for is done, or fails in a way that
+    // `IsJobDone` lists.
     ensures done { AreWordsDone L.Links L.Wire.Link (texts_at words.now)
         (seen (F.text_at files.now) links.old (O.stream out.old) (E.stream err.old))
         (seen (F.text_at files.now) links.new (O.stream out.new) (E.stream err.new)) result }

@@ -30,8 +30,8 @@ use std::alloc::{AllocError, Global};
 /// What `done` promises is in the fields of three records (`specs/Done.antt`):
 ///
 /// - snmpget, snmpwalk and snmpbulkwalk (`IsAskDone`): `outcome_reported` lists how the job can
-///   end: the step that refused it, or the link that it asked over, what it printed, how it left
-///   the network, and what it reported. `rows_written` is about a table file whose text is known
+///   end. It says at which step the job was refused, or how the agent was asked, and what the job
+///   printed and reported. `rows_written` is about a table file whose text is known
 ///   (`specs/Headline.antt`). Whatever fails, only a prefix of the lines is written
 ///   (`prefix_written`). At status 0 all of them are (`all_written_at_status_0`). If the question
 ///   can be sent and there is room for it (`IsFeasible`), the status is 0, unless the output fails

@@ -53,8 +53,8 @@ pub(crate) fn table_walks()
 }
 
 /// If `snmpd` serves a table file to a walk or a Get, and the network between them neither invents
-/// nor alters datagrams, then the walk or Get prints the lines of the rows that it asks for, in
-/// order, from the first one on. At status 0 it prints all of them. This follows from what
+/// nor alters datagrams, then the walk or Get prints a prefix of the lines that answer its
+/// question, and nothing else. At status 0 it prints all of them. This follows from what
 /// [`tool`](crate::tool) promises of the two command lines.
 ///
 /// The network may lose, repeat, delay and reorder datagrams, as UDP may (RFC 768), and other

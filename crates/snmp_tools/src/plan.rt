@@ -169,7 +169,7 @@ impl<'j, 'a> Question<'j, 'a> {
 /// The names of a Get.
 #[derive(Debug, Drop)]
 pub(crate) struct Names<'j, 'a> {
-    /// The arguments that they come from, in order.
+    /// The names as they were passed, in order.
     pub(crate) texts: &'j [&'a str],
     /// The identifiers: `oids[i]` is what `texts[i]` means.
     pub(crate) oids: Vec<Oid>,

@@ -17,8 +17,9 @@ is_octet n = nat_le n 255
 abbrev pub AreOctetNumbers : List ℕ → Type 0
 AreOctetNumbers value = list_all is_octet value ≡ true
 
--- `here` encodes the numbers `value` (RFC 2578, 7.7). `Fixed size`: the numbers, `size` of them.
--- `Counted`: their count, then the numbers. `Implied`: the numbers, at least one.
+-- `here` encodes the numbers `value` (RFC 2578, section 7.7). For `Fixed size`, `here` is `value`,
+-- which has `size` numbers. For `Counted`, `here` is the length of `value` followed by `value`. For
+-- `Implied`, `here` is `value`, which isn't empty.
 abbrev pub IsInExtent : Extent → List ℕ → List ℕ → Type 0
 IsInExtent (Fixed size) value here = (length value ≡ size) × (here ≡ value)
 IsInExtent Counted value here = here ≡ length value ∷ value

@@ -58,7 +58,8 @@ as_text (Fixed size) value = plain_text value
 as_text Counted value = counted_text value
 as_text Implied value = plain_text value
 
--- the numbers that encode `value`: a length comes first if the extent is `Counted`
+-- the numbers that encode `value`: the length of `value` and then `value` if the extent is
+-- `Counted`, otherwise only `value`
 abbrev pub extent_numbers : Extent → List ℕ → List ℕ
 extent_numbers (Fixed size) value = value
 extent_numbers Counted value = length value ∷ value
@@ -84,8 +85,9 @@ index_pieces [] values = []
 index_pieces (part ∷ parts) [] = []
 index_pieces (part ∷ parts) (value ∷ values) = value_pieces part value ++ index_pieces parts values
 
--- the pieces show the numbers after a node: by the values that its index reads, if it reads the
--- whole list of numbers; otherwise each number by itself
+-- `pieces` show `numbers`, the numbers of a name after its node: they are the pieces of the values
+-- that `parts`, the node's index, read from `numbers`, if they read all of it; otherwise each
+-- number is a piece
 abbrev pub AreInstancePieces : Option (List IndexPart) → (numbers : List ℕ) → List Piece → Type 0
 AreInstancePieces None numbers pieces = pieces ≡ as_numbers numbers
 AreInstancePieces (Some parts) numbers pieces =

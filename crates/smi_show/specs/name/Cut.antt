@@ -3,7 +3,7 @@
 use Rattle.std.specs.Prelude.{◌≡◌, ◌≤◌, ℕ, List, [], ◌∷◌, ◌++◌, length}
 use Rattle.snmp_io.specs.Quotes.{HasNoneOutside, IsClosed, IsCut}
 
--- `parts` are the parts of `text`: a dot outside quotes is between each two, and none in any
+-- `text` is `parts` with a dot outside quotes between each two, and no part contains such a dot
 abbrev pub AreParts : (text : List ℕ) → (parts : List (List ℕ)) → Type 0
 AreParts text [] = ⊥
 AreParts text (part ∷ []) = HasNoneOutside 46 text × (part ≡ text)

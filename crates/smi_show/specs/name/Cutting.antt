@@ -8,12 +8,14 @@ abbrev pub is_unquoted : Option ℕ → Bool
 is_unquoted None = true
 is_unquoted (Some quote) = false
 
--- `parts` with the octets `prefix` put before the first part; `prefix` by itself if there are none
+-- `parts` with the octets `prefix` put before the first part; if there are no parts, `prefix` is
+-- the only part
 abbrev pub with_prefix : List ℕ → List (List ℕ) → List (List ℕ)
 with_prefix prefix [] = prefix ∷ []
 with_prefix prefix (part ∷ parts) = (prefix ++ part) ∷ parts
 
--- the parts of a text; `state` is the quote that is open before the text, if any
+-- the parts of a text, which is cut at each dot outside quotes; `state` is the quote that is open
+-- before the text, if any
 abbrev pub parts_after : Option ℕ → List ℕ → List (List ℕ)
 parts_after state [] = [] ∷ []
 parts_after state (octet ∷ more) =
@@ -23,7 +25,7 @@ parts_after state (octet ∷ more) =
 abbrev pub name_parts : List ℕ → List (List ℕ)
 name_parts text = parts_after None text
 
--- the text begins with `::`
+-- whether the text begins with `::`
 abbrev pub is_double_colon : List ℕ → Bool
 is_double_colon [] = false
 is_double_colon (first ∷ []) = false

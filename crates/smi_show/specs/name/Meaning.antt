@@ -23,8 +23,9 @@ abbrev pub or_unknown : Option (List ℕ) → Result (List ℕ) NameError
 or_unknown None = Err Unknown
 or_unknown (Some o) = Ok o
 
--- the meaning of a part that follows the parts of `so_far`: `so_far` and the numbers of the part,
--- or what `look_up` finds for a label
+-- the meaning of a part that follows parts with the meaning `so_far`: for a number or a text in
+-- quotes, `so_far` followed by the numbers of the part, or `TooLong` if that is more than 128
+-- numbers; for a label, the identifier that `look_up` finds, or `Unknown` if it finds none
 abbrev pub word_meaning : (look_up : List ℕ → Option (List ℕ)) → List ℕ → Word
     → Result (List ℕ) NameError
 word_meaning look_up so_far (a_piece piece) = fitting (so_far ++ piece_numbers piece)
@@ -34,8 +35,9 @@ abbrev pub part_meaning : (look_up : List ℕ → Option (List ℕ)) → (so_far
     → Result (List ℕ) NameError
 part_meaning look_up so_far part = and_then (word_of part) (word_meaning look_up so_far)
 
--- the meaning of parts after the identifier `so_far`: `look_up` finds the label of the first part;
--- a label of a later part is looked up among the children of what the parts before it mean
+-- the meaning of parts that follow parts with the meaning `so_far`: if the first part is a label,
+-- `look_up` looks it up; if a later part is a label, it is looked up among the children of the
+-- identifier that the parts before it mean
 abbrev pub parts_meaning : Contents → (look_up : List ℕ → Option (List ℕ)) → List ℕ
     → List (List ℕ) → Result (List ℕ) NameError
 parts_meaning tree look_up so_far [] = Ok so_far
@@ -43,19 +45,19 @@ parts_meaning tree look_up so_far (part ∷ parts) =
     and_then (part_meaning look_up so_far part)
     (λ o. parts_meaning tree (oid_of_child tree o) o parts)
 
--- the meaning of `parts` if the label of the first one is looked up in `scope`; a module is taken
--- to be loaded
+-- the meaning of `parts` if the label of the first one is looked up in `scope`; if the scope is a
+-- module, this doesn't check that the module is loaded
 abbrev pub meaning_in : Contents → Scope → List (List ℕ) → Result (List ℕ) NameError
 meaning_in tree scope parts = parts_meaning tree (found_in tree scope) [] parts
 
--- the meaning of the parts of `rest` in `scope`: `Unknown` if the scope is a module that isn't
--- loaded
+-- the meaning of the parts of `rest` if the label of the first one is looked up in `scope`; the
+-- fault `Unknown` if the scope is a module that isn't loaded
 abbrev pub scope_meaning : Contents → Scope → (rest : List ℕ) → Result (List ℕ) NameError
 scope_meaning tree scope rest =
     if is_loaded_in tree scope then meaning_in tree scope (name_parts rest) else Err Unknown
 
--- the meaning of a text without a module: after a leading dot, the label of the first part is
--- looked up among the roots, otherwise in the whole tree
+-- the meaning of a text without a module: the label of the first part is looked up among the roots
+-- if the text begins with a dot, otherwise in the whole tree
 abbrev pub plain_meaning : Contents → List ℕ → Result (List ℕ) NameError
 plain_meaning tree [] = scope_meaning tree anywhere []
 plain_meaning tree (octet ∷ more) =

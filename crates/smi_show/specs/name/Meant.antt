@@ -36,7 +36,7 @@ IsBadNumber [] = Unit {0}
 IsBadNumber (octet ∷ more) =
     (is_ascii_digit octet ≡ true) × ((n : ℕ) → IsNumeral (octet ∷ more) n → ⊥)
 
--- the part begins with a quote and isn't a text in quotes
+-- the part begins with a quote and isn't the text of a piece
 abbrev pub IsBadIndex : List ℕ → Type 0
 IsBadIndex [] = ⊥
 IsBadIndex (octet ∷ more) =
@@ -55,8 +55,9 @@ abbrev pub IsFound : Option (List ℕ) → Result (List ℕ) NameError → Type 
 IsFound None result = result ≡ Err Unknown
 IsFound (Some o) result = result ≡ Ok o
 
--- `part`, after the identifier `so_far`, means `result`: `so_far` and then the numbers of the part,
--- what `look_up` finds for its label, or the part's own fault.
+-- `part`, after parts that mean `so_far`, means `result`. A number or a text in quotes means
+-- `so_far` followed by the part's numbers, or `TooLong`. A label means what `look_up` finds, or
+-- `Unknown`. Any other part means the fault `BadNumber` or `BadIndex`.
 abbrev pub PartMeans : (look_up : List ℕ → Option (List ℕ)) → (so_far part : List ℕ)
     → Result (List ℕ) NameError → Type 0
 PartMeans look_up so_far part result =
@@ -65,9 +66,9 @@ PartMeans look_up so_far part result =
     ⊎ ((IsBadNumber part × (result ≡ Err BadNumber))
     ⊎ (IsBadIndex part × (result ≡ Err BadIndex))))
 
--- `parts`, after the identifier `so_far`, mean `result`. The first fault from the left decides.
--- `look_up` finds the label of the first part; a label of a later part is looked up among the
--- children of the identifier that the parts before it mean.
+-- `parts`, after parts that mean `so_far`, mean `result`: an identifier, or the first fault from
+-- the left. A label as the first part is looked up by `look_up`; a label as a later part is looked
+-- up among the children of the identifier that the parts before it mean.
 abbrev pub PartsMean : Contents → (look_up : List ℕ → Option (List ℕ)) → (so_far : List ℕ)
     → (parts : List (List ℕ)) → Result (List ℕ) NameError → Type 0
 PartsMean tree look_up so_far [] result = result ≡ Ok so_far
@@ -89,9 +90,9 @@ found_in tree (in_module home) label = oid_in_module tree home label
 found_in tree anywhere label = oid_anywhere tree label
 found_in tree among_roots label = oid_of_root label
 
--- `rest` is `text` without its module and `::`, or without its leading dot, if it has one of them.
--- The label of the first part is looked up in the scope: the module before `::`; the roots after a
--- leading dot; otherwise the whole tree.
+-- The scope says where the label of the first part is looked up: in the module if `text` has one
+-- before `::`; otherwise among the roots if `text` begins with a dot; otherwise in the whole tree.
+-- `rest` is `text` after `::` or after the dot, or all of `text`.
 abbrev pub IsScoped : (text : List ℕ) → Scope → (rest : List ℕ) → Type 0
 IsScoped text (in_module home) rest = IsModuleCut text home rest
 IsScoped text among_roots rest = HasNoModule text × (text ≡ 46 ∷ rest)
@@ -120,8 +121,9 @@ TextMeans tree text result =
     ⊎ ((text ≢ []) × (text ≢ 46 ∷ []) × ((scope : Scope) × (rest : List ℕ)
     × IsScoped text scope rest × ScopeMeans tree scope rest result)))
 
--- The prefix of `text` before the first `stop` outside quotes means an identifier and has `size`
--- octets, or has the fault `why`. Without such a `stop` it is all of `text`.
+-- The prefix of `text` ends before the first `stop` outside quotes; without such a `stop`, it is
+-- all of `text`. The prefix means the identifier `o` and has `size` octets, or it means the fault
+-- `why`.
 abbrev pub PrefixMeans : Contents → (stop : ℕ) → (text : List ℕ) → Result (List ℕ × ℕ) NameError
     → Type 0
 PrefixMeans tree stop text (Ok (o, size)) = (prefix : List ℕ) × IsUnquotedPrefix stop text prefix

@@ -11,39 +11,41 @@ use Rattle.smi_value.specs.declared.letters.NameForm.{NameForm}
 use Rattle.smi_value.specs.declared.letters.NameForm.TheVariants.{Numeric, Full, Label}
 use Rattle.smi_value.specs.declared.letters.NameForm.TheVariants.{ModuleLabel}
 
--- `MODULE::label`, or only the label of a root
+-- the name of the module, `::` and the label; only the label if there is no module, as for a root
 abbrev pub qualified : Option (List ℕ) → List ℕ → List ℕ
 qualified None label = label
 qualified (Some home) label = home ++ codes "::" ++ label
 
--- the name of `n`, the last number of `o`: the label of the deepest node if it is at `o`, otherwise
--- the number
+-- the text of `n`, the last number of `o`: the label of `node` if `node` is at `o`, otherwise the
+-- decimal digits of `n`; `node` is the deepest node at `o` or above, if there is one
 abbrev pub arc_text : Option NodeView → List ℕ → ℕ → List ℕ
 arc_text None o n = decimal n
 arc_text (Some node) o n = if node.depth == length o then node.label else decimal n
 
--- for each number of `o`, a dot and then the label of the node at the beginning of `o` that ends
--- with this number, or the number if there is none
+-- for each number of `o`, a dot and a text: if a node's identifier is `o` up to and with this
+-- number, the label of that node, otherwise the number
 abbrev pub path_text : Contents → List ℕ → List ℕ
 path_text tree o =
     flat_map (λ here. codes "." ++ arc_text (nearest_node tree here) here (last_number here))
     (beginnings o)
 
--- the name of `node`, the deepest node at `o` or above, in the form; nothing in the numeric form
+-- the name of `node`, the deepest node at `o` or above, as the form says: the texts of all numbers
+-- down to the node, its label, or `MODULE::label` (see `qualified`); nothing in the numeric form
 abbrev pub node_text : Contents → NameForm → List ℕ → NodeView → List ℕ
 node_text tree Numeric o node = []
 node_text tree Full o node = path_text tree (take node.depth o)
 node_text tree Label o node = node.label
 node_text tree ModuleLabel o node = qualified node.home node.label
 
--- `text` shows the numbers of `o` after `node`: by its index, or as numbers if it has none, if the
--- index doesn't read them all, or if `numeric_index` is set
+-- `text` shows the numbers of `o` after `node`: by the node's index, or as numbers if the node has
+-- no index, if the index doesn't read them all, or if `numeric_index` is set
 abbrev pub IsInstanceText : Bool → List ℕ → NodeView → (text : List ℕ) → Type 0
 IsInstanceText numeric_index o node text =
     (pieces : List Piece) × AreInstancePieces (if numeric_index then None else node.index)
     (drop node.depth o) pieces × (text ≡ shown_pieces pieces)
 
--- `text` shows `o` by its deepest node and what follows that, or in numbers if there is no node
+-- `text` shows `o` by the name of its deepest node and the numbers after the node, or in numbers if
+-- there is no node
 abbrev pub IsNearestText : Contents → NameForm → Bool → List ℕ → Option NodeView
     → (text : List ℕ) → Type 0
 IsNearestText tree form numeric_index o None text = text ≡ numeric_text o
@@ -51,14 +53,14 @@ IsNearestText tree form numeric_index o (Some node) text =
     (instance : List ℕ) × IsInstanceText numeric_index o node instance
     × (text ≡ node_text tree form o node ++ instance)
 
--- `text` is the name of `o`: by its deepest node, or in numbers in the numeric form or without a
--- node
+-- `text` is the name of `o`: in numbers if the form is numeric or no node is at `o` or above,
+-- otherwise the name of the deepest such node and the text of the numbers after the node
 abbrev pub IsName : Contents → NameForm → Bool → List ℕ → (text : List ℕ) → Type 0
 IsName tree Numeric numeric_index o text = text ≡ numeric_text o
 IsName tree form numeric_index o text =
     IsNearestText tree form numeric_index o (nearest_node tree o) text
 
--- `form` is one whose names are read back as the identifier that they show: in numbers, or by
+-- a name in this form is read back as the identifier that it shows: the form is in numbers, or by
 -- module and label
 abbrev pub ReadsBack : NameForm → Type 0
 ReadsBack form = (form ≡ Numeric) ⊎ (form ≡ ModuleLabel)

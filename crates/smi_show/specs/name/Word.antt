@@ -19,7 +19,8 @@ numeral_of part =
     if all_ascii_digits part && nat_lt (decimal_value part) (2 ^ 32) then Some (decimal_value part)
     else None
 
--- the octets before the quote that ends `rest`, if each may appear between quotes
+-- `rest` without its last octet, if the last octet is `quote` and each octet before it may appear
+-- between quotes; otherwise None
 abbrev pub quoted_in : ℕ → List ℕ → Option (List ℕ)
 quoted_in quote rest =
     let size = length rest - 1 in
@@ -31,18 +32,20 @@ abbrev pub number_word : Option ℕ → Result Word NameError
 number_word None = Err BadNumber
 number_word (Some n) = Ok (a_piece (plain_number n))
 
--- a text in double quotes; in a name `""` stands for a length of 0
+-- the part that is `octets` between double quotes, perhaps no octets (`""` stands for a length of
+-- 0); for None, the fault `BadIndex`
 abbrev pub counted_word : Option (List ℕ) → Result Word NameError
 counted_word None = Err BadIndex
 counted_word (Some octets) = Ok (a_piece (counted_text octets))
 
--- a text in single quotes; `''` isn't one
+-- the part that is the octets between single quotes, at least one; for None, or for no octets, as
+-- in `''`, the fault `BadIndex`
 abbrev pub plain_word : Option (List ℕ) → Result Word NameError
 plain_word None = Err BadIndex
 plain_word (Some []) = Err BadIndex
 plain_word (Some (octet ∷ more)) = Ok (a_piece (plain_text (octet ∷ more)))
 
--- what the part is, or its fault
+-- what a part is: a number, a text in quotes, a label, or the fault `BadNumber` or `BadIndex`
 abbrev pub word_of : List ℕ → Result Word NameError
 word_of [] = Err BadNumber
 word_of (octet ∷ more) =

@@ -43,7 +43,7 @@ fn labelled_parts(tree: &Tree, numbers: &[u32], draft: &mut Draft)
     }
 }
 
-/// Appends what [`labelled_number`] does, and a blank.
+/// Appends what [`labelled_number`] appends, and then a blank.
 fn labelled_part(tree: &Tree, here: &Oid, number: u32, near: &mut Near, draft: &mut Draft)
     ensures { let view = nearest_node tree.now here.now in
         Adds draft.old (labelled_number view here.now number ++ codes " ") draft.new }
@@ -52,8 +52,8 @@ fn labelled_part(tree: &Tree, here: &Oid, number: u32, near: &mut Near, draft: &
     draft.octets(b" ");
 }
 
-/// Appends the label of the node at `here` and `number` in parentheses, or only `number` if there
-/// is no node.
+/// Appends the label of the node at `here` and `number` in parentheses, or only `number` if no node
+/// is at `here`.
 fn labelled_number(tree: &Tree, here: &Oid, number: u32, near: &mut Near, draft: &mut Draft)
     ensures { let view = nearest_node tree.now here.now in
         Adds draft.old (labelled_number view here.now number) draft.new }

@@ -241,8 +241,9 @@ fn put_digits(room: &mut [u8; ROOM], filled: usize, first: u32, second: u32)
     put(room, filled + 3, b'0' + second as u8);
 }
 
-/// Appends the first `end` octets of `room` if the rest may be too short for one more number, and
-/// returns how many are filled then: 0 or `end`.
+/// Appends the first `end` octets of `room` to `draft` if fewer than 11 octets follow them, which
+/// may be too few for one more number. Returns how many octets of `room` are filled then: 0 or
+/// `end`.
 #[inline(always)]
 fn with_room(room: &[u8; ROOM], end: usize, draft: &mut Draft) -> usize
     requires { end ≤ 128 }
@@ -257,8 +258,8 @@ fn with_room(room: &[u8; ROOM], end: usize, draft: &mut Draft) -> usize
     0
 }
 
-/// Writes a dot and `number` after the first `filled` octets of `room`, and returns how many are
-/// filled then.
+/// Writes a dot and `number` after the first `filled` octets of `room`, and returns how many octets
+/// of `room` are filled then.
 #[inline(always)]
 fn put_number(room: &mut [u8; ROOM], filled: usize, number: u32) -> usize
     requires { filled ≤ 117 }

@@ -7,7 +7,7 @@ pub enum NameError {
     /// A label or a module is unknown, or the text is empty.
     #[error("unknown name")]
     Unknown,
-    /// A part in quotes is malformed, or isn't followed by a dot or the end.
+    /// A part that begins with a quote is malformed, or has octets after the closing quote.
     #[error("bad index")]
     BadIndex,
     /// A part is empty, or begins with a digit and isn't a number up to 4294967295.

@@ -40,9 +40,9 @@ pub fn resolve(tree: &Tree, text: &[u8]) -> Result<Oid, NameError>
     meaning_of(tree, text)
 }
 
-/// Returns the identifier that a prefix of `text` means, and the length of this prefix. It ends
-/// before the first `stop` outside quotes, or with `text` if there is none. Fails as [`resolve`]
-/// does. Doesn't allocate.
+/// Returns the identifier that a prefix of `text` means, and the length of this prefix. The prefix
+/// ends before the first `stop` outside quotes; without one, it is all of `text`. Fails as
+/// [`resolve`] does. Doesn't allocate.
 pub fn resolve_front(tree: &Tree, text: &[u8], stop: u8) -> Result<(Oid, usize), NameError>
     ensures { PrefixMeans tree.now stop text.now result }
 {

@@ -52,7 +52,8 @@ pub fn read_part(part: &[u8]) -> Result<Part<'_>, NameError>
     }
 }
 
-/// Returns the octets before the quote that ends `rest`, if each may appear between quotes.
+/// Returns `rest` without its last octet, if the last octet is `quote` and each octet before it may
+/// appear between quotes.
 fn unquote(quote: u8, rest: &[u8]) -> Option<&[u8]>
     ensures { option_map (λ octets. octets.now) result ≡ quoted_in quote rest.now }
 {

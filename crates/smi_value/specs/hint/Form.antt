@@ -4,7 +4,8 @@ use Rattle.smi_value.specs.{declared.hint.HintForm.HintForm, declared.hint.spec.
 use Rattle.smi_value.specs.{hint.Number.IsNumberHint, hint.Spec.IsOctetHint, hint.Spec.IsFirstSpec}
 use Rattle.smi_value.specs.declared.hint.HintForm.TheVariants as form
 
--- `text` is a hint, and the form is what was read of it
+-- `text` is a display hint, and this is its form: for a hint of integers, how it shows numbers; for
+-- a hint of octets, its first spec and the text after that spec
 abbrev pub IsFormOf : List ℕ → HintForm → Type 0
 IsFormOf text (form.Number number) = IsNumberHint text number
 IsFormOf text (form.Octets first ahead) =

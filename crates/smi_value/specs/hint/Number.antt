@@ -20,7 +20,8 @@ pub record StartsWithNumber (text : List ℕ) (number : ℕ) (rest : List ℕ) :
   pub value : number ≡ digits_value 10 (leading_digits text)
   pub after : rest ≡ after_digits text
 
--- `text` is `d`, a hyphen, and the number of digits after the point, `indices`, which is at most 20
+-- `text` is `d-` followed by `indices` in decimal digits, which is at most 20: the number of digits
+-- that the hint shows after the point
 pub record HasPlaces (text : List ℕ) (indices : ℕ) : Type 0 where
   pub after_hyphen : List ℕ
   pub whole : text ≡ 100 ∷ 45 ∷ after_hyphen
@@ -35,8 +36,8 @@ IsNumberHint text form.Hexadecimal = text ≡ codes "x"
 IsNumberHint text form.Octal = text ≡ codes "o"
 IsNumberHint text form.Binary = text ≡ codes "b"
 
--- the digits with a point before the last `indices` of them, if that isn't 0; zeros are put before
--- them so that a digit precedes the point
+-- the digits `number` with a point before the last `indices` of them, or unchanged if `indices` is
+-- 0; if there are too few digits, leading zeros are added so that one digit precedes the point
 abbrev pub with_point : ℕ → List ℕ → List ℕ
 with_point zero number = number
 with_point (suc indices) number =

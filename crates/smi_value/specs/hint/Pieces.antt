@@ -12,7 +12,8 @@ use Rattle.smi_value.specs.declared.hint.spec.OctetFormat.TheVariants as octet_f
 abbrev pub number_of_octets : List ℕ → ℕ
 number_of_octets octets = number_from_digits 256 octets
 
--- the text of one application: the octets unchanged, or as one number; nothing without octets
+-- the text of the octets that one application of a spec takes: in the format `Text` the octets
+-- unchanged, otherwise one number in the base of the format; nothing without octets
 abbrev pub piece_text : OctetFormat → List ℕ → List ℕ
 piece_text format [] = []
 piece_text octet_format.Text (octet ∷ more) = octet ∷ more
@@ -28,8 +29,8 @@ ArePieces width [] octets rest = rest ≡ octets
 ArePieces width (piece ∷ pieces) octets rest =
     (octets ≢ []) × (piece ≡ take width octets) × ArePieces width pieces (drop width octets) rest
 
--- `pieces` are cut from the start of `octets`, and `rest` remains: `times` pieces, or fewer if
--- nothing remains after them
+-- `pieces` are cut from the start of `octets`, `width` octets each (see `ArePieces`), and `rest`
+-- remains: `times` pieces, or fewer if nothing remains after them
 pub record IsCut (width times : ℕ) (pieces : List (List ℕ)) (octets rest : List ℕ) : Type 0 where
   pub are_pieces : ArePieces width pieces octets rest
   pub at_most : length pieces ≤ times
@@ -60,7 +61,8 @@ pieces_text spec (piece ∷ next ∷ more) rest =
 abbrev pub times_of : Spec → List ℕ → ℕ
 times_of spec octets = if spec.is_counted then slice_index octets 0 else 1
 
--- the octets that a spec is applied to: all of them, but for the count if the spec has a star
+-- the octets that a spec is applied to: those after the first one if the spec has a star, otherwise
+-- all of `octets`
 abbrev pub body_of : Spec → List ℕ → List ℕ
 body_of spec octets = if spec.is_counted then drop 1 octets else octets
 
@@ -75,8 +77,9 @@ pub record IsGroup (spec : Spec) (pieces : List (List ℕ)) (octets rest : List 
   pub some : octets ≢ []
   pub cut : IsCut spec.length (times_of spec octets) pieces (body_of spec octets) rest
 
--- the specs are applied one after the other while octets remain: `groups` has the pieces that each
--- cuts off, and `text` is the text of all of them
+-- the specs are applied one after the other, and the last one again and again, until no octets
+-- remain: `groups` lists the pieces that each use of a spec cuts off, and `text` is the text of all
+-- these pieces
 abbrev pub AreGroups : List Spec → List (List (List ℕ)) → List ℕ → List ℕ → Type 0
 AreGroups specs [] octets text = (octets ≡ []) × (text ≡ [])
 AreGroups [] (pieces ∷ groups) octets text = ⊥

@@ -43,11 +43,11 @@ mark_of (octet ∷ _) = if begins_spec octet then None else Some octet
 abbrev pub after_mark : List ℕ → List ℕ
 after_mark text = drop (length (option_to_list (mark_of text))) text
 
--- the text from the format letter of its first spec on
+-- the part of `text` from the format letter of its first spec to the end
 abbrev pub at_letter : List ℕ → List ℕ
 at_letter text = after_digits (after_star text)
 
--- the text after the format letter of its first spec
+-- the part of `text` after the format letter of its first spec
 abbrev pub after_format_letter : List ℕ → List ℕ
 after_format_letter text = drop 1 (at_letter text)
 
@@ -75,11 +75,12 @@ abbrev pub AreSpecs : List ℕ → List Spec → Type 0
 AreSpecs text [] = text ≡ []
 AreSpecs text (spec ∷ specs) = (rest : List ℕ) × IsFirstSpec text spec rest × AreSpecs rest specs
 
--- whether a spec uses up octets each time: the count that a star asks for, or `length` octets
+-- whether each use of the spec takes at least one octet: it has a star, so it takes the count, or
+-- its length isn't 0
 abbrev pub takes_octets : Spec → Bool
 takes_octets spec = spec.is_counted || nat_lt 0 spec.length
 
--- the list isn't empty, and its last spec, which is repeated, uses up octets each time
+-- the list isn't empty, and each use of its last spec, which is repeated, takes octets
 abbrev pub LastTakesOctets : List Spec → Type 0
 LastTakesOctets [] = ⊥
 LastTakesOctets (spec ∷ []) = takes_octets spec ≡ true

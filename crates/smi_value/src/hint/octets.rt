@@ -252,7 +252,7 @@ fn append_mark(draft: &mut Draft, mark: Option<u8>, rest: &[u8])
     }
 }
 
-/// Appends the octets of one application in the format `format`.
+/// Appends `piece`, the octets that one application of a spec takes, in the format `format`.
 #[tactic(auto, using(crate::proofs::Drafts::adds_none))]
 fn append_formatted(draft: &mut Draft, format: OctetFormat, piece: &[u8])
     requires { length piece.now ≤ most_octets format }

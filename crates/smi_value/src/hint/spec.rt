@@ -37,7 +37,7 @@ pub struct Spec {
     pub terminator: Option<u8>,
 }
 
-/// Returns the first spec of `text` and the rest of the text, or `None` if it begins with no spec.
+/// Returns the first spec of `text` and the text after it, or `None` if `text` begins with no spec.
 /// `inline(always)`: the spec then stays in registers.
 #[inline(always)]
 pub(crate) fn first_spec(text: &[u8]) -> Option<(Spec, &[u8])>
@@ -101,7 +101,7 @@ fn split_format(text: &[u8]) -> Option<(OctetFormat, &[u8])>
     }
 }
 
-/// Returns the greatest number of octets that one application may take.
+/// Returns the greatest number of octets that one application of a spec may take.
 fn longest(format: OctetFormat) -> u32
     ensures { result ≡ most_octets format }
 {

@@ -7,7 +7,7 @@ use Rattle.snmp_tools.specs.declared.load.error.FilesError.{FilesError}
 use Rattle.snmp_tools.specs.declared.load.error.FilesError.TheVariants as error
 use Rattle.snmp_tools.specs.load.Files.{Refusal, faulty, no_memory, unreadable}
 
--- the reason that an error of the code stands for
+-- why module files can't be loaded, by the error that the code returns
 abbrev pub refusal_of : FilesError → Refusal
 refusal_of (error.Unreadable path) = unreadable path.now
 refusal_of (error.Text path fault) = faulty path.now fault

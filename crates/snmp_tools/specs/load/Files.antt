@@ -25,7 +25,7 @@ AreModulesOf Held (path ∷ more) ms =
     (first : List Module) × (rest : List Module) × AreModulesIn Held path first
     × AreModulesOf Held more rest × (ms ≡ first ++ rest)
 
--- the file at the path holds modules, as far as it is known what it holds
+-- as far as is known, the file at `path` holds modules
 abbrev pub MayHoldModules : Holdings → (path : List ℕ) → Type 0
 MayHoldModules files path = (modules : List Module) × AreModulesIn (MayHold files) path modules
 
@@ -35,19 +35,19 @@ pub data Refusal : Type 0 where
   faulty : (path : List ℕ) → ParseError → Refusal
   no_memory : Refusal
 
--- the file can't be read or its text has a fault, as `why` says and as far as it is known what the
--- file holds
+-- As far as is known, the file at `path` can't be read, or its text has a fault. `why` says which
+-- of the two, and which fault.
 abbrev pub FileFails : Holdings → (path : List ℕ) → Refusal → Type 0
 FileFails files path why =
     (MayHoldNone files path × (why ≡ unreadable path))
     ⊎ ((text : List ℕ) × (fault : ParseError) × MayHold files path text
     × (fault ≢ error.Memory) × IsCause fault text × (why ≡ faulty path fault))
 
--- `why` is the reason of the first file that fails; the files before it hold modules, as far as it
--- is known what they hold
+-- `why` is the reason of the first of the files at `paths` that fails; as far as is known, the
+-- files before it hold modules
 abbrev pub FilesFail : Holdings → (paths : List (List ℕ)) → Refusal → Type 0
 FilesFail files paths why = IsFirstToFail paths (MayHoldModules files) (FileFails files) why
 
--- memory ran out, or a file failed
+-- `why` is why the files aren't loaded: memory ran out, or a file failed (`FilesFail`)
 abbrev pub IsFilesRefusal : Holdings → (paths : List (List ℕ)) → Refusal → Type 0
 IsFilesRefusal files paths why = (why ≡ no_memory) ⊎ FilesFail files paths why

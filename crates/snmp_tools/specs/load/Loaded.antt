@@ -27,13 +27,12 @@ pub record IsLoaded (Held : (path text : List ℕ) → Type 0) (paths : List (Li
   pub loaded : AreLoaded Held paths tree warnings
   pub was_reported : IsWritten before (warning_lines warnings) after
 
--- How a load of the module files at `paths` relates the states of the error output just before and
--- after it. Inside this crate, only the contract of a load ensures this relation. If a load fails,
--- a job must have done nothing else. So a job that promises the relation loads its modules before
--- it asks, prints or serves.
+-- A relation between the states of the error output just before and just after a load of the
+-- module files at `paths`. Inside this crate, only the contract of a load ensures it. So a job
+-- that promises the relation has loaded its modules in that way.
 abbrev pub LoadFacts : Type 1
 LoadFacts = (paths : List (List ℕ)) → (before after : Stream) → Type 0
 
--- the relation that says nothing: public contracts have it for `Loads`
+-- the relation that always holds; public contracts pass it for the argument `Loads`
 abbrev pub any_load : LoadFacts
 any_load paths before after = Unit {0}

@@ -3,7 +3,8 @@ use Rattle.std.specs.Prelude.{◌≡◌, ◌⊎◌, ℕ, false, ◌||◌, ◌==�
 use Rattle.std.specs.{Char.is_ascii_digit}
 use Rattle.snmp_tools.specs.Letters.{AreRepetitions, Choices}
 
--- the parts (`letter_parts`) of a text that begins with `octet`; `parts` are the parts of the rest
+-- the parts (`letter_parts`) of a text that begins with `octet`; `parts` are the parts of what
+-- follows the octet
 abbrev pub put : ℕ → List ℕ × List (ℕ × List ℕ) → List ℕ × List (ℕ × List ℕ)
 put octet parts = if is_ascii_digit octet then (octet ∷ parts.0, parts.1)
     else ([], (octet, parts.0) ∷ parts.1)

@@ -50,21 +50,21 @@ pub record AreOrdersOf (words : AskWords) (orders : Orders) : Type 0 where
   pub max_size : orders.max_size ≡ words.asking.max_size
   pub agent : HasAgent words.asking.agent (address_of orders.agent)
 
--- the version isn't 2c or, if it is, an octet of -O has no meaning
+-- `why` is that the version isn't 2c or, if it is 2c, that an octet of -O has no meaning
 abbrev pub ShowingFails : AskingWords → Fault → Type 0
 ShowingFails words why =
     AskingFails words version_step why
     ⊎ (IsAskingDone words version_step × AskingFails words letters_step why)
 
--- the community is too long or, if it isn't, AGENT isn't a valid address
+-- `why` is that the community is too long or, if it isn't, that AGENT isn't a valid address
 abbrev pub AgentFails : AskingWords → Fault → Type 0
 AgentFails words why =
     AskingFails words community_step why
     ⊎ (IsAskingDone words community_step × AskingFails words agent_step why)
 
--- A name of the request has no meaning: for a Get, the first one without a meaning; for a walk,
--- the root or, if the root has one, the name to continue after. Or memory ran out for the names of
--- a Get.
+-- `why` is why the names of the request can't be looked up. For a Get, memory ran out, or a name
+-- has no meaning (`why` is about the first of these). For a walk, the root has no meaning or, if
+-- it has one, the name to continue after has none.
 abbrev pub NamesFail : question.Request → Contents → Fault → Type 0
 NamesFail (question.get texts) mib why =
     (why ≡ out_of_memory) ⊎ IsFirstToFail texts (HasMeaning mib) (NameFails mib) why
@@ -83,7 +83,8 @@ abbrev pub question_of : Question → question.Question
 question_of (planned.Get names) = question.names names.oids.items
 question_of (planned.Walk w) = question.subtree (walk_of w)
 
--- the question stores the request's arguments for its names
+-- The question stores the texts of the request's names. For a walk without a root's name, the text
+-- of the root is that of `mib-2` in numbers. Without a name to continue after, its text is empty.
 abbrev pub HasTextsOf : question.Request → Question → Type 0
 HasTextsOf (question.get texts) (planned.Get names) = texts_at names.texts.now ≡ texts
 HasTextsOf (question.walk bulk letters after name) (planned.Walk w) =

@@ -21,10 +21,10 @@ abbrev pub counts_line : Served → List ℕ
 counts_line served = decimal served.replies ++ codes " replies, " ++ decimal served.dropped
     ++ codes " dropped\n"
 
--- The line that says where requests are received was printed, the table was served, and then the
--- line of the counts was printed, perhaps not whole. The numbers of replies, drops, idle turns and
--- faults add up to the turns. Or the first line wasn't printed whole, and nothing was served.
--- `Serves agent turns served`: serving `agent` for `turns` turns can return `served`.
+-- The line that says at which address requests are received was printed, and serving the agent
+-- could return `served` (`Serves`). The numbers of replies, drops, idle turns and faults in
+-- `served` add up to the turns. Then the line of the counts was printed, or printing it failed. Or
+-- printing the first line failed, and nothing was served (`Unserved`).
 abbrev pub IsServing : (Serves : Agent → ℕ → Served → Type 0) → (Unserved : Type 0) → ServeWords
     → MibView → (before after : Stream) → Option Fault → Type 0
 IsServing Serves Unserved words view before after fault =
@@ -57,8 +57,8 @@ pub data IsServedBy {N V D : Type 0} (net : Network N V D) (words : ServeWords) 
       → after ≡ record before { links = after.links }
       → fault ≡ Some (ended words.listen ending.Link)
       → IsServedBy net words host port tree before after fault
-  -- one door (server socket) was opened; if the first line was printed whole, the table was served
-  -- there
+  -- one door (server socket) was opened; the table was served there, unless printing the first line
+  -- failed
   bound : (view : MibView) (door : D) (opened : N)
       → HasTable before.files tree words.table view
       → net.binds before.links host port door opened

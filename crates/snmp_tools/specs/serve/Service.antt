@@ -13,7 +13,7 @@ abbrev pub served_agent : ServeWords → MibView → Agent
 served_agent words view =
     record { view = view; community = words.community; max_size = words.max_size }
 
--- the community is short enough, and --listen says that requests are received at `port` of `host`
+-- the community has at most 255 octets, and the argument of --listen names `port` of `host`
 pub record IsPlaced (words : ServeWords) : Type 0 where
   pub short_community : length words.community ≤ 255
   pub host : List ℕ
@@ -51,6 +51,6 @@ ServiceFails words files why =
     IsFirstToFail (community_step ∷ address_step ∷ modules_step ∷ []) (IsDoneForService words files)
     (FailsForService words files) why
 
--- `why` is why no table file is read: memory ran out, or a step failed
+-- `why` is why no table file is read: memory ran out, or an earlier step failed (`ServiceFails`)
 abbrev pub IsServeRefusal : ServeWords → Holdings → Fault → Type 0
 IsServeRefusal words files why = (why ≡ out_of_memory) ⊎ ServiceFails words files why

@@ -10,8 +10,8 @@ use Rattle.smi_show.specs.{name.Meaning.meaning, name.Meant.TextMeans}
 use Rattle.snmp_tools.specs.FaultText.{Fault, bad_table, unreadable}
 use Rattle.smi_tree.specs.{Tree.Contents}
 
--- the names of a table file in the second format are looked up in `tree`: a text names the
--- identifier that it means in `tree`, and a text that means none names none
+-- The names of a table file in the second format are looked up in `tree`: the look-up of a text
+-- finds the identifier `o` if and only if the text means `o` in `tree`.
 abbrev pub AreNamesIn : Contents → Names → Type 0
 AreNamesIn tree (names_by look_up) =
     (text o : List ℕ) → (look_up text ≡ Some o) ↔ TextMeans tree text (Ok o)
@@ -33,6 +33,6 @@ TableFails files tree path why =
 
 -- ---- for private functions
 
--- the names of a table file, as they are computed
+-- the look-up of the names of a table file in `tree`, computed
 abbrev pub names_in : Contents → Names
 names_in tree = names_by (λ text. result_ok (meaning tree text))

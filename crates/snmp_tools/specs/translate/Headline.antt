@@ -23,7 +23,8 @@ pub record IsByTree (modules : List Module) (Printed : Contents → Type 0) : Ty
   pub loads : IsTree modules tree warnings
   pub printed : Printed tree
 
--- a prefix of the texts of the first names was printed
+-- what was printed is a prefix of the texts of `first`, the names that `names` begins with (none,
+-- some or all of them)
 abbrev pub IsPrefixOfTexts : Style → (names : List (List ℕ)) → (before after : Stream) → Contents
     → Type 0
 IsPrefixOfTexts style names before after mib =

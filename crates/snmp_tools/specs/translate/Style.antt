@@ -8,8 +8,8 @@ use Rattle.snmp_tools.specs.declared.translate.Style.{Style}
 abbrev pub first_other_of_t : List ℕ → Option ℕ
 first_other_of_t text = find (λ octet. not (octet == 100)) text
 
--- all octets of -O and -T are letters, and `style` is what they say; if -T has `d`, the details of
--- a name are printed
+-- all octets of -O and -T are letters with a meaning, and `style` is what they say; if -T has `d`,
+-- the details of a name are printed
 pub record IsStyleOf (words : TranslateWords) (style : Style) : Type 0 where
   pub known : first_other words.letters ≡ None
   pub letters : AreLetters words.letters style.letters

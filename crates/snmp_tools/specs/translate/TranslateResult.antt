@@ -10,12 +10,12 @@ use Rattle.snmp_tools.specs.FaultText.{Fault, no_output, out_of_memory}
 use Rattle.snmp_tools.specs.translate.Text.{AreTextsOf, IsTextOf}
 use Rattle.snmp_tools.specs.declared.translate.Style.{Style}
 
--- nothing is printed of a name: it has no meaning, or memory for its text ran out
+-- `why` is why there is no text to print of `name`: it has no meaning, or memory ran out
 abbrev pub HasNoText : Contents → (name : List ℕ) → Fault → Type 0
 HasNoText mib name why = NameFails mib name why ⊎ (why ≡ out_of_memory)
 
 -- Printing stops at `name` for the reason `why`: nothing is printed of it, or the output failed,
--- and only a prefix of its text is printed.
+-- and a prefix of its text is printed.
 abbrev pub StopsAtName : Contents → Style → (before : Stream) → (name : List ℕ)
     → (after : Stream) → Fault → Type 0
 StopsAtName mib style before name after why =
@@ -23,7 +23,7 @@ StopsAtName mib style before name after why =
     ⊎ ((why ≡ no_output)
     × ((text : List ℕ) × IsTextOf mib style name text × FailsWithin before text after))
 
--- the names before `name` were printed, and printing stopped at `name`
+-- the names before `name` were printed, and printing stopped at `name` for the reason `why`
 pub record StopsWithin (mib : Contents) (style : Style) (names : List (List ℕ))
     (before after : Stream) (why : Fault) : Type 0 where
   pub printed : List (List ℕ)

@@ -16,7 +16,7 @@ use snmp_walk::{Method, Mode};
 pub(crate) struct Choices {
     /// Whether the root's own instance comes first, if there is one (`i`).
     pub(crate) includes_root: bool,
-    /// Whether the Get of the root that a walk sends if nothing is below it is left out (`I`).
+    /// Whether the walk leaves out the Get of its root if nothing is below the root (`I`).
     pub(crate) leaves_last_get: bool,
     /// Whether the number of bindings is printed after their lines (`p`).
     pub(crate) counts: bool,

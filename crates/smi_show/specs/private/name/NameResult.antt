@@ -6,14 +6,15 @@ use Rattle.smi_show.specs.{private.name.Left.parts_left, name.Meaning.further_me
 use Rattle.smi_show.specs.{declared.name.error.NameError.NameError}
 use Rattle.smi_tree.specs.Tree.{Contents}
 
--- the identifier `o` that the call leaves, or its fault
+-- the outcome of a call that stored the identifier `o` in its argument: `o` if the call succeeded,
+-- otherwise its fault
 abbrev pub read_to : Result (Unit {0}) NameError → List ℕ → Result (List ℕ) NameError
 read_to (Ok done) o = Ok o
 read_to (Err fault) o = Err fault
 
--- the meaning of a name whose first parts a call read into `o`: if the call returned the text
--- after them, what the parts of this text mean after `o`, which may be a fault; `o` if it returned
--- none; if the call failed, its fault
+-- A call read the first parts of a name into `o`, and returned the text after these parts, or None
+-- if the name ended. The meaning of the name is what the parts of that text mean after `o`, or `o`
+-- if the name ended. If the call failed, the meaning is its fault.
 abbrev pub meant_with : Contents → Result (Option (Bor (List ℕ))) NameError → List ℕ
     → Result (List ℕ) NameError
 meant_with tree (Ok left) o =

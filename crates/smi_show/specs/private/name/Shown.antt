@@ -18,7 +18,8 @@ nearest_text tree form numeric_index o None = numeric_text o
 nearest_text tree form numeric_index o (Some node) =
     node_text tree form o node ++ instance_text numeric_index o node
 
--- the name of `o`: by its deepest node, or in numbers in the numeric form or without a node
+-- the name of `o`: in numbers if the form is numeric or no node is at `o` or above, otherwise the
+-- name of the deepest such node and the text of the numbers after the node
 abbrev pub name_text : Contents → NameForm → Bool → List ℕ → List ℕ
 name_text tree Numeric numeric_index o = numeric_text o
 name_text tree form numeric_index o = nearest_text tree form numeric_index o (nearest_node tree o)

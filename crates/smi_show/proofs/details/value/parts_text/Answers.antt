@@ -9,7 +9,7 @@ last_at : (n : ℕ) (more : List ℕ) → get_or (n ∷ more) (length more) 0 �
 last_at n [] = refl
 last_at n (next ∷ more) = last_at next more
 
--- if there are numbers, their text is the text of all but the last with their labels, and then the number at the last index
+-- if `numbers` isn't empty, then its text is the text of all numbers but the last, with their labels, followed by the number at the last index and a blank
 by_offsets : (tree : Contents) (numbers : List ℕ) → 1 ≤ length numbers
     → labelled_parts tree (take (length numbers - 1) numbers) ++ decimal (get_or numbers (length numbers - 1) 0) ++ codes " " ≡ parts_text tree numbers
 by_offsets tree [] some = absurd (omega arith)

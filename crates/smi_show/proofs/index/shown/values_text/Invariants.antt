@@ -3,7 +3,7 @@ use Rattle.snmp_io.specs.Draft.{Grows}
 use Rattle.smi_show.specs.{private.index.IndexValues.values_of, index.Pieces.index_pieces, index.Pieces.shown_pieces}
 use Rattle.smi_show.proofs.index.shown.values_text.Given as goal
 
--- the text so far and then the text of the values left is the whole text
+-- if all parts read all numbers, then the text so far, followed by the text of the values left, is the text of all values
 abbrev pub invariant-parts : goal.invariant-parts
 invariant-parts l =
     (values : List (List ℕ)) → values_of l.fn.parts l.fn.numbers ≡ Some values
