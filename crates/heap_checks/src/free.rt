@@ -240,8 +240,9 @@ pub fn check_resolve(
     Ok(())
 }
 
-/// Checks `resolve_front` of a text whose name a `|` may end, with a loaded tree. Appends the
-/// identifier and the text after the name, or a line for a fault.
+/// Checks `resolve_front` of a text that begins with a name, which a `|` may end. The names are
+/// those of a loaded tree. Appends the identifier and the text after the name, or a line for a
+/// fault.
 pub fn check_resolve_front(
     alloc: Global,
     modules: &[u8],

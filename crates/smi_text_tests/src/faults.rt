@@ -344,7 +344,7 @@ fn fault_of_line(alloc: Global, text: &[u8]) -> Result<Option<ParseError>, Alloc
 
 /// Appends 10,000 opening braces to `text`, the start of a module, then as many closing ones, and
 /// then `rest`, which closes the brace at the end of `text` and ends the module. Asserts that the
-/// text is refused on its last line until `rest` is appended.
+/// text is refused on its last line after the braces of each kind, and is accepted after `rest`.
 fn assert_deep(
     rt: &impl Abort,
     alloc: Global,

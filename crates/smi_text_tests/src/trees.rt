@@ -309,8 +309,8 @@ fn is_table_of(syntax: &Syntax, name: &str) -> bool {
 }
 
 /// Returns `Some(true)` if the row `name` has the objects `names` as its INDEX, with IMPLIED before
-/// the last one if `implied` is true, and without it otherwise. Returns another result if it
-/// hasn't.
+/// the last one if `implied` is true, and without it otherwise. Returns another result if the
+/// row has no such INDEX.
 fn has_index(modules: &[Module], name: &str, names: &str, implied: bool) -> Option<bool> {
     match object(modules, name)?.index.as_ref()? {
         Index::Own(parts) => Some(are(parts.names.as_slice(), names) && parts.implied == implied),

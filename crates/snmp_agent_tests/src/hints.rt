@@ -52,8 +52,8 @@ fn is_same(table: &Table, request: &[u8], hint: &mut Hint) -> bool {
     }
 }
 
-/// Asserts that the reply to `request` is the same with `hint`. If not, the message has `at`: the
-/// index or number of a row, and the round or step.
+/// Asserts that the reply to `request` is the same with `hint`. If not, the test's message shows
+/// `at`: the index or number of a row, and the round or step.
 fn assert_same(rt: &impl Abort, table: &Table, request: &[u8], hint: &mut Hint, at: (u32, u32)) {
     let (index, round) = at;
     assert!(rt;
@@ -80,7 +80,8 @@ fn no_hint_changes_a_reply(rt: HostRuntime) {
     let many = table_to(&rt, rt.alloc(), 700);
     let few = table_to(&rt, rt.alloc(), 130);
     let mut hint = Hint::default();
-    // Each name in turn, also past the last row. Then other names, with the hint of another row.
+    // Each name is asked for in turn, also past the last row. Then other names are asked for with
+    // the hint of another row.
     for number in 128..=702 {
         assert_same_reply(&rt, &many, (NEXT, number), &mut hint, 0);
     }
@@ -126,7 +127,7 @@ fn names_asked_for_again_have_the_same_replies(rt: HostRuntime) {
     let mut table = table_to(&rt, rt.alloc(), 900);
     let few = table_to(&rt, rt.alloc(), 130);
     let mut hint = Hint::default();
-    // Names of four octets, in no order. Each is in a Get, a GetNext and a GetBulk.
+    // The names have four octets and come in no order. Each is in a Get, a GetNext and a GetBulk.
     for round in 0..4 {
         for step in 0..800_u16 {
             let number = step.wrapping_mul(331) % 800 + 128;
@@ -175,8 +176,8 @@ fn more_names_than_a_hint_stores_have_the_same_replies(rt: HostRuntime) {
     let text = even_rows(rt.alloc(), 2200).expect(&rt, "memory for rows");
     let mut table = table_of(&rt, rt.alloc(), text.as_bytes());
     let mut hint = Hint::default();
-    // Names of rows and names between them, in no order and in three rounds. A hint stores 1,024
-    // names.
+    // The names are those of rows and others between them. They come in no order, in three rounds.
+    // A hint stores at most 1,024 names.
     for round in 0..3_u32 {
         for step in 0..1500_u16 {
             let number = step.wrapping_mul(331) % 1500 + 650;
@@ -304,8 +305,8 @@ fn interleaved_walks_have_the_same_replies(rt: HostRuntime) {
     let table = routes_table(&rt, rt.alloc());
     let mut hint = Hint::default();
     let mut request = [0; 65507];
-    // Six series in turn: two walks by GetNext, two by GetBulk of one column, one by GetBulk of two
-    // columns, and Gets.
+    // Six series of requests alternate: two walks by GetNext, two by GetBulk of one column, one by
+    // GetBulk of two columns, and Gets.
     for step in 0..ROUTES * COLUMNS {
         for &(kind, repetitions, index, count) in &[
             (Kind::GetNextRequest, 0, step, 1),

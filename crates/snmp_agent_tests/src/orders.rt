@@ -29,7 +29,7 @@ struct Order {
     step: u32,
 }
 
-/// Two lines of a file that aren't the row in turn: one repeats an earlier row, and one is faulty.
+/// Two lines of a file that don't have the next row: one repeats an earlier row, and one is faulty.
 /// If an index is past the last row, there is no such line. If `first` is `again`, no row is
 /// repeated.
 #[derive(Clone, Copy, Debug)]

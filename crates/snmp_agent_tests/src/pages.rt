@@ -86,7 +86,7 @@ fn random_changes_have_the_same_effect_on_a_map(rt: HostRuntime) {
     assert_changed(&rt, &mut table, &mut map);
 }
 
-/// How the number of a row is made of a smaller number `n`: for `(a, b)` it is `a * n * n + b * n`.
+/// How the number of a row is made of a number `n`: for `(a, b)` it is `a * n * n + b * n`.
 pub(crate) type Spread = (u32, u32);
 
 /// Each number as it is.
@@ -95,7 +95,7 @@ const PLAIN: Spread = (0, 1);
 /// Each number doubled.
 pub(crate) const EVEN: Spread = (0, 2);
 
-/// Returns the number of the row that is made of `number`.
+/// Returns the row number that is computed from `number`.
 fn spread(number: u32, (square, single): Spread) -> u32 {
     let squares = number.wrapping_mul(number).wrapping_mul(square);
     squares.wrapping_add(number.wrapping_mul(single))

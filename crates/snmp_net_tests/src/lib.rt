@@ -1,6 +1,6 @@
-//! Tests of the network: the addresses of agents, walks over loopback, and links in memory. Others
-//! test the command line: what each command makes of its arguments, the ranges of numbers, the
-//! help, and the messages for mistakes.
+//! Tests of the network: the addresses of agents, walks over loopback, and links in memory. Other
+//! tests are of the command line: what each command makes of its arguments, the ranges of numbers,
+//! the help, and the messages for mistakes.
 #![tactic(auto)]
 
 #[cfg(test)]

@@ -5,8 +5,8 @@ use snmp_words::{Job, read_words};
 use std::alloc::Global;
 use std::process::Abort;
 
-/// Returns the retries, the seconds and the greatest message size of a walk with this option.
-/// Returns `None` if the arguments are refused.
+/// Returns the retries, the seconds and the greatest message size of a walk with `option`, whose
+/// value is `number`. Returns `None` if the arguments are refused.
 fn walk_numbers(alloc: Global, option: &str, number: &str) -> Option<(u64, u64, u64)> {
     let words = ["snmp", "snmpwalk", option, number, "router"];
     let read = read_words(alloc, &words);
@@ -22,8 +22,8 @@ fn walk_numbers(alloc: Global, option: &str, number: &str) -> Option<(u64, u64, 
     numbers
 }
 
-/// Returns the greatest message size and the turns of an agent with this option. Returns `None` if
-/// the arguments are refused.
+/// Returns the greatest message size and the turns of an agent with `option`, whose value is
+/// `number`. Returns `None` if the arguments are refused.
 fn agent_numbers(alloc: Global, option: &str, number: &str) -> Option<(u64, u64)> {
     let words = ["snmp", "snmpd", "--table=t.tab", option, number];
     let read = read_words(alloc, &words);

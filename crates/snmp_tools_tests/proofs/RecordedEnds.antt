@@ -1,4 +1,4 @@
--- What is recorded of each end: of the walk's by its link, and of snmpd's by its door.
+-- When the network's record of an end is what is recorded of the events of a run there: for the walk `asked_is`, for snmpd `served_is`.
 use Rattle.std.proofs.Common.{◌≡◌, ◌∙◌, inl, inr, ℕ, true, List, [], ◌∷◌, ◌++◌, refl, sym, ap, subst, append-nil}
 use Rattle.std.specs.Prelude.{map}
 use Rattle.snmp_agent.specs.{Event.Event, Event.InTurn, Event.came, Event.receive_failed, Event.send_failed, Event.sent, Event.silence}
@@ -44,7 +44,7 @@ module _ (words : AskWords) (mib : Contents) (plan : Plan) (before after : Seen 
   unchanged : (events : Events) → events ≡ [] → after.links.network ≡ before.links.network → all_recorded events ≡ of_walk after.links.network.run
   unchanged events none same = ap all_recorded none ∙ sym (ap (λ (n : Recording). of_walk n.run) same ∙ ap of_walk new)
 
-  -- if the network had recorded nothing before the run, its record of the walk's side after the run is what is recorded of the run's events there
+  -- if the network had recorded nothing before the run, then after it the network's record of the walk's end is what is recorded of the events at this end
   pub asked_is : (events : Events) → IsAtAsker walk_links link words mib plan before after status events
       → all_recorded events ≡ of_walk after.links.network.run
   asked_is events (ends.not_linked none left out not_0) = elim left [

@@ -67,7 +67,7 @@ module _ (d : List ℕ) where
 
 -- ---- a faithful run and one event more
 
--- what the run must have before the event
+-- an event may follow a run: if a datagram arrives in the event, it was passed to a send at the other end in the run, which may have failed
 abbrev IsAllowed : Run → Happening (Unit {0}) → Type 0
 IsAllowed run (at_walk (came peer d)) = IsTriedTo tt run d
 IsAllowed run (at_agents (came peer d)) = OneOf (tried (of_walk run)) d
@@ -120,7 +120,7 @@ module _ (old new : MemoryNetwork) (run : Run) (kept : IsRecordOf old run) where
     faithful = kept.faithful;
   }
 
-  -- if `e` happened, `x` is allowed, and what `e` sent is in the record with `x`, then that is a record of the network
+  -- if `e` happened, `x` is allowed, and what `e` sent is in the record with `x`, then the record with `x` is one of the network
   recorded_so : (e x : Happening (Unit {0})) → Carries old e new → IsAllowed run x
       → ((d : List ℕ) → OneOf (requests_by e) d → OneOf (tried (of_walk (run ++ x ∷ []))) d)
       → ((d : List ℕ) → OneOf (replies_by e) d → IsTriedTo tt (run ++ x ∷ []) d) → IsRecordOf new (run ++ x ∷ [])
@@ -169,13 +169,13 @@ module _ (old new : MemoryNetwork) (run : Run) (kept : IsRecordOf old run) where
   reply_arrived peer d h = recorded_so (at_walk (came peer d)) (at_walk (came tt d)) h
       (kept.replies d (found (replies_of old) h.used.0 d h.used.2)) (λ x none. absurd none) (λ x none. absurd none)
 
-  -- the walk sends, which is recorded before it is known whether the send fails
+  -- if the walk passed `d` to a send, which may have failed, then the record with a send of `d` is one of the network after it
   pub of_send : (result : Result (Unit {0}) LinkFault) (d : List ℕ) → Carries old (at_walk (event_of_send result d)) new
       → IsRecordOf new (run ++ at_walk (sent tt d) ∷ [])
   of_send (Ok done) d h = request_sent d h
   of_send (Err fault) d h = request_lost d h
 
-  -- the agent sends, which is recorded in the same way
+  -- if the agent passed `d` to a reply, which may have failed, then the record with a send of `d` is one of the network after it
   pub of_reply : (result : Result (Unit {0}) EndpointFault) (peer : Unit {0}) (d : List ℕ) → Carries old (at_agents (event_of_reply result peer d)) new
       → IsRecordOf new (run ++ at_agents (sent tt d) ∷ [])
   of_reply (Ok done) peer d h = reply_sent peer d h
@@ -235,7 +235,8 @@ pub agent_turns : (events : Events) (old new : Recording) → InTurn HappensAtAg
 agent_turns [] old new h = ap (λ (r : Recording). of_walk r.run) h
 agent_turns (e ∷ events) old new h = agent_turns events h.0 new h.2 ∙ h.1
 
--- first nothing was recorded of the walk's end, and then its event `e`
+-- if `old` and `between` have the same record of the walk's end, and `new` is `between` with what is recorded of an event `e` of this end appended,
+-- then the record of the walk's end in `new` is the one in `old` with the same appended
 pub got_log : (old between new : Run) (e : Event (Unit {0})) → of_walk between ≡ of_walk old
     → new ≡ between ++ walks (recorded e) → of_walk new ≡ of_walk old ++ recorded e
 got_log old between new e same is =

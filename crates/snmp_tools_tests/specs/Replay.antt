@@ -16,12 +16,12 @@ ahead_of door = map happening_of (drop door.used door.entries.now)
 abbrev pub HappensAtDoor : ReplayDoor → Event (Unit {0}) → ReplayDoor → Type 0
 HappensAtDoor old e new = of_agents (ahead_of old) ≡ recorded e ++ of_agents (ahead_of new)
 
--- the whole record is left at the door
+-- the whole record `entries` is left at `door`
 abbrev pub BindsAt : List Entry → ReplayDoor → Type 0
 BindsAt entries door = ahead_of door ≡ map happening_of entries
 
--- The agent was served for `turns` turns at the door, with the counts `served`, which took the door
--- from state `old` to state `new`. If `done` is true, nothing of the record is left at `new`.
+-- The agent had `turns` turns at the door, with the counts `served`, which took the door from state
+-- `old` to state `new`. If `done` is true, nothing of the record is left at `new`.
 abbrev pub IsReplayed : ReplayDoor → Agent → (turns : ℕ) → Served → ReplayDoor → (done : Bool)
     → Type 0
 IsReplayed old agent turns served new done =

@@ -14,7 +14,7 @@ snmp: TINY-MIB::loopA stands on a cycle
 snmp: TINY-MIB::loopB stands on a cycle
 ";
 
-/// Asserts the runs over the files that all tables share, with outputs of each of these sizes.
+/// Asserts the runs over the files of `rows/files.rt`, with outputs of each of these sizes.
 fn assert_shared_runs(
     rt: &impl Abort,
     alloc: Global,

@@ -1,5 +1,5 @@
-//! Outputs and files, of the machine and in memory. Among what is tested is that calls succeed, and
-//! that an interrupted write is tried again.
+//! Outputs and files, of the machine and in memory: which calls succeed and which fail, and that an
+//! interrupted write is tried again.
 
 use snmp_io::memory::{MemoryFiles, MemoryOutput};
 use snmp_io::{FileFault, Files, MachineFiles, MachineOutput, Output, write_all};

@@ -72,7 +72,7 @@ pub fn assert_rows(rt: &impl Abort, alloc: Global, table: &str) -> Result<(), Al
     assert_blocks(rt, alloc, table, &mut files)
 }
 
-/// Returns the files that all tables share.
+/// Returns the files of `rows/files.rt`, which the command lines of all tables can read.
 pub fn shared_files(rt: &impl Abort, alloc: Global) -> Result<Vec<File>, AllocError> {
     let mut files = Vec::new(alloc);
     assert_blocks(rt, alloc, files::FILES, &mut files)?;
@@ -185,8 +185,8 @@ impl Outcome {
     }
 }
 
-/// Returns the status before the `!` of a message: 0 if nothing is before it, and `None` if no
-/// number from 0 to 255 is.
+/// Returns the status before the `!` of a message: 0 if nothing is before it, and `None` if
+/// what is before it isn't a number from 0 to 255.
 fn status_of(number: &str) -> Option<u8> {
     if number.is_empty() {
         return Some(0);
@@ -296,7 +296,8 @@ fn append_text(to: &mut Vec<u8>, files: &[File], text: &str) -> Result<(), Alloc
     Ok(())
 }
 
-/// Appends what comes after a `{`.
+/// Appends the text that is `{` and then `piece`. If it begins with a `{..}` that stands for
+/// something, appends that in place of the `{..}`.
 fn append_piece(to: &mut Vec<u8>, files: &[File], piece: &str) -> Result<(), AllocError> {
     if let Some((inner, after)) = piece.split_once('}')
         && append_braced(to, files, inner)?

@@ -29,8 +29,8 @@ impl Calls {
     }
 }
 
-/// A link in memory. The send and the receive that `sends` and `receives` name fail, beside the
-/// calls that the link in memory itself fails.
+/// A link in memory, some of whose calls fail: the send that `sends` says, the receive that
+/// `receives` says, and each call that fails in `link`.
 #[derive(Drop)]
 struct Failing<'a> {
     link: MemoryLink<'a>,

@@ -103,8 +103,9 @@ fn rows_of_both_tables_are_returned_in_order(rt: HostRuntime) {
 }
 
 /// The tables are one with the row 1, and an empty one. Asserts that a walk returns the row 1 if
-/// its first datagram is answered from the first table and the next from the empty one. If it is
-/// the other way round, the walk returns an exception.
+/// its first datagram is answered from the first table and the next from the empty one. If the
+/// first is answered from the empty table and the next from the other, the walk returns an
+/// exception.
 fn assert_emptied(rt: &impl Abort, alloc: Global, tables: &[Table]) {
     let case = Case {
         tables,

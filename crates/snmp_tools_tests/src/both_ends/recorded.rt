@@ -73,8 +73,8 @@ impl<'a> RecordedNetwork<'a> {
         }
     }
 
-    /// Returns the record, in the order in which it was made. It shows that the network neither
-    /// invented nor altered a datagram.
+    /// Returns the record, in the order in which it was made. Each request that arrived, and each
+    /// message that arrived as a reply, was passed to a send before (`IsFaithful`).
     pub(crate) fn entries(&self) -> &[Entry]
         ensures run { map happening_of result.now ≡ self.now.run }
         ensures faithful { IsFaithful tt self.now.run }

@@ -42,7 +42,7 @@ impl<'a> Link for RecordedLink<'a> {
 
     ghost agents = { λ _. record { tables = []; community = []; max_size = 0 } };
 
-    // It lists no datagram: the record is in `network`.
+    // The traffic lists no datagram: the record is in `network`.
     ghost traffic = { λ _. record { sent = []; ahead = [] } };
 
     ghost fault_count = { λ link. link.faults };

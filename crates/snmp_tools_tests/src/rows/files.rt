@@ -1,4 +1,4 @@
-//! The files that all tables share.
+//! The files that the command lines of all tables in `rows/` can read, and texts that these print.
 
 pub const FILES: &str = r#"
 @ three.tab
