@@ -4,11 +4,12 @@ the program heap_checks makes, and in command lines of the tools.
 
 usage: heap.py [WORD..]
 
-Each run either has its whole answer or is refused. If it is refused, what it should have changed is unchanged. All its
-blocks are freed. A refused command line has written complete lines, a prefix of its output, and 'Out of memory.' with
-status 1 (or the status of an agent's error). If no request was refused, the answer is the whole one, with the message
-of its own reason. The same holds if the refused request can't end the call: it was for rows that are gathered, or is
-made again. For calls that don't allocate, and for snmpd as it serves, the requests are counted.
+Each run either has its whole answer or is refused. If it is refused, what it should have changed is unchanged. All
+its blocks are freed, but a command leaves its tree of modules to the exit. A refused command line has written
+complete lines, a prefix of its output, and 'Out of memory.' with status 1 (or the status of an agent's error). If no
+request was refused, the answer is the whole one, with the message of its own reason. The same holds if the refused
+request can't end the call: it was for rows that are gathered, or is made again. For calls that don't allocate, and
+for snmpd as it serves, the requests are counted.
 
 Runs the tests whose titles contain one of the words; without words, all tests.
 
@@ -63,12 +64,13 @@ class Heap:
 heap = Heap()
 
 
-def judge(words, is_whole, is_refused, keeps=False, spared=0, between=-1):
+def judge(words, is_whole, is_refused, left=(0,), spared=0, between=-1):
     """Runs a command with the heap and returns what is wrong with its answers. `is_whole` is called with the status,
     output and messages of an answer; so is `is_refused`, after 'alone' or 'later', which says whether one request was
     refused or all after it too. If `spared` isn't 0, the run must survive the refusal of any one of its last `spared`
     requests or more, and before these of at most one, a request for its arguments. `between` is the number of requests
-    between the two marks of the program, or -1 if it makes none. `keeps` allows blocks that aren't freed."""
+    between the two marks of the program, or -1 if it makes none. `left` has the numbers of
+    blocks that a run may leave to the exit instead of freeing them; it may be None, for any number."""
     ran = heap.run(words)
     wrong, refusals, wholes, last_refused, last_whole = [], 0, 0, 0, 0
     for line in ran.output.splitlines():
@@ -77,7 +79,7 @@ def judge(words, is_whole, is_refused, keeps=False, spared=0, between=-1):
         answer = (status, *(bytes.fromhex(it.strip("-")).decode(errors="replace") for it in (output, said)))
         whole = is_whole(*answer)
         refusals += times * (how != "none")
-        if not (whole or how != "none" and is_refused(how, *answer)) or (kept and not keeps):
+        if not (whole or how != "none" and is_refused(how, *answer)) or left and kept not in left:
             wrong.append(f"refused: {how}, {times} times, first request {first}; {kept} blocks not freed; answer "
                          f"{str(answer)[:300]}")
         if how == "none" and came != between:
@@ -282,6 +284,11 @@ def serving_is_free():
 THREE = table_text(dict(reversed(THREE_ROWS.items()))).encode()
 
 
+# The numbers of blocks of the tree without modules, and of the tree of TINY. A command that asks or translates leaves
+# its tree to the exit of the process, and frees everything else.
+TREE = {False: 10, True: 61}
+
+
 def refused_in(words, output, messages="", status=0, others=(), **how):
     """Runs a command line with memory and with requests refused, and returns what is wrong. If `output` is None, it is
     what the command prints with memory. `others` are more messages that it may have if it is refused."""
@@ -292,7 +299,7 @@ def refused_in(words, output, messages="", status=0, others=(), **how):
     # If the message of an agent's error can't be made, the status still says that there was one.
     return wrong or judge(line, lambda *answer: answer == whole, lambda _, ended, wrote, said: (
         ended in (1, status or 1) and whole.output.startswith(wrote) and wrote[-1:] in ("", "\n")
-        and said in (NO_MEMORY, warnings + NO_MEMORY, *others)), **how)
+        and said in (NO_MEMORY, warnings + NO_MEMORY, *others)), **{"left": (0, TREE["--mib" in words]), **how})
 
 
 def runs(words, output, messages="", status=0, table=THREE, modules=TINY):
@@ -315,7 +322,7 @@ def runs(words, output, messages="", status=0, table=THREE, modules=TINY):
 def over_udp():
     # Each of the several hundred runs walks the table. Functions of the C library allocate too, and need not free it.
     with Server(table=THREE.decode(), datagrams=20000) as server:
-        return refused_in(f"snmpwalk -On -t4 {server.address} {ROOT}", LINES, others=[NO_LINK], keeps=True)
+        return refused_in(f"snmpwalk -On -t4 {server.address} {ROOT}", LINES, others=[NO_LINK], left=None)
 
 
 AGENT = "table:TABLE"
